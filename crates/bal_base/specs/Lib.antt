@@ -1,0 +1,4 @@
+pub mod FaultCode
+pub mod Place
+pub mod Shapes
+pub mod Valid

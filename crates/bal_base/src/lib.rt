@@ -1,0 +1,27 @@
+//! Plain data that every crate of the compiler speaks of.
+//!
+//! - [`Text`] and [`Name`]: shared texts, seen as their lists of code points.
+//! - [`Memory`], [`Failed`] and [`Stop`]: want of memory, a failed call on the outside, and the two ways
+//!   in which a call stops.
+//! - [`Numbers`], [`Ring`], [`AtomList`], [`Bytes`], [`NameList`] and [`Events`]: lists by name.
+//! - [`Place`] and [`line_column`]: places in a source file.
+//! - [`Shape`] and its parts: finite values as types see them.
+//! - [`FaultCode`], [`Kept`], [`Fault`] and [`Refusal`]: why a source program is refused.
+//! - [`Token`] and its kinds: the words and signs of a source file.
+#![tactic(auto)]
+
+mod fault;
+mod lists;
+mod place;
+pub mod shape;
+mod stop;
+mod text;
+mod token;
+
+pub use fault::{Event, Fault, FaultCode, Kept, LimitKind, Refusal};
+pub use lists::{AtomList, Bytes, Events, NameList, Numbers, Ring};
+pub use place::{Place, line_column};
+pub use shape::{Case, Fields, Graph, Shape, Shapes};
+pub use stop::{Failed, Memory, Stop};
+pub use text::{Name, Text};
+pub use token::{Keyword, Sign, Token, TokenKind};

@@ -1,0 +1,196 @@
+//! Shared texts. A handle of a text can be handed out without memory and without failing.
+
+ghost use Rattle.std.specs.Prelude.{◌≡◌, ℕ, List, IfOk, Some, refl, chars, nat_eq, string_bytes, encode_utf8_all, true};
+ghost use Rattle.std.specs.Str.{all_scalars};
+ghost use Rattle.std.specs.Ordering.{nat_cmp};
+ghost use Rattle.std.specs.Hash as fed;
+ghost use mathlib.Core.Path.{ap};
+ghost use Rattle.std.specs.Prelude.{⊤};
+ghost use Rattle.std.specs.Cmp.Lexicographic.{bytes_decides, pointwise, slice_cmp, nat_list_eq_equiv, nat_list_cmp_total, texts_ties, texts_po};
+ghost use Rattle.std.specs.Cmp.{partial_equiv_from_equiv};
+
+use crate::stop::Memory;
+use std::alloc::{AllocError, Global};
+use std::cmp::Ordering;
+use std::fmt;
+use std::hash::{Hash, Hasher};
+use std::marker::Model;
+
+/// A shared text, seen as its list of code points. The memory of a text is not given back yet.
+#[derive(Drop)]
+pub struct Text {
+    at: &'static String,
+}
+
+impl Model for Text {
+    ghost Value = { List ℕ };
+
+    ghost view = { λ t. chars (string_bytes t.at.now) };
+}
+
+fn forever(owned: Box<String>) -> &'static String
+    ensures { result.now ≡ owned.value }
+{
+    Box::leak(owned)
+}
+
+impl Text {
+    /// The given text.
+    pub fn new(alloc: Global, text: &str) -> Result<Text, Memory>
+        ensures { IfOk result (λ t. t ≡ chars text.now) }
+    {
+        let owned = String::from_str(alloc, text)?;
+        match Box::new(alloc, owned) {
+            Ok(owned) => {
+                let at = forever(owned);
+                Ok(Text { at })
+            }
+            Err(_) => Err(Memory),
+        }
+    }
+
+    /// The text as it is read. Takes no memory.
+    pub fn as_str(&self) -> &str
+        ensures value { chars result.now ≡ self.now }
+        ensures scalars { all_scalars self.now ≡ true }
+    {
+        self.text().as_str()
+    }
+
+    /// Another handle of the same text. Takes no memory.
+    pub fn share(&self) -> Text
+        ensures { result ≡ self.now }
+    {
+        Text { at: self.at }
+    }
+
+    fn text(&self) -> &String
+        ensures { chars (string_bytes result.now) ≡ self.now }
+    {
+        self.at
+    }
+}
+
+impl fmt::Debug for Text {
+    fn fmt<W: fmt::Write>(&self, f: &mut fmt::Formatter<W>) -> fmt::Result {
+        write!(f, "{:?}", self.as_str())
+    }
+}
+
+/// `share`, which can't fail.
+impl Clone for Text {
+    ghost is_clone = { λ t copy. copy ≡ t };
+
+    ghost is_infallible = { λ _. ⊤ };
+
+    fn clone(&self) -> Result<Text, AllocError> {
+        Ok(self.share())
+    }
+}
+
+impl PartialEq for Text {
+    ghost eq = { pointwise nat_eq };
+
+    ghost laws = { partial_equiv_from_equiv nat_list_eq_equiv };
+
+    fn eq(&self, other: &Text) -> bool {
+        self.text() == other.text()
+    }
+}
+
+impl Eq for Text {
+    ghost laws = { nat_list_eq_equiv };
+}
+
+impl PartialOrd for Text {
+    ghost partial_cmp = { λ x y. Some (slice_cmp nat_cmp x y) };
+
+    ghost laws = { texts_po };
+
+    fn partial_cmp(&self, other: &Text) -> Option<Ordering> {
+        Some(self.cmp(other))
+    }
+}
+
+impl Ord for Text {
+    ghost cmp = { slice_cmp nat_cmp };
+
+    ghost total = { nat_list_cmp_total };
+
+    ghost matches_partial_cmp = { λ x y. refl };
+
+    ghost matches_eq = { texts_ties };
+
+    fn cmp(&self, other: &Text) -> Ordering {
+        self.text().cmp(other.text())
+    }
+}
+
+impl Hash for Text {
+    ghost hash_input = { λ t. fed.str (encode_utf8_all t) };
+
+    ghost respects_eq = { λ x y h. ap (λ l. fed.str (encode_utf8_all l)) ((bytes_decides x y).0 h) };
+
+    fn hash<H: Hasher>(&self, state: &mut H) {
+        self.text().hash(state);
+    }
+}
+
+/// An identifier, a dotted name or a file name, seen as its list of code points.
+#[derive(Clone, Debug, PartialEq, Eq, PartialOrd, Ord, Hash, Drop)]
+pub struct Name {
+    text: Text,
+}
+
+impl Model for Name {
+    ghost Value = { List ℕ };
+
+    ghost view = { λ n. n.text };
+
+    ghost inverse = { λ t. record { text = t } };
+}
+
+impl Name {
+    /// The given name.
+    pub fn new(alloc: Global, name: &str) -> Result<Name, Memory>
+        ensures { IfOk result (λ n. n ≡ chars name.now) }
+    {
+        Ok(Name {
+            text: Text::new(alloc, name)?,
+        })
+    }
+
+    /// The name that is this text.
+    pub fn of(text: Text) -> Name
+        ensures { result ≡ text }
+    {
+        Name { text }
+    }
+
+    /// The name as a text.
+    pub fn as_text(&self) -> &Text
+        ensures { result.now ≡ self.now }
+    {
+        &self.text
+    }
+
+    /// The name as it is read. Takes no memory.
+    pub fn as_str(&self) -> &str
+        ensures value { chars result.now ≡ self.now }
+        ensures scalars { all_scalars self.now ≡ true }
+    {
+        self.text.as_str()
+    }
+
+    /// Another handle of the same name. Takes no memory.
+    pub fn share(&self) -> Name
+        ensures { result ≡ self.now }
+    {
+        Name {
+            text: self.text.share(),
+        }
+    }
+}
+
+#[cfg(test)]
+mod tests;
