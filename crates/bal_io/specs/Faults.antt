@@ -1,0 +1,15 @@
+-- How an object of the outside counts its failed calls.
+use Rattle.std.specs.Prelude.{◌≡◌, ◌<◌, ◌⊎◌, ℕ, Result, Ok, Err}
+use Rattle.bal_base.specs.declared.stop.Failed.{Failed}
+use Rattle.bal_base.specs.declared.stop.Stop.{Stop}
+use Rattle.bal_base.specs.declared.stop.Stop.TheVariants.{Memory, Fault}
+
+-- a count rose, or stands at the last value of a 64-bit count
+abbrev pub Rises : ℕ → ℕ → Type 0
+Rises old new = (old < new) ⊎ ((old ≡ 18446744073709551615) × (new ≡ 18446744073709551615))
+
+-- a call raises the count exactly where it answers that it failed
+abbrev pub CountsFaults : {A : Type 0} → ℕ → ℕ → Result A (Stop Failed) → Type 0
+CountsFaults old new (Ok _) = new ≡ old
+CountsFaults old new (Err Memory) = new ≡ old
+CountsFaults old new (Err (Fault _)) = Rises old new
