@@ -1,0 +1,3 @@
+pub mod Evaluation
+pub mod Lists
+pub mod Sums
