@@ -1,5 +1,6 @@
 -- Programs that print sums: `main` is their one definition, and each of its statements prints a sum.
-use Rattle.std.specs.Prelude.{◌≡◌, List, [], ◌∷◌, ⊤}
+use Rattle.std.specs.Prelude.{◌≡◌, List, [], ◌∷◌}
+use Rattle.std.specs.List.{AllByRecursion}
 use Rattle.bal_base.specs.Valid.{IsInt}
 use Rattle.bal_tree.specs.declared.expr.Expr.{Expr, Literal, Binary'}
 use Rattle.bal_tree.specs.declared.expr.Literal.TheVariants.{Int}
@@ -18,11 +19,7 @@ IsSum _ = ⊥
 abbrev pub PrintsSum : Stmt → Type 0
 PrintsSum s = (e : Expr) × Prints s e × IsSum e
 
-abbrev pub PrintSums : List Stmt → Type 0
-PrintSums [] = ⊤
-PrintSums (s ∷ ss) = PrintsSum s × PrintSums ss
-
 -- the file's one definition is `main`, and its statements print sums
 abbrev pub IsSumProgram : FileTree → Type 0
 IsSumProgram tree =
-    (main : Def) × (stmts : List Stmt) × (defs_list tree.defs ≡ main ∷ []) × IsMain stmts main × PrintSums stmts
+    (main : Def) × (stmts : List Stmt) × (defs_list tree.defs ≡ main ∷ []) × IsMain stmts main × AllByRecursion PrintsSum stmts
