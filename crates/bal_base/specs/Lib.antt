@@ -1,3 +1,4 @@
+pub mod End
 pub mod FaultCode
 pub mod Place
 pub mod Shapes

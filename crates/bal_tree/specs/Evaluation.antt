@@ -1,6 +1,7 @@
 -- What a program means: which output its evaluation writes, and how it ends.
 use Rattle.std.specs.Prelude.{◌≡◌, ◌++◌, ◌⊎◌, ℤ, ◌+ℤ◌, ◌*ℤ◌, ℕ, List, [], ◌∷◌, Option, Some, Any, IsTrue, codes}
 use Rattle.std.specs.Fmt.{signed_decimal}
+use Rattle.bal_base.specs.End.{End, Returned, Panicked, number_overflow}
 use Rattle.bal_base.specs.Valid.{IsInt}
 use Rattle.bal_tree.specs.declared.expr.Expr.{Expr, Literal, Name, Call', Binary', items-the_row-Expr as exprs_in}
 use Rattle.bal_tree.specs.declared.expr.Literal.{Literal as LiteralTree}
@@ -17,17 +18,6 @@ use Rattle.bal_tree.specs.declared.file.Def.TheVariants.{Function}
 use Rattle.bal_tree.specs.declared.file.Body.{Body}
 use Rattle.bal_tree.specs.declared.file.Body.TheVariants.{Block}
 use Rattle.bal_tree.specs.Lists.{stmts_list, defs_list}
-
--- how a program ends
-pub data End : Type 0 where
-  -- main returned nil
-  Returned : End
-  -- a panic with this message
-  Panicked : List ℕ → End
-
--- the message of the panic at an int that is too large or too small
-abbrev pub number_overflow : List ℕ
-number_overflow = codes "{ballerina}NumberOverflow"
 
 -- ---- expressions
 

@@ -1,0 +1,10 @@
+//! The machine's values.
+
+/// An operand of the machine.
+#[derive(Clone, Copy, Debug, PartialEq, Eq)]
+pub enum Value {
+    /// Nil.
+    Nil,
+    /// An int.
+    Int(i64),
+}
