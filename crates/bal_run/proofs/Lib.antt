@@ -1,0 +1,4 @@
+pub mod Simulation
+pub mod Stands
+pub mod Steps
+pub mod Sums

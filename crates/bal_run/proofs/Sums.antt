@@ -1,0 +1,124 @@
+-- The code of a sum does what the sum means.
+use Rattle.std.proofs.Common.{◌≡◌, ◌⊎◌, ℕ, ◌+◌, ◌<◌, List, [], ◌∷◌, ◌++◌, length, Some, refl, sym, ap, subst, ◌∙◌, inl, inr, ⊎_elim, arith, length-append, ℤ, pos, negsuc, ◌+ℤ◌, ◌*ℤ◌}
+use Rattle.std.specs.Prelude.{slice_get}
+use Rattle.std.proofs.lemmas.Int.{by_lt_z, ints}
+use Rattle.bal_base.specs.End.{End, Panicked, number_overflow}
+use Rattle.bal_base.specs.Valid.{IsInt}
+use Rattle.bal_tree.specs.declared.expr.Expr.{Expr, Literal, Name, Call', Binary'}
+use Rattle.bal_tree.specs.declared.expr.Literal.TheVariants.{Int as IntLiteral}
+use Rattle.bal_tree.specs.declared.expr.BinaryOp.{BinaryOp}
+use Rattle.bal_tree.specs.declared.expr.BinaryOp.TheVariants.{Add as Plus, Multiply}
+use Rattle.bal_tree.specs.Evaluation.{Gives, Overflows, combined}
+use Rattle.bal_tree.specs.Sums.{IsSum}
+use Rattle.stack_code.specs.declared.value.Value.{Value}
+use Rattle.stack_code.specs.declared.value.Value.TheVariants.{Int}
+use Rattle.stack_code.specs.declared.instr.Constant.TheVariants.{Int as ConstantInt}
+use Rattle.stack_code.specs.declared.code.Code.{Code}
+use Rattle.stack_code.specs.Machine.{State, Next, On, Ends, Does, Step, RunsFrom, value_of}
+use Rattle.bal_run.specs.Lowering.{constants_of, sum_code, operator}
+use Rattle.bal_run.proofs.Stands.{Stands, Stands-front, Stands-back}
+use Rattle.bal_run.proofs.Steps.{at_some, Reaches, one_step, joined, then_run}
+
+abbrev pub state : ℕ → List Value → List ℕ → State
+state place stack output = record { place = place; stack = stack; output = output }
+
+-- ---- one operator
+
+operator-on : (code : Code) (op : BinaryOp) (x y : ℤ) (place : ℕ) (rest : List Value) (out : List ℕ) → IsInt (combined op x y) → Does code (operator op) (state place (Int y ∷ Int x ∷ rest) out) (On (state (place + 1) (Int (combined op x y) ∷ rest) out))
+operator-on code Plus x y place rest out i = inl (i, refl)
+operator-on code Multiply x y place rest out i = inl (i, refl)
+
+operator-stops : (code : Code) (op : BinaryOp) (x y : ℤ) (place : ℕ) (rest : List Value) (out : List ℕ) → (¬ (IsInt (combined op x y))) → Does code (operator op) (state place (Int y ∷ Int x ∷ rest) out) (Ends (Panicked number_overflow))
+operator-stops code Plus x y place rest out n = inr (n, refl)
+operator-stops code Multiply x y place rest out n = inr (n, refl)
+
+-- ---- sums
+
+module _ (code : Code) where
+  -- the sum stands at the place, and its constants have the numbers from `first` on
+  abbrev pub Has : ℕ → ℕ → Expr → Type 0
+  Has first place e = Stands code.instrs place (sum_code first e) × Stands code.constants first (constants_of e)
+
+  abbrev after : ℕ → ℕ → Expr → ℕ
+  after first place e = place + length (sum_code first e)
+
+  left-of : (first place : ℕ) (l r : Expr) (op : BinaryOp) → Stands code.instrs place (sum_code first l ++ (sum_code (first + length (constants_of l)) r ++ operator op ∷ [])) → Stands code.constants first (constants_of l ++ constants_of r) → Has first place l
+  left-of first place l r op h k = (Stands-front code.instrs place _ _ h, Stands-front code.constants first _ _ k)
+
+  right-of : (first place : ℕ) (l r : Expr) (op : BinaryOp) → Stands code.instrs place (sum_code first l ++ (sum_code (first + length (constants_of l)) r ++ operator op ∷ [])) → Stands code.constants first (constants_of l ++ constants_of r) → Has (first + length (constants_of l)) (after first place l) r
+  right-of first place l r op h k =
+      (Stands-front code.instrs _ _ _ (Stands-back code.instrs place (sum_code first l) _ h), Stands-back code.constants first (constants_of l) _ k)
+
+  operator-of : (first place : ℕ) (l r : Expr) (op : BinaryOp) → Stands code.instrs place (sum_code first l ++ (sum_code (first + length (constants_of l)) r ++ operator op ∷ [])) → slice_get code.instrs (after (first + length (constants_of l)) (after first place l) r) ≡ Some (operator op)
+  operator-of first place l r op h =
+      (Stands-back code.instrs (after first place l) (sum_code (first + length (constants_of l)) r) _ (Stands-back code.instrs place (sum_code first l) _ h)).0
+
+  whole : (first place : ℕ) (l r : Expr) (op : BinaryOp) → after (first + length (constants_of l)) (after first place l) r + 1 ≡ place + length (sum_code first l ++ (sum_code (first + length (constants_of l)) r ++ operator op ∷ []))
+  whole first place l r op =
+      omega (arith, length-append (sum_code first l) (sum_code (first + length (constants_of l)) r ++ operator op ∷ []), length-append (sum_code (first + length (constants_of l)) r) (operator op ∷ []))
+
+  -- where the sum gives an int, its code pushes it
+  pub sum-pushes : (e : Expr) (first place : ℕ) (stack : List Value) (out : List ℕ) (z : ℤ) → Gives e z → Has first place e → Reaches code (state place stack out) (state (after first place e) (Int z ∷ stack) out)
+  sum-pushes (Literal (IntLiteral n) at) first place stack out z g h =
+      let s = state place stack out in
+      let t = state (place + 1) (Int z ∷ stack) out in
+      let pushed : value_of (ConstantInt n) ≡ Int z = ap Int (sym g) in
+      one_step code s t (at_some _ _ (λ i. Does code i s (On t)) h.0.0 (at_some _ _ (λ k. On t ≡ On (state (place + 1) (value_of k ∷ stack) out)) h.1.0 (ap (λ v. On (state (place + 1) (v ∷ stack) out)) (sym pushed))))
+  sum-pushes (Binary' _ l op _ r at) first place stack out z (x, y, gl, gr, e, i) h =
+      let m = after first place l in
+      let k = first + length (constants_of l) in
+      let n = after k m r in
+      let pl = sum-pushes l first place stack out x gl (left-of first place l r op h.0 h.1) in
+      let pr = sum-pushes r k m (Int x ∷ stack) out y gr (right-of first place l r op h.0 h.1) in
+      let s = state n (Int y ∷ Int x ∷ stack) out in
+      let t = state (n + 1) (Int (combined op x y) ∷ stack) out in
+      let step : Step code s (On t) = at_some _ _ (λ j. Does code j s (On t)) (operator-of first place l r op h.0) (operator-on code op x y n stack out (subst IsInt e i)) in
+      let all = joined code pl.0 _ _ _ pl.1 (joined code pr.0 _ _ _ pr.1 (one_step code s t step)) in
+      subst (λ p. Reaches code (state place stack out) (state p (Int z ∷ stack) out)) (whole first place l r op)
+      (subst (λ v. Reaches code (state place stack out) (state (n + 1) (Int v ∷ stack) out)) (sym e) all)
+  sum-pushes (Name name at) first place stack out z g h = absurd g
+  sum-pushes (Call' _ callee _ args at) first place stack out z g h = absurd g
+
+  -- where it overflows, its code panics, having written nothing
+  pub sum-panics : (e : Expr) (first place : ℕ) (stack : List Value) (out : List ℕ) → Overflows e → Has first place e → (n : ℕ) × RunsFrom code n (state place stack out) out (Panicked number_overflow)
+  sum-panics (Binary' _ l op _ r at) first place stack out (inl o) h = sum-panics l first place stack out o (left-of first place l r op h.0 h.1)
+  sum-panics (Binary' _ l op _ r at) first place stack out (inr (inl (x, gl, o))) h =
+      let p = sum-pushes l first place stack out x gl (left-of first place l r op h.0 h.1) in
+      then_run code p.0 _ _ out _ p.1 (sum-panics r (first + length (constants_of l)) (after first place l) (Int x ∷ stack) out o (right-of first place l r op h.0 h.1))
+  sum-panics (Binary' _ l op _ r at) first place stack out (inr (inr (x, y, gl, gr, large))) h =
+      let m = after first place l in
+      let k = first + length (constants_of l) in
+      let n = after k m r in
+      let pl = sum-pushes l first place stack out x gl (left-of first place l r op h.0 h.1) in
+      let pr = sum-pushes r k m (Int x ∷ stack) out y gr (right-of first place l r op h.0 h.1) in
+      let s = state n (Int y ∷ Int x ∷ stack) out in
+      let end : Next = Ends (Panicked number_overflow) in
+      let step : Step code s end = at_some _ _ (λ j. Does code j s end) (operator-of first place l r op h.0) (operator-stops code op x y n stack out large) in
+      then_run code pl.0 _ _ out _ pl.1 (then_run code pr.0 _ _ out _ pr.1 (1, (end, step, (refl, refl, refl))))
+  sum-panics (Literal n at) first place stack out o h = absurd o
+  sum-panics (Name name at) first place stack out o h = absurd o
+  sum-panics (Call' _ callee _ args at) first place stack out o h = absurd o
+
+-- ---- each sum has an outcome
+
+-- an int, or too small, or too large
+pub IsInt-cases : (z : ℤ) → IsInt z ⊎ (¬ (IsInt z))
+IsInt-cases z =
+    by_lt_z z (negsuc 9223372036854775807) (λ below. inr (λ h. let low = h.0 in omega (arith, ints)))
+    (λ from. by_lt_z (pos 9223372036854775807) z (λ above. inr (λ h. let high = h.1 in omega (arith, ints))) (λ to. inl (from, to)))
+
+pub sum-ends : (e : Expr) → IsSum e → ((z : ℤ) × Gives e z) ⊎ Overflows e
+sum-ends (Literal (IntLiteral n) at) h = inl (n, refl)
+sum-ends (Binary' _ l op _ r at) h =
+    ⊎_elim
+    (λ gl. ⊎_elim
+    (λ gr. ⊎_elim
+    (λ i. inl (combined op gl.0 gr.0, (gl.0, gr.0, gl.1, gr.1, refl, i)))
+    (λ n. inr (inr (inr (gl.0, gr.0, gl.1, gr.1, n))))
+    (IsInt-cases (combined op gl.0 gr.0)))
+    (λ o. inr (inr (inl (gl.0, gl.1, o))))
+    (sum-ends r h.1))
+    (λ o. inr (inl o))
+    (sum-ends l h.0)
+sum-ends (Name name at) h = absurd h
+sum-ends (Call' _ callee _ args at) h = absurd h

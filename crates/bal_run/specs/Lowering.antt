@@ -1,0 +1,75 @@
+-- Which instructions a program of sums is lowered to, and that code does what a program means.
+use Rattle.std.specs.Prelude.{◌≡◌, ⊤, ℕ, ◌+◌, ◌++◌, List, [], ◌∷◌, length}
+use Rattle.std.specs.List.{AllByRecursion}
+use Rattle.bal_base.specs.End.{End}
+use Rattle.bal_tree.specs.declared.expr.Expr.{Expr, Literal, Binary'}
+use Rattle.bal_tree.specs.declared.expr.Literal.{Literal as LiteralTree}
+use Rattle.bal_tree.specs.declared.expr.Literal.TheVariants.{Int}
+use Rattle.bal_tree.specs.declared.expr.BinaryOp.{BinaryOp}
+use Rattle.bal_tree.specs.declared.expr.BinaryOp.TheVariants.{Add, Multiply}
+use Rattle.bal_tree.specs.declared.file.FileTree.{FileTree}
+use Rattle.bal_tree.specs.declared.file.Def.{Def}
+use Rattle.bal_tree.specs.declared.stmt.Stmt.{Stmt}
+use Rattle.bal_tree.specs.Evaluation.{Evaluates, IsMain, Prints}
+use Rattle.bal_tree.specs.Lists.{defs_list}
+use Rattle.bal_tree.specs.Sums.{IsSum, PrintsSum}
+use Rattle.stack_code.specs.declared.instr.Constant.{Constant}
+use Rattle.stack_code.specs.declared.instr.Constant.TheVariants.{Int as ConstantInt}
+use Rattle.stack_code.specs.declared.instr.Instr.{Instr}
+use Rattle.stack_code.specs.declared.instr.Instr.TheVariants.{Const, Add as AddInstr, Mul, Native, Pop}
+use Rattle.stack_code.specs.declared.code.Code.{Code}
+use Rattle.stack_code.specs.declared.code.Unit.{Unit as CodeUnit}
+use Rattle.stack_code.specs.Machine.{CodeRuns}
+
+-- the code has a run with an output and an end exactly where the evaluation of the program has them
+pub record Simulates (tree : FileTree) (code : Code) : Type 0 where
+  pub runs : (output : List ℕ) (end : End) → Evaluates tree output end → (n : ℕ) × CodeRuns code n output end
+  pub only : (n : ℕ) (output : List ℕ) (end : End) → CodeRuns code n output end → Evaluates tree output end
+  pub ends : (n : ℕ) × (output : List ℕ) × (end : End) × CodeRuns code n output end
+
+-- the file's one definition is `main` with these statements, which print sums
+abbrev pub IsMainOf : FileTree → List Stmt → Type 0
+IsMainOf tree stmts =
+    (main : Def) × (defs_list tree.defs ≡ main ∷ []) × IsMain stmts main × AllByRecursion PrintsSum stmts
+
+-- a run begins at the first instruction
+abbrev pub StartsAtZero : Code → Type 0
+StartsAtZero code = (u : CodeUnit) × (u.first ≡ 0) × (code.start ≡ 0) × (code.units ≡ u ∷ [])
+
+-- ---- sums
+
+abbrev pub constants_of : Expr → List Constant
+constants_of (Literal (Int n) at) = ConstantInt n ∷ []
+constants_of (Binary' _ left op _ right at) = constants_of left ++ constants_of right
+constants_of _ = []
+
+abbrev pub literal_constant : LiteralTree → Constant
+literal_constant (Int n) = ConstantInt n
+
+abbrev pub operator : BinaryOp → Instr
+operator Add = AddInstr
+operator Multiply = Mul
+
+-- the instructions of a sum whose constants have the numbers from `first` on
+abbrev pub sum_code : ℕ → Expr → List Instr
+sum_code first (Literal (Int n) at) = Const first ∷ []
+sum_code first (Binary' _ left op _ right at) =
+    sum_code first left ++ (sum_code (first + length (constants_of left)) right ++ operator op ∷ [])
+sum_code first _ = []
+
+-- ---- statements that print these sums
+
+-- each statement prints the sum at its place
+abbrev pub PrintEach : List Stmt → List Expr → Type 0
+PrintEach [] [] = ⊤
+PrintEach (s ∷ ss) (e ∷ es) = Prints s e × IsSum e × PrintEach ss es
+PrintEach _ _ = ⊥
+
+abbrev pub print_constants : List Expr → List Constant
+print_constants [] = []
+print_constants (e ∷ es) = constants_of e ++ print_constants es
+
+abbrev pub print_code : ℕ → List Expr → List Instr
+print_code first [] = []
+print_code first (e ∷ es) =
+    sum_code first e ++ (Native 0 0 1 ∷ Pop ∷ print_code (first + length (constants_of e)) es)

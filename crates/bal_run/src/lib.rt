@@ -1,0 +1,4 @@
+//! The top call: from a folder's bytes to output bytes.
+#![tactic(auto)]
+
+pub mod lower;

@@ -1,0 +1,171 @@
+//! Lowering: from the tree of a program of sums to its code.
+ghost use Rattle.std.specs.Prelude.{◌≡◌, ◌++◌, [], ◌∷◌, Ok, IfOk, OnOk, length};
+ghost use Rattle.std.specs.List.{AllByRecursion};
+ghost use Rattle.bal_run.specs.Lowering.{Simulates, constants_of, sum_code, operator, literal_constant, IsMainOf, StartsAtZero};
+ghost use Rattle.bal_tree.specs.Evaluation.{HasStmts, Prints};
+ghost use Rattle.bal_tree.specs.Sums.{IsSum, PrintsSum, IsSumProgram};
+ghost use Rattle.stack_code.specs.declared.instr.Instr.TheVariants.{Const, Native, Pop};
+
+use bal_base::Memory;
+use bal_tree::{BinaryOp, Body, Def, Expr, FileTree, FunctionDef, Literal, Rhs, Stmt};
+use stack_code::{Code, Constant, Constants, Instr, Instrs, Unit, Units};
+use std::alloc::Global;
+
+/// The number of the operation `io:println`.
+const PRINTLN: u16 = 0;
+
+/// The code of the program.
+pub fn lower(alloc: Global, tree: &FileTree) -> Result<Code, Memory>
+    requires { IsSumProgram tree.now }
+    ensures { IfOk result (Simulates tree.now) }
+{
+    let mut draft = Draft {
+        constants: Vec::new(alloc),
+        instrs: Vec::new(alloc),
+    };
+    draft.instrs.push(Instr::Tick)?;
+    draft.constants.push(Constant::Nil)?;
+    for stmt in main_stmts(tree) {
+        draft.print(printed(stmt))?;
+    }
+    draft.instrs.push(Instr::Const(0))?;
+    draft.instrs.push(Instr::Return)?;
+    draft.finish(alloc)
+}
+
+/// Code in the making.
+#[derive(Drop)]
+struct Draft {
+    constants: Vec<Constant>,
+    instrs: Vec<Instr>,
+}
+
+impl Draft {
+    /// Adds the code of a statement that prints the sum.
+    fn print(&mut self, sum: &Expr) -> Result<(), Memory>
+        requires { IsSum sum.now }
+        ensures constants { OnOk result (self.new.constants.items ≡ self.old.constants.items ++ constants_of sum.now) }
+        ensures instrs { OnOk result (self.new.instrs.items ≡ self.old.instrs.items
+            ++ (sum_code (length self.old.constants.items) sum.now ++ Native 0 0 1 ∷ Pop ∷ [])) }
+    {
+        self.sum(sum)?;
+        self.instrs.push(Instr::Native {
+            op: PRINTLN,
+            atom: 0,
+            count: 1,
+        })?;
+        self.instrs.push(Instr::Pop)?;
+        Ok(())
+    }
+
+    /// Adds the code of a sum, which pushes its value.
+    fn sum(&mut self, sum: &Expr) -> Result<(), Memory>
+        requires { IsSum sum.now }
+        ensures constants { OnOk result (self.new.constants.items ≡ self.old.constants.items ++ constants_of sum.now) }
+        ensures instrs { OnOk result (self.new.instrs.items ≡ self.old.instrs.items
+            ++ sum_code (length self.old.constants.items) sum.now) }
+    {
+        match sum {
+            Expr::Literal { literal, .. } => self.literal(literal),
+            Expr::Binary {
+                left,
+                op,
+                right,
+                ..
+            } => {
+                self.sum(left)?;
+                self.sum(right)?;
+                self.instrs.push(instr_of(*op))?;
+                Ok(())
+            }
+            Expr::Name { .. } | Expr::Call { .. } => unreachable!(),
+        }
+    }
+
+    /// Adds a constant, and the instruction that pushes it.
+    fn literal(&mut self, literal: &Literal) -> Result<(), Memory>
+        ensures constants { OnOk result (self.new.constants.items ≡ self.old.constants.items ++ literal_constant literal.now ∷ []) }
+        ensures instrs { OnOk result (self.new.instrs.items ≡ self.old.instrs.items ++ Const (length self.old.constants.items) ∷ []) }
+    {
+        let Literal::Int(value) = literal;
+        let number = number_of(self.constants.len())?;
+        self.constants.push(Constant::Int(*value))?;
+        self.instrs.push(Instr::Const(number))?;
+        Ok(())
+    }
+
+    /// The code, whose one unit has all instructions.
+    fn finish(self, alloc: Global) -> Result<Code, Memory>
+        ensures { IfOk result (λ code. (code.constants ≡ self.constants.items) × (code.instrs ≡ self.instrs.items) × StartsAtZero code) }
+    {
+        let end = number_of(self.instrs.len())?;
+        let Draft { constants, instrs } = self;
+        let mut units = Vec::new(alloc);
+        units.push(Unit { first: 0, end })?;
+        Ok(Code {
+            constants: Constants::of(constants),
+            units: Units::of(units),
+            start: 0,
+            instrs: Instrs::of(instrs),
+        })
+    }
+}
+
+/// A count as a number of the code. A count that no number can hold is want of memory: a source file is too
+/// short to come near.
+fn number_of(count: usize) -> Result<u32, Memory>
+    ensures { IfOk result (λ n. n ≡ count) }
+{
+    u32::try_from(count).map_err(|_| Memory)
+}
+
+fn instr_of(op: BinaryOp) -> Instr
+    ensures { result ≡ operator op }
+{
+    match op {
+        BinaryOp::Add => Instr::Add,
+        BinaryOp::Multiply => Instr::Mul,
+    }
+}
+
+/// The statements of `main`.
+fn main_stmts(tree: &FileTree) -> &[Stmt]
+    requires { IsSumProgram tree.now }
+    ensures { IsMainOf tree.now result.now }
+{
+    match tree.defs.as_slice() {
+        [def] => stmts_of(&function_of(def).body),
+        _ => unreachable!(),
+    }
+}
+
+fn function_of(def: &Def) -> &FunctionDef
+    ensures { def.now ≡ Def.Function result.now }
+{
+    let Def::Function(function) = def;
+    function
+}
+
+fn stmts_of(body: &Body) -> &[Stmt]
+    ensures { HasStmts body.now result.now }
+{
+    let Body::Block { stmts, .. } = body;
+    stmts.as_slice()
+}
+
+/// The sum that a statement prints.
+fn printed(stmt: &Stmt) -> &Expr
+    requires { PrintsSum stmt.now }
+    ensures prints { Prints stmt.now result.now }
+    ensures sum { IsSum result.now }
+{
+    let Stmt::Rhs { rhs, .. } = stmt;
+    let Rhs::Expr(expr) = rhs;
+    match expr {
+        Expr::Call { args, .. } => match args.as_slice() {
+            [sum] => sum,
+            _ => unreachable!(),
+        },
+        Expr::Literal { .. } | Expr::Name { .. } | Expr::Binary { .. } => unreachable!(),
+    }
+}
