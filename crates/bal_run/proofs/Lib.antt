@@ -1,4 +1,6 @@
+pub mod Moves
 pub mod Simulation
 pub mod Stands
 pub mod Steps
 pub mod Sums
+pub mod Way

@@ -1,11 +1,11 @@
 -- The code of a program of sums does what the program means.
-use Rattle.std.proofs.Common.{◌≡◌, ◌⊎◌, ℕ, ◌+◌, ◌<◌, List, [], ◌∷◌, ◌++◌, length, get_or, Some, refl, sym, ap, subst, ◌∙◌, inl, inr, ⊎_elim, arith, length-append, append_assoc, ℤ, Option, None, suc}
+use Rattle.std.proofs.Common.{◌≡◌, ℕ, ◌+◌, ◌<◌, List, [], ◌∷◌, ◌++◌, length, get_or, Some, refl, sym, ap, subst, ◌∙◌, inl, inr, ⊎_elim, arith, length-append, append_assoc, Option, None, suc}
 use Rattle.std.proofs.lemmas.List.{append-nil}
-use Rattle.std.specs.Prelude.{slice_get, ⊤, IsSomeAnd}
+use Rattle.std.specs.Prelude.{slice_get, IsSomeAnd}
 use Rattle.std.specs.List.{AllByRecursion}
 use Rattle.std.specs.Fmt.{signed_decimal}
 use Rattle.bal_base.specs.End.{End, Returned, Panicked, number_overflow}
-use Rattle.bal_tree.specs.declared.expr.Expr.{Expr, Literal, Name, Call', Binary', items-the_row-Expr as exprs_in}
+use Rattle.bal_tree.specs.declared.expr.Expr.{Expr, Literal, Name, Call', Binary'}
 use Rattle.bal_tree.specs.declared.stmt.Stmt.{Stmt}
 use Rattle.bal_tree.specs.declared.stmt.Stmt.TheVariants.{Rhs}
 use Rattle.bal_tree.specs.declared.stmt.Rhs.TheVariants.{Expr as Expression}
@@ -15,11 +15,9 @@ use Rattle.bal_tree.specs.declared.file.Def.TheVariants.{Function}
 use Rattle.bal_tree.specs.declared.file.Body.{Body}
 use Rattle.bal_tree.specs.declared.file.Body.TheVariants.{Block}
 use Rattle.bal_tree.specs.Evaluation.{Evaluates, Gives, Overflows, Prints, Runs, IsMain, HasStmts}
-use Rattle.bal_tree.specs.Lists.{stmts_list, defs_list}
+use Rattle.bal_tree.specs.Lists.{defs_list}
 use Rattle.bal_tree.specs.Sums.{IsSum, PrintsSum}
-use Rattle.stack_code.specs.declared.value.Value.{Value}
 use Rattle.stack_code.specs.declared.value.Value.TheVariants.{Nil, Int}
-use Rattle.stack_code.specs.declared.instr.Constant.{Constant}
 use Rattle.stack_code.specs.declared.instr.Constant.TheVariants.{Nil as ConstantNil}
 use Rattle.stack_code.specs.declared.instr.Instr.{Instr}
 use Rattle.stack_code.specs.declared.instr.Instr.TheVariants.{Tick, Const, Native, Pop, Return}
@@ -28,7 +26,7 @@ use Rattle.stack_code.specs.declared.code.Unit.{Unit as CodeUnit}
 use Rattle.stack_code.specs.Machine.{State, Next, On, Ends, Does, Step, RunsFrom, CodeRuns, IsStart, value_of}
 use Rattle.bal_run.specs.Lowering.{Simulates, constants_of, sum_code, print_code, print_constants, PrintEach, IsMainOf, StartsAtZero}
 use Rattle.bal_run.proofs.Stands.{Stands, Stands-front, Stands-back, Stands-here}
-use Rattle.bal_run.proofs.Steps.{at_some, one_step, joined, then_run, RunsFrom-one}
+use Rattle.bal_run.proofs.Steps.{at_some, one_step, then_run, RunsFrom-one}
 use Rattle.bal_run.proofs.Sums.{state, sum-pushes, sum-panics, sum-ends}
 
 -- ---- what the statements mean is determined
@@ -165,7 +163,7 @@ module _ (code : Code) (es : List Expr) (is : IsCodeOf code es) where
       (suc rest.0, (s, begin, (On t, tick, rest.1)))
 
 -- a start is one state
-start-one : (code : Code) (s t : State) → IsStart code s → IsStart code t → s ≡ t
+pub start-one : (code : Code) (s t : State) → IsStart code s → IsStart code t → s ≡ t
 start-one code s t h k = by (slice_get code.units code.start) h k
   where
     by : (o : Option CodeUnit) → IsSomeAnd o (λ u. s ≡ state u.first [] []) → IsSomeAnd o (λ u. t ≡ state u.first [] []) → s ≡ t

@@ -1,8 +1,7 @@
 -- Runs of the machine: steps put together, and that a state has at most one next one.
-use Rattle.std.proofs.Common.{◌≡◌, ℕ, ◌+◌, zero, suc, List, [], ◌∷◌, ◌++◌, Option, Some, None, refl, sym, ap, subst, ◌∙◌, ⊎_elim, ℤ, ◌+ℤ◌, ◌*ℤ◌}
+use Rattle.std.proofs.Common.{◌≡◌, ℕ, zero, suc, List, [], ◌∷◌, Option, Some, None, refl, sym, subst, ◌∙◌, ⊎_elim, ℤ, ◌+ℤ◌, ◌*ℤ◌}
 use Rattle.std.specs.Prelude.{IsSomeAnd, slice_get}
-use Rattle.bal_base.specs.End.{End, Returned, Panicked, number_overflow}
-use Rattle.bal_base.specs.Valid.{IsInt}
+use Rattle.bal_base.specs.End.{End}
 use Rattle.stack_code.specs.declared.value.Value.{Value}
 use Rattle.stack_code.specs.declared.value.Value.TheVariants.{Nil, Int}
 use Rattle.stack_code.specs.declared.instr.Instr.{Instr}
@@ -10,7 +9,7 @@ use Rattle.stack_code.specs.declared.instr.Instr.TheVariants.{Tick, Const, Add, 
 use Rattle.stack_code.specs.declared.instr.Constant.{Constant}
 use Rattle.stack_code.specs.declared.code.Code.{Code}
 use Rattle.stack_code.specs.Machine.{State, Next, On, Ends, Computes, PrintsLine, Drops, Leaves, Does, Step, Then, RunsFrom, went, value_of}
-use Rattle.bal_run.specs.Running.{Leads, ComesToEnd}
+use Rattle.bal_run.specs.Running.{Leads}
 
 pub at_some : {A : Type 0} (o : Option A) (x : A) (P : A → Type 0) → o ≡ Some x → P x → IsSomeAnd o P
 at_some o x P e h = subst (λ p. IsSomeAnd p P) (sym e) h

@@ -1,8 +1,8 @@
 -- The code of a sum does what the sum means.
-use Rattle.std.proofs.Common.{◌≡◌, ◌⊎◌, ℕ, ◌+◌, ◌<◌, List, [], ◌∷◌, ◌++◌, length, Some, refl, sym, ap, subst, ◌∙◌, inl, inr, ⊎_elim, arith, length-append, ℤ, pos, negsuc, ◌+ℤ◌, ◌*ℤ◌}
+use Rattle.std.proofs.Common.{◌≡◌, ◌⊎◌, ℕ, ◌+◌, List, [], ◌∷◌, ◌++◌, length, Some, refl, sym, ap, subst, inl, inr, ⊎_elim, arith, length-append, ℤ, pos, negsuc}
 use Rattle.std.specs.Prelude.{slice_get}
 use Rattle.std.proofs.lemmas.Int.{by_lt_z, ints}
-use Rattle.bal_base.specs.End.{End, Panicked, number_overflow}
+use Rattle.bal_base.specs.End.{Panicked, number_overflow}
 use Rattle.bal_base.specs.Valid.{IsInt}
 use Rattle.bal_tree.specs.declared.expr.Expr.{Expr, Literal, Name, Call', Binary'}
 use Rattle.bal_tree.specs.declared.expr.Literal.TheVariants.{Int as IntLiteral}

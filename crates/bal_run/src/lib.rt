@@ -2,3 +2,4 @@
 #![tactic(auto)]
 
 pub mod lower;
+pub mod machine;

@@ -1,4 +1,4 @@
-use Rattle.std.proofs.Common.{◌≡◌, ◌∷◌, List, [], take}
+use Rattle.std.proofs.Common.{◌≡◌, ◌∷◌, List, take}
 use Rattle.bal_tree.specs.declared.expr.Expr.{Expr}
 use Rattle.stack_code.specs.declared.instr.Constant.TheVariants.{Nil}
 use Rattle.stack_code.specs.declared.instr.Instr.TheVariants.{Tick}
