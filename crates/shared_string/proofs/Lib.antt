@@ -1,0 +1,6 @@
+pub mod Boxes
+pub mod Counting
+pub mod Fields
+pub mod Lending
+pub mod Owners
+pub mod Walks

@@ -1,0 +1,40 @@
+//! The block that holds a text, and a box as its pointer.
+ghost use Rattle.std.specs.Prelude.{◌≡◌};
+ghost use Rattle.shared_string.specs.Whole.{whole_owns};
+
+use std::alloc::Global;
+use std::marker::Model;
+
+/// A text with the count of its owners.
+#[derive(Drop)]
+pub(crate) struct Shared {
+    pub(crate) owners: usize,
+    pub(crate) text: String,
+}
+
+/// A box as its pointer.
+pub(crate) struct Whole<T> {
+    pub(crate) at: *mut T,
+    pub(crate) ghost value: { T },
+}
+
+impl<T> Model for Whole<T> {
+    ghost also_owns = { λ w. whole_owns T.row w.at w.value };
+}
+
+impl<T: Drop> Whole<T> {
+    pub(crate) fn of(block: Box<T>) -> Whole<T>
+        ensures { result.value ≡ block.value }
+    {
+        Whole {
+            at: Box::into_raw(block),
+        }
+    }
+
+    pub(crate) fn into_box(self, alloc: Global) -> Box<T>
+        ensures { result.value ≡ self.value }
+    {
+        let Whole { at } = self;
+        unsafe { Box::from_raw(alloc, at) }
+    }
+}
