@@ -1,5 +1,5 @@
 -- A call of `Box`'s functions with the allocator `Global`.
-use Rattle.std.proofs.Common.{List, [], ◌∷◌, refl}
+use Rattle.std.proofs.Common.{[], ◌∷◌, refl}
 use mir.Raw.{raw}
 use mir.Syntax.{Dict, impl, tcons, tnil, dnil}
 use denote.Exit.{no}

@@ -1,18 +1,16 @@
 -- The steps on the count of a block's owners. Assumes `Logic`.
-use Rattle.std.proofs.Common.{◌≡◌, ℕ, ◌+◌, ◌-◌, ◌^◌, ◌<◌, Bool, true, false, List, [], ◌∷◌, refl, subst, arith, lit<, ◌⊎◌, inl, inr}
+use Rattle.std.proofs.Common.{◌≡◌, ℕ, ◌+◌, ◌-◌, ◌<◌, Bool, true, false, [], ◌∷◌, arith, lit<, ◌⊎◌, inl, inr}
 use seplogic.Ra.Ura.{Ura}
 use base.Fraction.{full_share}
-use base.FractionLaws.{Counts, Counts-all}
-use base.Logic.{SProp, ent, sep, wand, ex, never, never_e, via, apply∗, id⊢}
-use base.Fml.{Lft, Share, Fml, Incl-refl, ftrue, feq, flt, fsep, fex, flft, fdead, flent, fbor, fshr_bor, ftok}
-use base.Mask.{every, just, less, take}
+use base.FractionLaws.{Counts}
+use base.Logic.{SProp, ent, sep, never, never_e, via}
+use base.Fml.{Lft, Share, Fml, ftrue, fsep, fex, flft, fdead, flent, fshr_bor}
 use types.Logic.{Logic, sem}
-use types.Kit.{Item, Goal, Soaks, Seq, Step, step, ‵, raw, ◌⊛◌, some, later, await, ◌$◌, ◌∵◌, !, qed, by, use0, use1, use2, use3, move, keep, drop, split, join, frame, pick, show, assume, updating, now, done, fsplit, fsplit3, fjoin, fjoin3, fpick, fpack, feq_l, feq_i, flt_l, flt_i, rewrite, group}
-use types.Tokens.{lft_new, lft_end, bor_new, bor_open, bor_fracture, lent_back, shr_bor_dup, shr_bor-open}
+use types.Kit.{‵, ◌⊛◌, later, await, ◌$◌, ◌∵◌, !, qed, by, use0, use1, use2, move, keep, drop, split, frame, updating, now, done, fsplit, fjoin, fpick, fpack, feq_l, feq_i, flt_l, flt_i}
+use types.Tokens.{lft_end, bor_new, bor_fracture, lent_back, shr_bor_dup, shr_bor-open}
 use types.Within.{tokens_halve}
-use types.Na.{na_inv, na_inv_new, na_inv_acc}
 use denote.Steps.{nothing}
-use types.RcWeak.{part, rest, cut, takes, gives, whole, part_in}
+use types.RcWeak.{part, rest, takes, gives, whole, part_in}
 use Rattle.shared_string.specs.Ownership.{most, Times, stage, kind, holds}
 
 module _ (a : Times) {M : Type 1} {𝓤 : Ura M} (𝓛 : Logic 𝓤) where

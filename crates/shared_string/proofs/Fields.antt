@@ -2,21 +2,19 @@
 use Rattle.std.proofs.Common.{ℕ, w64, [], ◌∷◌}
 use seplogic.Ra.Ura.{Ura}
 use base.Fraction.{full_share}
-use base.Logic.{ent, sep, id⊢}
-use base.Fml.{ftrue, fsep}
+use base.Logic.{ent, sep}
 use types.Logic.{Logic, sem}
 use types.Kit.{‵, ◌⊛◌, ◌$◌, ◌∵◌, !, qed, move, keep, use1, use2, split, fsplit, fjoin, done}
-use denote.Builtin.{usize}
 use denote.Laws.{Lawfuls}
 use denote.Memory.{part_at, part_of}
 use denote.Plain.{uint_Lawful}
-use denote.RawPtr.{Ptr, block_ptr, null_ptr, lies_at, ◌+ₚ◌}
+use denote.RawPtr.{Ptr, block_ptr}
 use denote.Steps.{nothing}
 use denote.Struct.Members.{rows_of, lawful_Lones, parts_at}
 use denote.Struct.Parts.{Struct-left, left_Struct}
 use Rattle.shared_string.specs.contracts.block.Shared.{the_row as shared_row}
 use Rattle.shared_string.specs.Whole.{whole_owns}
-use Rattle.shared_string.specs.Ownership.{Text, text_row, fields, left_of, frees, counts, loan}
+use Rattle.shared_string.specs.Ownership.{Text, fields, left_of, counts, loan}
 use Rattle.shared_string.proofs.Owners.{text_laws}
 
 module _ {M : Type 1} {𝓤 : Ura M} (𝓛 : Logic 𝓤) (n : ℕ) (x : Text) (b o : ℕ) where

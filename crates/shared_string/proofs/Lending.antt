@@ -1,5 +1,5 @@
 -- A `&` to an owner holds some share of the loan's token, and sees what every owner sees. Assumes `Logic`.
-use Rattle.std.proofs.Common.{ℕ, Bool, [], ◌∷◌}
+use Rattle.std.proofs.Common.{Bool, [], ◌∷◌}
 use seplogic.Ra.Ura.{Ura}
 use base.Logic.{SProp, ent, sep, wand, apply∗}
 use base.Fml.{Lft, Share, Fml, fsep, fex, flft, fbor, fshr_bor}
@@ -7,7 +7,7 @@ use types.Logic.{Logic, sem, lfts}
 use types.Kit.{‵, raw, ◌⊛◌, later, ◌$◌, ◌∵◌, !, qed, move, drop, use1, use2, split, fsplit3, keep, by, fpick, await, updating, now, done}
 use types.Tokens.{bor_fracture}
 use types.Na.{na_inv, na_inv_dup}
-use denote.Sharing.{ShrLaws, one, beside, some, held}
+use denote.Sharing.{ShrLaws, one, beside, held}
 use denote.SharingLaws.{contraction, some_shr_laws, beside_shr_laws, one_shr_laws, held_shr_laws}
 use denote.Hidden.{kept, kept_shr_laws}
 use denote.Model.Laws.{Lends-some}

@@ -1,17 +1,17 @@
 -- The first owner of a block, and what every owner finds there. Assumes `Logic`.
-use Rattle.std.proofs.Common.{◌≡◌, ℕ, ◌^◌, ◌<◌, Bool, true, false, [], ◌∷◌, refl, subst, arith, lit<}
+use Rattle.std.proofs.Common.{ℕ, Bool, true, false, [], ◌∷◌, refl, subst, arith, lit<}
 use seplogic.Ra.Ura.{Ura}
 use base.Fraction.{full_share}
 use base.FractionLaws.{Counts, Counts-all}
 use base.Logic.{SProp, ent, sep, wand, ex, never, never_e, via, apply∗}
-use base.Fml.{Lft, Key, Share, Fml, Incl, Incl-refl, ftrue, fsep, fex, flft, fdead, flent, fbor, ftok}
+use base.Fml.{Lft, Key, Share, Fml, Incl-refl, ftrue, flft, fdead, ftok}
 use base.Mask.{every, just, less, take}
 use contract.BorrowLft.{⊑_static}
 use types.Logic.{Logic, sem}
-use types.Kit.{Item, Goal, Soaks, Seq, Step, step, ‵, raw, ◌⊛◌, some, later, await, ◌$◌, ◌∵◌, !, qed, by, use1, use2, use3, move, keep, drop, split, frame, pick, show, assume, updating, now, done, fsplit, fsplit3, fjoin, fjoin3, fpick, fpack, flt_i, group}
+use types.Kit.{‵, raw, ◌⊛◌, later, await, ◌$◌, ◌∵◌, !, qed, by, use1, use2, move, keep, split, frame, show, assume, updating, now, done, fjoin, fjoin3, fpick, fpack, flt_i, group}
 use types.Tokens.{lft_new, bor_new}
 use types.Na.{na_inv, na_inv_new, na_inv_acc}
-use types.RcWeak.{part, rest, cut, part_in}
+use types.RcWeak.{part, rest, cut}
 use denote.Steps.{nothing}
 use denote.Struct.Lending.{Lends, Lends-lies, Lends-first}
 use denote.RawPtr.{Ptr, lies_at, ◌+ₚ◌}
@@ -20,7 +20,7 @@ use Rattle.std.proofs.string.String.TheLaws as string
 use Rattle.std.specs.contracts.alloc.Global.{the_row as global_row}
 use Rattle.std.specs.contracts.impls.GlobalAllocator.TheImpl.{ghosts}
 use denote.Param.Laws.{Laws}
-use Rattle.shared_string.specs.Ownership.{Text, text_row, frees, most, Times, stage, kind, holds, counts, loan, sees, key, counted, phase, shared, owner, owner_owns}
+use Rattle.shared_string.specs.Ownership.{Text, text_row, frees, most, Times, stage, holds, counts, loan, sees, key, counted, phase, shared, owner, owner_owns}
 use Rattle.shared_string.proofs.Counting.{holds_in}
 
 pub text_laws : Laws text_row

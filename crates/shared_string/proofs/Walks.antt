@@ -1,5 +1,5 @@
 -- Steps that the walks share. Assumes `Logic`.
-use Rattle.std.proofs.Common.{◌≡◌, ℕ, ◌+◌, Bool, true, false, ◌&&◌, List, [], ◌∷◌, T, not, eqb, T_not, refl, sym, ap, subst, lit<}
+use Rattle.std.proofs.Common.{◌≡◌, ℕ, ◌+◌, Bool, true, false, ◌&&◌, List, [], ◌∷◌, T, not, eqb, T_not, refl, sym, subst, lit<}
 use lib.Dec.{eqb_refl}
 use seplogic.Ra.Ura.{Ura}
 use mir.Syntax.{Fn, Callee, Ty, ty_ptr, ty_struct, tcons, tnil}
@@ -48,7 +48,7 @@ use Rattle.std.specs.contracts.alloc.Global.{the_row as global_row}
 use Rattle.std.proofs.alloc.Global.TheLaws as global
 use Rattle.shared_string.specs.contracts.owner.Owner.{the_row}
 use Rattle.shared_string.specs.Whole.{whole_owns, may_free}
-use Rattle.shared_string.specs.Ownership.{Text, Times, holds, sees, key, shared, owner, owner_owns, owner_shares}
+use Rattle.shared_string.specs.Ownership.{Text, Times, holds, sees, key, shared, owner, owner_shares}
 
 pub unlike : (n m : ℕ) → T (not (eqb n m)) → n ≡ m → ⊥
 unlike n m t e = T_not (eqb n n) (subst (λ (k : ℕ). T (not (eqb n k))) (sym e) t) (eqb_refl n)

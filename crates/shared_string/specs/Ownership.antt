@@ -3,7 +3,7 @@ use Rattle.std.specs.Prelude.{ℕ, ◌-◌, ◌^◌, Bool, true, false, List, []
 use base.Fraction.{full_share}
 use base.FractionLaws.{Counts}
 use base.Fml.{Lft, Key, Share, Fml, ftrue, ffalse, feq, flt, fsep, fex, flft, fdead, flent, fshr_bor, fleft}
-use mir.Syntax.{Ty, Tys, w64, ty_int, ty_struct}
+use mir.Syntax.{Ty, w64, ty_int, ty_struct}
 use types.Na.{na_inv}
 use types.RcWeak.{rest}
 use denote.RattleType.{RattleType}

@@ -1,22 +1,22 @@
 -- `into_box` makes the box again.
-use Rattle.std.proofs.Common.{◌≡◌, ℕ, List, [], ◌∷◌, ◌++◌, refl, sym, ap}
+use Rattle.std.proofs.Common.{◌≡◌, List, [], ◌∷◌, refl, ap}
 use Rattle.std.proofs.raw_atomic.Walks.{proved}
 use Rattle.std.proofs.alloc.Calls.{Goes-blank}
-use mir.Syntax.{a_type, dcons, dnil, impl, tcons, tnil}
+use mir.Syntax.{a_type, dcons, dnil}
 use mir.Val.{Val, vptr}
 use mir.MapTy.{inst_fn}
 use base.Fraction.{full_share}
 use base.Logic.{emp, id⊢}
 use base.Fml.{Lft, ftrue, flft}
-use types.Kit.{‵, raw, ◌⊛◌, some, later, await, at_ret, ◌$◌, ◌∵◌, !, qed, move, keep, drop, split, split3, join, rewrite, fsplit, fjoin, fpick, feq_i, pick, suffices, frame, done, use0, use1, use2}
+use types.Kit.{‵, raw, ◌⊛◌, some, later, await, at_ret, ◌$◌, ◌∵◌, !, qed, move, keep, drop, split, split3, join, fsplit, fjoin, fpick, feq_i, pick, suffices, done, use0, use1}
 use types.Run.{stop, fld, of_opd, and_then, no_more, first, blocks, exec, returns, enter}
 use types.ByLocal.{alloc_all, pass_all, free_all, look_at, get, get_in, sets, is, lands_last, env}
-use types.Part.{agg, sub, whole}
+use types.Part.{sub, whole}
 use contract.Monad.{fact, fact_i}
 use contract.BorrowLft.{◌⊑◌}
 use contract.Running.{tables}
 use denote.Exit.{no, yes}
-use denote.Param.{param, bounded, layout}
+use denote.Param.{param, bounded}
 use denote.Param.Laws.{param_laws}
 use denote.RattleType.{RattleType}
 use denote.RawPtr.{Ptr, ptr_val, block_ptr, in_a_block}
@@ -43,7 +43,7 @@ use Rattle.std.proofs.alloc.Global.TheLaws as global
 use Rattle.shared_string.specs.contracts.block.Whole.{the_row}
 use Rattle.shared_string.proofs.block.Whole.TheLaws as laws
 use Rattle.shared_string.specs.Whole.{whole_owns}
-use Rattle.shared_string.proofs.Walks.{not_null, global_typed, word, ptr_typed, word_typed}
+use Rattle.shared_string.proofs.Walks.{not_null, global_typed, word, word_typed}
 use Rattle.shared_string.specs.contracts.block.Whole.into_box as f
 use Rattle.shared_string.proofs.block.Whole.into_box.Statement.{statement}
 use Rattle.shared_string.proofs.block.Whole.into_box.Code as code

@@ -1,5 +1,5 @@
 -- `of` takes the box apart.
-use Rattle.std.proofs.Common.{◌≡◌, ℕ, List, [], ◌∷◌, ◌++◌, refl, sym, ap}
+use Rattle.std.proofs.Common.{[], ◌∷◌, refl, ap}
 use Rattle.std.proofs.raw_atomic.Walks.{proved}
 use Rattle.std.proofs.alloc.Calls.{Goes-blank}
 use mir.Raw.{raw as bare}
@@ -9,7 +9,7 @@ use mir.MapTy.{inst_fn}
 use base.Fraction.{full_share}
 use base.Logic.{emp, id⊢}
 use base.Fml.{Lft, ftrue, flft}
-use types.Kit.{‵, raw, ◌⊛◌, some, later, await, ◌$◌, ◌∵◌, !, qed, move, keep, drop, split, join, fsplit, fjoin, fpack, feq_l, pick, suffices, done, use0, use1}
+use types.Kit.{‵, raw, ◌⊛◌, some, later, await, ◌$◌, ◌∵◌, !, qed, move, keep, drop, split, join, fjoin, fpack, feq_l, pick, suffices, done, use0, use1}
 use types.Run.{of_opd, and_then, no_more, returns, enter}
 use types.ByLocal.{alloc_all, pass_all, free_all, look_at, get, sets, lands_as}
 use types.Part.{agg}
@@ -17,7 +17,6 @@ use contract.Monad.{fact, fact_i}
 use contract.BorrowLft.{◌⊑◌}
 use contract.Running.{tables}
 use denote.Exit.{no}
-use denote.Laws.{Is, shows}
 use denote.Memory.{lone}
 use denote.Param.{param, bounded}
 use denote.Param.Laws.{param_laws}
@@ -41,8 +40,6 @@ use Rattle.std.proofs.boxed.Box.TheLaws as boxes
 use Rattle.std.specs.contracts.boxed.Box.into_raw as g
 use Rattle.std.proofs.boxed.Box.into_raw.Met.{met}
 use Rattle.shared_string.proofs.Destruct++none.drop.Code.{code as none}
-use Rattle.shared_string.specs.Whole.{whole_owns, may_free}
-use Rattle.shared_string.specs.contracts.block.Whole.{the_row}
 use Rattle.shared_string.proofs.Boxes.{Alloc, alloc_laws, no_drop}
 use Rattle.shared_string.proofs.Walks.{word, ptr_typed, word_typed, word_made}
 use Rattle.shared_string.specs.contracts.block.Whole.of as f

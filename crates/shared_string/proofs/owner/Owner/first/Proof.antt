@@ -1,15 +1,12 @@
 -- `first` lends the text to its owners, of which there is one.
-use Rattle.std.proofs.Common.{◌≡◌, ℕ, List, [], ◌∷◌, refl, sym, ap}
+use Rattle.std.proofs.Common.{◌≡◌, ℕ, [], ◌∷◌, refl, sym}
 use Rattle.std.proofs.raw_atomic.Walks.{proved}
-use mir.Val.{Val}
 use base.Fml.{ftrue}
-use types.Logic.{sem}
-use types.Kit.{‵, raw, ◌⊛◌, later, await, ◌$◌, ◌∵◌, !, qed, keep, drop, split, join, rewrite, fsplit, fjoin, suffices, frame, done, use1, use2, move}
+use types.Kit.{‵, raw, ◌⊛◌, later, await, ◌$◌, ◌∵◌, !, qed, keep, drop, split, join, rewrite, fsplit, fjoin, suffices, done, use1, use2, move}
 use types.Run.{stop, fld, of_opd, and_then, no_more, returns, enter}
 use types.ByLocal.{alloc_all, pass_all, free_all, look_at, get, get_in, sets}
 use types.Part.{agg, sub, whole}
 use contract.Monad.{fact}
-use contract.Running.{tables}
 use denote.Exit.{yes}
 use denote.RawPtr.{Ptr, block_ptr, in_a_block}
 use denote.Signature.{plain}

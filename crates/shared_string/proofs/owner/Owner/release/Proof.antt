@@ -1,12 +1,11 @@
 -- `release` counts one owner less, or ends the loan, or leaves a full count as it is.
-use Rattle.std.proofs.Common.{◌≡◌, ℕ, ◌+◌, ◌-◌, ◌^◌, ◌<◌, T, not, eqb, Bool, List, [], ◌∷◌, refl, sym, ap, arith, lit<, ltb→lt, nltb→le, eqb→eq, w64}
-use mir.Val.{Val, vptr, vint, vcons, vnil}
+use Rattle.std.proofs.Common.{◌≡◌, ℕ, ◌+◌, ◌-◌, ◌^◌, ◌<◌, Bool, [], ◌∷◌, refl, sym, ap, arith, lit<, ltb→lt, eqb→eq, w64}
+use mir.Val.{vptr, vint, vcons, vnil}
 use mir.Syntax.{ty_int}
 use base.Logic.{never, id⊢}
 use base.Fraction.{full_share}
-use base.Fml.{Lft, Share, Fml, ftrue, fat, flft, fdead, flent, fex, ftok, fsep}
+use base.Fml.{Lft, Share, Fml, ftrue, fat, flft, fdead, fex, ftok, fsep}
 use base.Mask.{every}
-use types.Logic.{sem}
 use types.Kit.{Sq, runs, ‵, raw, ◌⊛◌, some, given, learn, later, await, pick, at_ret, ◌$◌, ◌∵◌, !, qed, move, keep, drop, split, split3, join, rewrite, fsplit, fsplit3, fjoin, fpick, fpack, suffices, frame, done, use1, use2, use3, group}
 use types.Run.{look, stop, fld, of_opd, load, store, bin, lit, neg_lit, and_then, no_more, first, blocks, branches, skips, exec, returns, returns_within, enter, well_typed, assigns_last}
 use types.ByLocal.{alloc_all, pass_all, free_all, look_at, get, get_in, through, sets, is, env, holding, forget_but}
@@ -22,12 +21,12 @@ use denote.Signature.{plain}
 use denote.Steps.{nothing}
 use denote.Triple.Walked.{says, Stays, stay_dropped, ends_at, Goes-dropped}
 use Rattle.std.specs.Prelude.{Some, None}
-use Rattle.shared_string.specs.Ownership.{Text, most, Times, stage, kind, holds, counts, loan, sees, key, shared, counted, owner_owns}
+use Rattle.shared_string.specs.Ownership.{Text, most, stage, kind, counts, loan, sees, key, shared, counted}
 use Rattle.shared_string.specs.Whole.{whole_owns}
 use Rattle.shared_string.proofs.Counting.{falls, ends}
 use Rattle.shared_string.proofs.Fields.{joined}
 use Rattle.shared_string.proofs.Owners.{Shuts, opens, shuts, is_over}
-use Rattle.shared_string.proofs.Walks.{unlike, word, ptr_typed, word_typed, word_made, some_typed, some_made, none_made, held, W, proved_holding}
+use Rattle.shared_string.proofs.Walks.{unlike, word, word_typed, word_made, some_typed, some_made, none_made, held, W, proved_holding}
 use Rattle.shared_string.specs.contracts.block.Shared as block
 use Rattle.shared_string.specs.contracts.block.Whole as whole_block
 use Rattle.shared_string.specs.contracts.owner.Owner.{the_row}

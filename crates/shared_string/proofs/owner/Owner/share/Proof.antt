@@ -1,14 +1,13 @@
 -- `share` counts one owner more, or finds the count full.
-use Rattle.std.proofs.Common.{◌≡◌, ℕ, ◌+◌, ◌-◌, ◌^◌, ◌<◌, Bool, List, [], ◌∷◌, refl, sym, ap, subst, arith, ltb→lt, nltb→le, w64}
-use mir.Val.{Val, vptr, vint}
+use Rattle.std.proofs.Common.{◌≡◌, ℕ, ◌+◌, ◌^◌, ◌<◌, Bool, [], ◌∷◌, refl, sym, ap, arith, ltb→lt, nltb→le, w64}
+use mir.Val.{vptr, vint}
 use mir.Syntax.{named, ty_ptr, ty_int}
 use base.Share
-use base.Logic.{SProp, ent, sep, never, id⊢}
+use base.Logic.{never, id⊢}
 use base.Fraction.{full_share}
-use base.Fml.{Lft, Share, Fml, ftrue, fhide, fat, flft, flent, fobor, fex, ftok, fsep}
+use base.Fml.{Lft, Share, Fml, ftrue, fat, flft, fobor, fex, ftok}
 use base.Mask.{every}
-use types.Logic.{sem}
-use types.Kit.{Sq, runs, ‵, raw, ◌⊛◌, some, later, await, pick, at_ret, any_q, ◌$◌, ◌∵◌, !, qed, by, move, keep, drop, split, split3, join, rewrite, fsplit, fsplit3, fjoin, fjoin3, fpick, feq_i, feq_l, suffices, frame, done, use1, use2, use3, group}
+use types.Kit.{Sq, runs, ‵, raw, ◌⊛◌, some, later, await, pick, at_ret, ◌$◌, ◌∵◌, !, qed, move, keep, drop, split, split3, join, rewrite, fsplit, fsplit3, fjoin, fpick, suffices, frame, done, use1, use2, use3, group}
 use types.Run.{look, stop, fld, of_opd, load, store, bin, lit, neg_lit, and_then, no_more, first, blocks, branches, skips, exec, returns, enter, well_typed, assigns_last}
 use types.ByLocal.{alloc_all, pass_all, free_all, look_at, get, through, sets, is, env, holding, forget_but}
 use types.Part.{agg}
@@ -22,11 +21,11 @@ use denote.Memory.{part_at}
 use denote.Plain.{uint_in, uint_out}
 use denote.Opens.{Shut}
 use denote.RawPtr.{Ptr, RawPtr, ptr_val, block_ptr, in_a_block, lies_at, ◌+ₚ◌}
-use denote.Ref.{Bor, ShrRef, shr_vals, shr_Tells}
+use denote.Ref.{ShrRef, shr_vals, shr_Tells}
 use denote.Signature.{plain}
 use denote.Steps.{nothing}
 use denote.Triple.Walked.{says, Stays, stay_dropped, ends_at, Goes-dropped}
-use Rattle.shared_string.specs.Ownership.{Text, most, Times, stage, holds, counts, loan, sees, key, shared, counted, owner_shares}
+use Rattle.shared_string.specs.Ownership.{Text, most, stage, holds, sees, key, shared, counted}
 use Rattle.shared_string.proofs.Counting.{rises, stays_full}
 use Rattle.shared_string.proofs.Owners.{Shuts, opens, shuts}
 use Rattle.shared_string.proofs.Walks.{word, word_typed, pointer_out, pointer_back, owner_seen, owner_made, held, W, proved_holding}
