@@ -27,7 +27,6 @@ module _ (a : Times) {M : Type 1} {𝓤 : Ura M} (𝓛 : Logic 𝓤) where
 
   infix 26 ◌⊢◌
   infixr 35 ◌∗◌
-
   abbrev ν : Lft
   ν = a.0 ∷ []
 

@@ -44,7 +44,6 @@ module _ (c : Ptr) (x : Text) {M : Type 1} {𝓤 : Ura M} (𝓛 : Logic 𝓤) wh
   infix 26 ◌⊢◌
   infixr 35 ◌∗◌
   infixr 30 ◌-∗◌
-
   loan_lends : Lends 𝓛 (loan c x) (sees c x) []
   loan_lends = Lends-first 𝓛 (lies_at text_row full_share (c +ₚ 8) x) (frees c) (sees c x) [] (Lends-lies 𝓛 text_row [] (c +ₚ 8) x (text_laws.shares 𝓛 x))
 

@@ -38,23 +38,12 @@ use denote.Opens.{Shut, hide, unhide}
 use denote.RawPtr.{Ptr, block_ptr, null_ptr, RawPtr, coded_ptr, ptr_own, rawptr_pure, ptr_val}
 use denote.Steps.{looks, shuts}
 use denote.Struct.Laws.{RawPtr-laws}
-use types.Match.{live}
-use denote.Enum.Enum.{in_a_row, form_of}
-use denote.Enum.Row.{tagged_with}
-use denote.Enum.Declared.{shape as enum_shape}
-use Rattle.std.specs.Prelude.{Some, None}
-use Rattle.std.specs.contracts.option.Option as option
+use Rattle.std.proofs.RcSteps.{word}
 use Rattle.std.specs.contracts.alloc.Global.{the_row as global_row}
 use Rattle.std.proofs.alloc.Global.TheLaws as global
 use Rattle.shared_string.specs.contracts.owner.Owner.{the_row}
 use Rattle.shared_string.specs.Whole.{whole_owns, may_free}
 use Rattle.shared_string.specs.Ownership.{Text, Times, holds, sees, key, shared, owner, owner_shares}
-
-pub unlike : (n m : ℕ) → T (not (eqb n m)) → n ≡ m → ⊥
-unlike n m t e = T_not (eqb n n) (subst (λ (k : ℕ). T (not (eqb n k))) (sym e) t) (eqb_refl n)
-
-abbrev pub word : Ptr → Val
-word c = vstruct (vcons (ptr_val c) vnil)
 
 -- `Owner` and `Whole`, but for their names
 abbrev one_pointer : Shape
@@ -63,19 +52,8 @@ one_pointer = record { name = []; args = []; types = []; fields = RawPtr ∷ [] 
 abbrev pub Word : RattleType
 Word = Struct one_pointer
 
-pub ptr_typed : (c : Ptr) → T (has_ty ty_ptr (ptr_val c)) × WT (ptr_val c)
-ptr_typed (block_ptr b o) = (tt, tt)
-ptr_typed null_ptr = (tt, record { fits = lit< tt })
-
 pub global_typed : (g : (global_row).Denot) → T (has_ty global.mir (global.lowered g)) × WT (global.lowered g)
 global_typed g = (tt, ((tt, tt), tt))
-
-abbrev word_type : Ty
-word_type = ty_struct [] (tcons ty_ptr tnil)
-
-pub word_typed : (c : Ptr) → T (has_ty word_type (word c)) × WT (word c)
-word_typed (block_ptr b o) = (tt, (tt, tt))
-word_typed null_ptr = (tt, (record { fits = lit< tt }, tt))
 
 pub not_null : {M : Type 1} {𝓤 : Ura M} (𝓛 : Logic 𝓤) (R : RattleType) (x : R.Denot) → ent 𝓤 (sem 𝓛 (whole_owns R null_ptr x)) (never 𝓤)
 not_null {𝓤 = 𝓤} 𝓛 R x = fst∗ 𝓤 (never 𝓤) (sem 𝓛 (may_free (raw (lone R.mir)) null_ptr))
@@ -106,30 +84,6 @@ module _ {M : Type 1} {𝓤 : Ura M} {𝓛 : Logic 𝓤} {K : Type 0} {Γ : List
   pub owner_made : K → (c : Ptr) (x : Text) (a : Times)
       → Step K 𝓛 (‵ ((the_row).own_val (record { at = c; text = x }) (word c ∷ [])) ∷ Γ) G (‵ (holds a) ∷ ‵ (na_inv (key c x) (shared c x a)) ∷ ‵ (sees c x (a.0 ∷ [])) ∷ Γ) G
   owner_made t c x a = step (λ k. fjoin3 t $ fpack t Times (owner c x) a $ word_made t c $ fjoin t $ k)
-
--- an `Option` by value
-and_true : (y : Bool) → T y → T (y && true)
-and_true true t = tt
-and_true false t = absurd t
-
-pub some_typed : (c : Ptr) → T (has_ty word_type (word c) && true) × WT (live 1 (vcons (word c) vnil))
-some_typed c = let g = word_typed c in (and_true (has_ty word_type (word c)) g.0, (record { fits = lit< tt }, (g.1, tt)))
-
-module _ (R : RattleType) where
-  abbrev Opt : RattleType
-  Opt = option.the_row R
-
-  abbrev as_variant : Opt.Denot → Val → List Val → Fml
-  as_variant d v = let F = form_of (enum_shape (option.the_type R)) in tagged_with F F.payload ((option.the_type R).to d) (v ∷ [])
-
-  module _ {M : Type 1} {𝓤 : Ura M} {𝓛 : Logic 𝓤} {K : Type 0} {Γ : List (Item 𝓤)} {G : Goal 𝓤 𝓛.H} where
-    pub some_made : K → (x : R.Denot) (v : Val) → Step K 𝓛 (‵ (Opt.own_val (Some x) (live 1 (vcons v vnil) ∷ [])) ∷ Γ) G (‵ (R.own_val x (v ∷ [])) ∷ Γ) G
-    some_made t x v = step (λ k. nothing t $ move t (1 ∷ 0 ∷ []) $ fjoin t $ feq_i t (List Val) (v ∷ []) (v ∷ []) refl $ fjoin t $ fpack t (Valss (R ∷ [])) (in_a_row (R ∷ []) (owns (R ∷ []) (x, tt)) (v ∷ [])) (v ∷ [], tt) $
-        feq_i t (List Val) (live 1 (vcons v vnil) ∷ []) (live 1 (vcons v vnil) ∷ []) refl $ fjoin t $ fpack t (List Val) (as_variant (Some x) (live 1 (vcons v vnil))) (v ∷ []) $ k)
-
-    pub none_made : K → Step K 𝓛 (‵ (Opt.own_val None (live 0 vnil ∷ [])) ∷ Γ) G Γ G
-    none_made t = step (λ k. nothing t $ feq_i t (List Val) [] [] refl $ fjoin t $ fpack t (Valss []) (in_a_row [] (owns [] tt) []) tt $
-        feq_i t (List Val) (live 0 vnil ∷ []) (live 0 vnil ∷ []) refl $ fjoin t $ fpack t (List Val) (as_variant None (live 0 vnil)) [] $ k)
 
 -- a walk that holds the thread's token, which opens what the owners share
 module _ {M : Type 1} {𝓤 : Ura M} (𝓛 : Logic 𝓤) (E : Ended) (hs : Stays E.signature.params E.kept) (c : Clauses 𝓤 E) where

@@ -1,18 +1,18 @@
-//! The block that holds a text, and a box as its pointer.
+//! The block that owners share.
 ghost use Rattle.std.specs.Prelude.{◌≡◌};
 ghost use Rattle.shared_string.specs.Whole.{whole_owns};
 
 use std::alloc::Global;
 use std::marker::Model;
 
-/// A text with the count of its owners.
+/// A text with the number of its owners.
 #[derive(Drop)]
 pub(crate) struct Shared {
     pub(crate) owners: usize,
     pub(crate) text: String,
 }
 
-/// A box as its pointer.
+/// A block from a `Box`, with the value in it, to which nothing else points.
 pub(crate) struct Whole<T> {
     pub(crate) at: *mut T,
     pub(crate) ghost value: { T },
@@ -35,6 +35,7 @@ impl<T: Drop> Whole<T> {
         ensures { result.value ≡ self.value }
     {
         let Whole { at } = self;
+        // SAFETY: the block came from a `Box` in the same heap, and goes back whole.
         unsafe { Box::from_raw(alloc, at) }
     }
 }

@@ -1,35 +1,5 @@
 -- `of` takes the box apart.
-use Rattle.std.proofs.Common.{[], ◌∷◌, refl, ap}
-use Rattle.std.proofs.raw_atomic.Walks.{proved}
-use Rattle.std.proofs.alloc.Calls.{Goes-blank}
-use mir.Raw.{raw as bare}
-use mir.Syntax.{a_type, dcons, dnil}
-use mir.Val.{Val}
-use mir.MapTy.{inst_fn}
-use base.Fraction.{full_share}
-use base.Logic.{emp, id⊢}
-use base.Fml.{Lft, ftrue, flft}
-use types.Kit.{‵, raw, ◌⊛◌, some, later, await, ◌$◌, ◌∵◌, !, qed, move, keep, drop, split, join, fjoin, fpack, feq_l, pick, suffices, done, use0, use1}
-use types.Run.{of_opd, and_then, no_more, returns, enter}
-use types.ByLocal.{alloc_all, pass_all, free_all, look_at, get, sets, lands_as}
-use types.Part.{agg}
-use contract.Monad.{fact, fact_i}
-use contract.BorrowLft.{◌⊑◌}
-use contract.Running.{tables}
-use denote.Exit.{no}
-use denote.Memory.{lone}
-use denote.Param.{param, bounded}
-use denote.Param.Laws.{param_laws}
-use denote.Param.NoDrop.{glues}
-use denote.RattleType.{RattleType}
-use denote.RawPtr.{Ptr, RawPtr, lies_at}
-use denote.Signature.{plain}
-use denote.Steps.{nothing, heard, only}
-use denote.Triple.Call.{calls_at}
-use denote.Triple.Clauses.{Lasts, lasts}
-use denote.Triple.Spec.{triple_of}
-use denote.Triple.Table.{framed}
-use denote.Triple.Walked.{says, Stays, stay_dropped, walk_of, ends_at}
+use Rattle.shared_string.proofs.Steps.{word, Ptr-Good, word-Good, [], ◌∷◌, refl, ap, proved, Goes-blank, bare, a_type, dcons, dnil, Val, inst_fn, full_share, emp, id⊢, Lft, ftrue, flft, ‵, raw, ◌⊛◌, some, later, await, ◌$◌, ◌∵◌, !, qed, move, keep, drop, split, join, fjoin, fpack, feq_l, pick, suffices, done, use0, use1, of_opd, and_then, no_more, returns, enter, alloc_all, pass_all, free_all, look_at, get, sets, lands_as, agg, fact, fact_i, ◌⊑◌, tables, no, lone, param, bounded, param_laws, glues, RattleType, Ptr, RawPtr, lies_at, plain, nothing, heard, only, calls_at, Lasts, lasts, triple_of, framed, says, Stays, stay_dropped, walk_of, ends_at}
 use Rattle.std.specs.declared.alloc.Global.{Global}
 use Rattle.std.specs.contracts.alloc.Global.{the_row as global_row}
 use Rattle.std.specs.contracts.impls.GlobalAllocator.TheImpl as heap
@@ -41,7 +11,7 @@ use Rattle.std.specs.contracts.boxed.Box.into_raw as g
 use Rattle.std.proofs.boxed.Box.into_raw.Met.{met}
 use Rattle.shared_string.proofs.Destruct++none.drop.Code.{code as none}
 use Rattle.shared_string.proofs.Boxes.{Alloc, alloc_laws, no_drop}
-use Rattle.shared_string.proofs.Walks.{word, ptr_typed, word_typed, word_made}
+use Rattle.shared_string.proofs.Walks.{word_made}
 use Rattle.shared_string.specs.contracts.block.Whole.of as f
 use Rattle.shared_string.proofs.block.Whole.of.Statement.{statement}
 use Rattle.shared_string.proofs.block.Whole.of.Code as code
@@ -68,14 +38,14 @@ of_spec {M = M} 𝓤 𝓛 𝓜 𝓡 wired T L dx glue =
     nothing ! $ use0 𝓛 (raw (fact 𝓤 ([] ⊑ Alloc.lives))) (fact_i 𝓤 ([] ⊑ Alloc.lives) (emp 𝓤) (global.the_within [])) $ join ! $
     use0 𝓛 (raw (fact 𝓤 (κ ⊑ T.lives))) (fact_i 𝓤 (κ ⊑ T.lives) (emp 𝓤) le) $ join ! $ move ! (1 ∷ 0 ∷ []) $ join ! $ use1 𝓛 (raw (G.pre z)) (id⊢ 𝓤 _) $
     calls_at ! (framed 𝓤 𝓛.H 𝓜 𝓣) G (met 𝓤 𝓛 𝓜 𝓡 (code.calls-std_alloc::boxed::Box::into_raw 𝓡.env wired) T Alloc L alloc_laws heap.ghosts heap.dict no_drop dx
-        (passed 𝓡.env (code.calls-std_heap::GlobalAllocator::allocate 𝓡.env wired) (code.calls-std_heap::GlobalAllocator::deallocate 𝓡.env wired) (code.calls-std_heap::GlobalAllocator::grow 𝓡.env wired) (code.calls-std_heap::GlobalAllocator::shrink 𝓡.env wired) M 𝓤 𝓛 𝓜 𝓡)
-        (glues "shared_string::Destruct++none::drop" 𝓡.env (code.calls-shared_string::Destruct++none::drop 𝓡.env wired) Alloc alloc_laws M 𝓤 𝓛 𝓜 𝓡) glue) z
+    (passed 𝓡.env (code.calls-std_heap::GlobalAllocator::allocate 𝓡.env wired) (code.calls-std_heap::GlobalAllocator::deallocate 𝓡.env wired) (code.calls-std_heap::GlobalAllocator::grow 𝓡.env wired) (code.calls-std_heap::GlobalAllocator::shrink 𝓡.env wired) M 𝓤 𝓛 𝓜 𝓡)
+    (glues "shared_string::Destruct++none::drop" 𝓡.env (code.calls-shared_string::Destruct++none::drop 𝓡.env wired) Alloc alloc_laws M 𝓤 𝓛 𝓜 𝓡) glue) z
     (and_then ! (get ! refl) (no_more !)) (λ u.
     use1 𝓛 (later (some (λ (r : Ptr). ((‵ (flft κ qs.0) ⊛ ‵ (flft [] full_share) ⊛ ‵ ftrue) ⊛ ‵ (RawPtr.own_val r (u ∷ []))) ⊛ some (λ (ls : Lasts Ended z.0.0 z.0.3).
-        ‵ (lasts Ended z.0.0 z.0.3 ls) ⊛ (‵ (lies_at R full_share r d.value) ⊛ ‵ (heap.ghosts.dealloc_token d.alloc (bare (lone R.mir)) r)))))) (id⊢ 𝓤 (G.post z u)) $
+    ‵ (lasts Ended z.0.0 z.0.3 ls) ⊛ (‵ (lies_at R full_share r d.value) ⊛ ‵ (heap.ghosts.dealloc_token d.alloc (bare (lone R.mir)) r)))))) (id⊢ 𝓤 (G.post z u)) $
     await ! tt $ pick ! (λ r. split ! $ move ! (1 ∷ []) $ pick ! (λ _. split ! $ drop ! $ split ! $ move ! (2 ∷ []) $ split ! $ split ! $ move ! (2 ∷ []) $ feq_l ! (λ is.
     -- [the tokens, in two; the value; the right to free its block]
-    lands_as ! (ap only is) refl (ptr_typed r) $ sets ! (agg ! (and_then ! (get ! refl) (no_more !))) refl (word_typed r) $
+    lands_as ! (ap only is) refl (Ptr-Good r) $ sets ! (agg ! (and_then ! (get ! refl) (no_more !))) refl (word-Good [] r) $
     move ! (3 ∷ []) $ fpack ! Global (λ h. heap.ghosts.dealloc_token h (bare (lone R.mir)) r) d.alloc $ move ! (3 ∷ 0 ∷ []) $ fjoin ! $ word_made ! r $ fjoin ! $
     returns ! (look_at ! 0 refl) $ free_all ! refl $ suffices ! _ (ends_at 𝓛 E hs c y (word r) (record { at = r; value = d.value }) (tt, tt) (tt, tt)) $ says ! refl $
     nothing ! $ nothing ! $ fjoin ! $ join ! $ nothing ! $ move ! (2 ∷ 0 ∷ []) $ join ! $ move ! (0 ∷ 1 ∷ []) $ join ! $ keep ! (0 ∷ []) $ done !)))))))

@@ -1,17 +1,5 @@
 -- `first` lends the text to its owners, of which there is one.
-use Rattle.std.proofs.Common.{◌≡◌, ℕ, [], ◌∷◌, refl, sym}
-use Rattle.std.proofs.raw_atomic.Walks.{proved}
-use base.Fml.{ftrue}
-use types.Kit.{‵, raw, ◌⊛◌, later, await, ◌$◌, ◌∵◌, !, qed, keep, drop, split, join, rewrite, fsplit, fjoin, suffices, done, use1, use2, move}
-use types.Run.{stop, fld, of_opd, and_then, no_more, returns, enter}
-use types.ByLocal.{alloc_all, pass_all, free_all, look_at, get, get_in, sets}
-use types.Part.{agg, sub, whole}
-use contract.Monad.{fact}
-use denote.Exit.{yes}
-use denote.RawPtr.{Ptr, block_ptr, in_a_block}
-use denote.Signature.{plain}
-use denote.Steps.{nothing, heard}
-use denote.Triple.Walked.{says, Stays, stay_dropped, walk_of, ends_at, Goes-dropped}
+use Rattle.shared_string.proofs.Steps.{word, Ptr-Good, word-Good, ◌≡◌, ℕ, [], ◌∷◌, refl, sym, proved, ftrue, ‵, raw, ◌⊛◌, later, await, ◌$◌, ◌∵◌, !, qed, keep, drop, split, join, rewrite, fsplit, fjoin, suffices, done, use1, use2, move, stop, fld, of_opd, and_then, no_more, returns, enter, alloc_all, pass_all, free_all, look_at, get, get_in, sets, agg, sub, whole, fact, yes, Ptr, block_ptr, in_a_block, plain, nothing, heard, says, Stays, stay_dropped, walk_of, ends_at, Goes-dropped}
 use Rattle.shared_string.specs.contracts.block.Shared as shared
 use Rattle.shared_string.specs.contracts.block.Whole as block
 use Rattle.shared_string.proofs.block.Whole.TheLaws as laws
@@ -20,7 +8,7 @@ use Rattle.shared_string.specs.Whole.{whole_owns}
 use Rattle.shared_string.specs.Ownership.{Text, counts, loan, owner_owns}
 use Rattle.shared_string.proofs.Fields.{cut}
 use Rattle.shared_string.proofs.Owners.{begins}
-use Rattle.shared_string.proofs.Walks.{not_null, word, ptr_typed, word_typed, word_made}
+use Rattle.shared_string.proofs.Walks.{not_null, word_made}
 use Rattle.shared_string.specs.contracts.owner.Owner.first as f
 use Rattle.shared_string.proofs.owner.Owner.first.Statement.{statement}
 use Rattle.shared_string.proofs.owner.Owner.first.Code as code
@@ -40,9 +28,9 @@ first_spec 𝓤 𝓛 𝓜 𝓡 wired =
     move ! (1 ∷ []) $ heard ! _ (λ one. split ! $ drop ! $ split ! $ fsplit ! $ keep ! (1 ∷ []) $
     in_a_block ! p (λ q. whole_owns shared.the_row q a.0.value) (not_null 𝓛 shared.the_row a.0.value) (λ b o e.
     use1 𝓛 (‵ (counts (block_ptr b o) x n) ⊛ ‵ (loan (block_ptr b o) x)) (cut 𝓛 n x b o) $ split ! $ rewrite ! 0 (λ (k : ℕ). ‵ (counts (block_ptr b o) x k)) one refl $
-    enter ! _ _ _ _ _ $ alloc_all ! (λ l. pass_all ! refl (word_typed p, tt) $
+    enter ! _ _ _ _ _ $ alloc_all ! (λ l. pass_all ! refl (word-Good [] p, tt) $
     use2 𝓛 (later (‵ (owner_owns (block_ptr b o) x))) (begins (block_ptr b o) x 𝓛) $ await ! tt $ rewrite ! 0 (λ (q : Ptr). ‵ (owner_owns q x)) (sym e) refl $
-    sets ! (of_opd ! (get_in ! (fld ! refl (stop !)) (sub ! 0 refl (whole !)))) refl (ptr_typed p) $
-    sets ! (agg ! (and_then ! (get ! refl) (no_more !))) refl (word_typed p) $ word_made ! p $ fjoin ! $ returns ! (look_at ! 0 refl) $ free_all ! refl $
+    sets ! (of_opd ! (get_in ! (fld ! refl (stop !)) (sub ! 0 refl (whole !)))) refl (Ptr-Good p) $
+    sets ! (agg ! (and_then ! (get ! refl) (no_more !))) refl (word-Good [] p) $ word_made ! p $ fjoin ! $ returns ! (look_at ! 0 refl) $ free_all ! refl $
     suffices ! _ (ends_at 𝓛 f.ended stayed c y (word p) (record { at = p; text = x }) (tt, tt) (tt, tt)) $ says ! refl $
     nothing ! $ nothing ! $ fjoin ! $ join ! $ nothing ! $ join ! $ done !))))

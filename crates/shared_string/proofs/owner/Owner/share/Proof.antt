@@ -1,34 +1,10 @@
 -- `share` counts one owner more, or finds the count full.
-use Rattle.std.proofs.Common.{◌≡◌, ℕ, ◌+◌, ◌^◌, ◌<◌, Bool, [], ◌∷◌, refl, sym, ap, arith, ltb→lt, nltb→le, w64}
-use mir.Val.{vptr, vint}
-use mir.Syntax.{named, ty_ptr, ty_int}
+use Rattle.shared_string.proofs.Steps.{word, word-Good, ◌≡◌, ℕ, ◌+◌, ◌^◌, ◌<◌, Bool, [], ◌∷◌, refl, sym, ap, arith, ltb→lt, nltb→le, w64, vptr, vint, named, ty_ptr, ty_int, never, id⊢, full_share, Lft, Share, Fml, ftrue, fat, flft, fobor, fex, ftok, every, Sq, runs, ‵, raw, ◌⊛◌, some, later, await, pick, at_ret, ◌$◌, ◌∵◌, !, qed, move, keep, drop, split, split3, join, rewrite, fsplit, fsplit3, fjoin, fpick, suffices, frame, done, use1, use2, use3, group, look, stop, fld, of_opd, load, store, bin, lit, neg_lit, and_then, no_more, first, blocks, branches, skips, exec, returns, enter, well_typed, assigns_last, alloc_all, pass_all, free_all, look_at, get, through, sets, is, env, holding, forget_but, agg, na_inv, na_inv_dup, rest, shr_bor-open, obor_close, tokens_halve, RefOf, usize, yes, part_at, uint_in, uint_out, Shut, Ptr, RawPtr, ptr_val, block_ptr, in_a_block, lies_at, ◌+ₚ◌, ShrRef, shr_vals, shr_Tells, plain, nothing, says, Stays, stay_dropped, ends_at, Goes-dropped}
 use base.Share
-use base.Logic.{never, id⊢}
-use base.Fraction.{full_share}
-use base.Fml.{Lft, Share, Fml, ftrue, fat, flft, fobor, fex, ftok}
-use base.Mask.{every}
-use types.Kit.{Sq, runs, ‵, raw, ◌⊛◌, some, later, await, pick, at_ret, ◌$◌, ◌∵◌, !, qed, move, keep, drop, split, split3, join, rewrite, fsplit, fsplit3, fjoin, fpick, suffices, frame, done, use1, use2, use3, group}
-use types.Run.{look, stop, fld, of_opd, load, store, bin, lit, neg_lit, and_then, no_more, first, blocks, branches, skips, exec, returns, enter, well_typed, assigns_last}
-use types.ByLocal.{alloc_all, pass_all, free_all, look_at, get, through, sets, is, env, holding, forget_but}
-use types.Part.{agg}
-use types.Na.{na_inv, na_inv_dup}
-use types.RcWeak.{rest}
-use types.Tokens.{shr_bor-open, obor_close}
-use types.Within.{tokens_halve}
-use denote.Builtin.{RefOf, usize}
-use denote.Exit.{yes}
-use denote.Memory.{part_at}
-use denote.Plain.{uint_in, uint_out}
-use denote.Opens.{Shut}
-use denote.RawPtr.{Ptr, RawPtr, ptr_val, block_ptr, in_a_block, lies_at, ◌+ₚ◌}
-use denote.Ref.{ShrRef, shr_vals, shr_Tells}
-use denote.Signature.{plain}
-use denote.Steps.{nothing}
-use denote.Triple.Walked.{says, Stays, stay_dropped, ends_at, Goes-dropped}
 use Rattle.shared_string.specs.Ownership.{Text, most, stage, holds, sees, key, shared, counted}
 use Rattle.shared_string.proofs.Counting.{rises, stays_full}
 use Rattle.shared_string.proofs.Owners.{Shuts, opens, shuts}
-use Rattle.shared_string.proofs.Walks.{word, word_typed, pointer_out, pointer_back, owner_seen, owner_made, held, W, proved_holding}
+use Rattle.shared_string.proofs.Walks.{pointer_out, pointer_back, owner_seen, owner_made, held, W, proved_holding}
 use Rattle.shared_string.specs.contracts.owner.Owner.{the_row}
 use Rattle.shared_string.specs.contracts.owner.Owner.share as f
 use Rattle.shared_string.proofs.owner.Owner.share.Statement.{statement}
@@ -62,12 +38,12 @@ share_spec 𝓤 𝓛 𝓜 𝓡 wired =
     -- [the count; the right; the stage; the other parts; the share; what shuts; the invariant; the open borrow; what is seen; the pointer; its way back]
     let En = env code.Mir.locals l in
     let finish : Sq 𝓛 (‵ (ftok every) ∷ ‵ (holds a) ∷ ‵ (flft ν r) ∷ ‵ I ∷ ‵ (fobor κ (Share.right q) (flft ν r)) ∷ ‵ (sees p x ν) ∷ ‵ (fat s ty_ptr b (o + 0) (vptr b' o')) ∷ Shut 𝓛 κ (Share.left q) (part_at RawPtr s p b (o + 0))
-        ∷ holding 𝓛 En ((1, vptr b o) ∷ (2, vptr b' o') ∷ [])) (runs C Λ En code.Mir.t-3 (at_ret En ((W 𝓛 f.ended stayed c).post y))) =
-        move ! (4 ∷ 2 ∷ []) $ obor_close ! tt $ drop ! $ rewrite ! 5 (λ (c' : Ptr). ‵ (fat s ty_ptr b (o + 0) (ptr_val c'))) (sym e) refl $ move ! (5 ∷ 6 ∷ []) $ pointer_back ! tt p b (o + 0) $
-        use2 𝓛 (‵ (flft κ q)) (𝓛.lfts.lft_join κ q) $ move ! (2 ∷ 3 ∷ 4 ∷ []) $ owner_made ! p x a $
-        sets ! (is ! (agg ! (and_then ! (get ! refl) (no_more !))) (ap word (sym e))) refl (word_typed p) $ returns ! (look_at ! 0 refl) $ free_all ! refl $
-        suffices ! _ (ends_at 𝓛 f.ended stayed (held 𝓛 f.ended stayed c) y (word p) (record { at = p; text = x }) (tt, tt) (tt, tt)) $
-        nothing ! $ nothing ! $ fjoin ! $ join ! $ nothing ! $ move ! (2 ∷ 0 ∷ 1 ∷ []) $ join ! $ join ! $ frame ! $ says ! refl $ done ! in
+    ∷ holding 𝓛 En ((1, vptr b o) ∷ (2, vptr b' o') ∷ [])) (runs C Λ En code.Mir.t-3 (at_ret En ((W 𝓛 f.ended stayed c).post y))) =
+    move ! (4 ∷ 2 ∷ []) $ obor_close ! tt $ drop ! $ rewrite ! 5 (λ (c' : Ptr). ‵ (fat s ty_ptr b (o + 0) (ptr_val c'))) (sym e) refl $ move ! (5 ∷ 6 ∷ []) $ pointer_back ! tt p b (o + 0) $
+    use2 𝓛 (‵ (flft κ q)) (𝓛.lfts.lft_join κ q) $ move ! (2 ∷ 3 ∷ 4 ∷ []) $ owner_made ! p x a $
+    sets ! (is ! (agg ! (and_then ! (get ! refl) (no_more !))) (ap word (sym e))) refl (word-Good [] p) $ returns ! (look_at ! 0 refl) $ free_all ! refl $
+    suffices ! _ (ends_at 𝓛 f.ended stayed (held 𝓛 f.ended stayed c) y (word p) (record { at = p; text = x }) (tt, tt) (tt, tt)) $
+    nothing ! $ nothing ! $ fjoin ! $ join ! $ nothing ! $ move ! (2 ∷ 0 ∷ 1 ∷ []) $ join ! $ join ! $ frame ! $ says ! refl $ done ! in
     rewrite ! 9 (λ (c' : Ptr). ‵ (fat s ty_ptr b (o + 0) (ptr_val c'))) e refl $
     sets ! (of_opd ! (load ! (through ! refl (fld ! refl (stop !))) (look ! 9 refl))) refl (tt, tt) $ first ! $ blocks ! $
     sets ! (of_opd ! (load ! (through ! refl (fld ! refl (stop !))) (look ! 0 refl))) refl ok $

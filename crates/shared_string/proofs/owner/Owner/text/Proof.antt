@@ -1,24 +1,5 @@
 -- `text` follows the pointer to the text, which every owner sees.
-use Rattle.std.proofs.Common.{◌+◌, List, [], ◌∷◌, refl, sym}
-use Rattle.std.proofs.raw_atomic.Walks.{proved}
-use mir.Val.{Val, vptr}
-use mir.Syntax.{named, ty_ptr}
-use base.Logic.{never, fst∗}
-use base.Fml.{ftrue, fat, flft}
-use types.Logic.{sem}
-use types.Kit.{‵, ◌⊛◌, at_ret, ◌$◌, ◌∵◌, !, qed, move, keep, drop, split, join, rewrite, fsplit, fjoin, feq_i, suffices, frame, done, use1}
-use types.Run.{look, stop, hop, fld, of_opd, addr, first, blocks, exec, returns, enter}
-use types.ByLocal.{alloc_all, pass_all, free_all, look_at, get, through, sets, sets_last, env}
-use contract.Running.{tables}
-use denote.Exit.{yes}
-use denote.Builtin.{RefOf}
-use denote.Ref.{ShrRef, shr_vals, shr_Tells}
-use denote.Signature.{plain}
-use denote.Triple.Walked.{says, Stays, stay_dropped, walk_of, ends_at, Goes-dropped}
-use denote.RawPtr.{Ptr, ptr_val, in_a_block}
-use denote.Memory.{shared_of}
-use denote.Opens.{hide}
-use denote.Steps.{nothing}
+use Rattle.shared_string.proofs.Steps.{◌+◌, List, [], ◌∷◌, refl, sym, proved, Val, vptr, named, ty_ptr, never, fst∗, ftrue, fat, flft, sem, ‵, ◌⊛◌, at_ret, ◌$◌, ◌∵◌, !, qed, move, keep, drop, split, join, rewrite, fsplit, fjoin, feq_i, suffices, frame, done, use1, look, stop, hop, fld, of_opd, addr, first, blocks, exec, returns, enter, alloc_all, pass_all, free_all, look_at, get, through, sets, sets_last, env, tables, yes, RefOf, ShrRef, shr_vals, shr_Tells, plain, says, Stays, stay_dropped, walk_of, ends_at, Goes-dropped, Ptr, ptr_val, in_a_block, shared_of, hide, nothing}
 use Rattle.shared_string.specs.Ownership.{text_row, sees}
 use Rattle.shared_string.proofs.Lending.{seen_by}
 use Rattle.shared_string.proofs.Walks.{pointer_out, pointer_back, owner_seen}
