@@ -27,12 +27,14 @@ module _ {M : Type 1} {𝓤 : Ura M} (𝓛 : Logic 𝓤) (n : ℕ) (x : Text) (b
   abbrev c : Ptr
   c = block_ptr b o
 
+  -- a block comes apart into the count and what is lent
   pub cut : ent 𝓤 (sem 𝓛 (whole_owns shared_row c block)) (sep 𝓤 (sem 𝓛 (counts c x n)) (sem 𝓛 (loan c x)))
   unfolding part_of
   cut = qed 𝓛 (‵ (whole_owns shared_row c block) ∷ []) ∵ fsplit ! $
       use1 𝓛 (‵ (parts_at full_share fields 0 (n, (x, tt)) b o) ⊛ ‵ (left_of c)) (Struct-left 𝓛 full_share [] fields (lawful_Lones 𝓛 fields lawfuls) (n, (x, tt)) b o) $ split ! $
       fsplit ! $ move ! (1 ∷ []) $ fsplit ! $ move ! (3 ∷ 4 ∷ []) $ fjoin ! $ move ! (1 ∷ 0 ∷ []) $ fjoin ! $ move ! (2 ∷ 0 ∷ []) $ keep ! (0 ∷ 1 ∷ []) $ done !
 
+  -- and together again
   pub joined : ent 𝓤 (sep 𝓤 (sem 𝓛 (counts c x n)) (sem 𝓛 (loan c x))) (sem 𝓛 (whole_owns shared_row c block))
   unfolding part_of
   joined = qed 𝓛 (‵ (counts c x n) ∷ ‵ (loan c x) ∷ []) ∵ move ! (1 ∷ []) $ fsplit ! $ move ! (1 ∷ []) $ fsplit ! $ nothing ! $ move ! (3 ∷ 0 ∷ []) $ fjoin ! $ move ! (3 ∷ 0 ∷ []) $ fjoin ! $ move ! (0 ∷ 1 ∷ []) $

@@ -1,11 +1,10 @@
 -- Steps that the walks share. Assumes `Logic`.
-use Rattle.std.proofs.Common.{◌≡◌, ℕ, ◌+◌, Bool, true, false, ◌&&◌, List, [], ◌∷◌, T, not, eqb, T_not, refl, sym, subst, lit<}
-use lib.Dec.{eqb_refl}
+use Rattle.std.proofs.Common.{ℕ, ◌+◌, List, [], ◌∷◌, T, refl, subst}
 use seplogic.Ra.Ura.{Ura}
-use mir.Syntax.{Fn, Callee, Ty, ty_ptr, ty_struct, tcons, tnil}
+use mir.Syntax.{Fn, Callee, ty_ptr}
 use mir.Raw.{raw}
-use mir.Val.{Val, vstruct, vcons, vnil, has_ty, WT}
-use base.Fml.{Lft, Share, Fml, fat, flft}
+use mir.Val.{Val, has_ty, WT}
+use base.Fml.{Lft, Share, fat, flft}
 use base.Logic.{ent, sep, never, fst∗}
 use base.Mask.{every}
 use prog.Model.{Model}
@@ -20,10 +19,14 @@ use types.Logic.{Logic, sem}
 use types.Kit.{Goal, Soaks, Seq, Step, step, Item, ‵, ◌$◌, move, drop, rewrite, fsplit, fjoin, fjoin3, fpack, feq_l, feq_i}
 use types.Na.{na_inv}
 use denote.Laws.{Spells, Tellss, Ises, valss}
-use denote.Memory.{lone}
-use denote.RattleType.{RattleType, Valss, flat, owns}
+use denote.Copied.{plain_Copied}
+use denote.Memory.{lone, cell_at, part_at, hidden_shr}
+use denote.Opens.{Shut, hide, unhide}
+use denote.RawPtr.{Ptr, null_ptr, RawPtr, coded_ptr, ptr_own, rawptr_pure, ptr_val}
+use denote.RattleType.{RattleType, Valss, flat}
 use denote.Signature.{Signature, types_at}
-use denote.Steps.{nothing}
+use denote.Steps.{nothing, looks, shuts}
+use denote.Struct.Laws.{RawPtr-laws}
 use denote.Struct.Struct.{Shape, Struct, within}
 use denote.Triple.Clauses.{Ended, Clauses, closing}
 use denote.Triple.Entry.{Args, on_entry}
@@ -32,12 +35,6 @@ use denote.Triple.Spec.{Meets, triple_of}
 use denote.Triple.Statement.{Contract}
 use denote.Triple.Table.{entered}
 use denote.Triple.Walked.{Stays, AllGo, walk_of, walked, walk_Meets}
-use denote.Copied.{plain_Copied}
-use denote.Memory.{cell_at, part_at, hidden_shr}
-use denote.Opens.{Shut, hide, unhide}
-use denote.RawPtr.{Ptr, block_ptr, null_ptr, RawPtr, coded_ptr, ptr_own, rawptr_pure, ptr_val}
-use denote.Steps.{looks, shuts}
-use denote.Struct.Laws.{RawPtr-laws}
 use Rattle.std.proofs.RcSteps.{word}
 use Rattle.std.specs.contracts.alloc.Global.{the_row as global_row}
 use Rattle.std.proofs.alloc.Global.TheLaws as global
@@ -52,9 +49,11 @@ one_pointer = record { name = []; args = []; types = []; fields = RawPtr ∷ [] 
 abbrev pub Word : RattleType
 Word = Struct one_pointer
 
+-- a handle of the heap is a value of its type
 pub global_typed : (g : (global_row).Denot) → T (has_ty global.mir (global.lowered g)) × WT (global.lowered g)
 global_typed g = (tt, ((tt, tt), tt))
 
+-- nothing is owned at the null pointer
 pub not_null : {M : Type 1} {𝓤 : Ura M} (𝓛 : Logic 𝓤) (R : RattleType) (x : R.Denot) → ent 𝓤 (sem 𝓛 (whole_owns R null_ptr x)) (never 𝓤)
 not_null {𝓤 = 𝓤} 𝓛 R x = fst∗ 𝓤 (never 𝓤) (sem 𝓛 (may_free (raw (lone R.mir)) null_ptr))
 
@@ -81,6 +80,7 @@ module _ {M : Type 1} {𝓤 : Ura M} {𝓛 : Logic 𝓤} {K : Type 0} {Γ : List
       fpack t (Valss (RawPtr ∷ [])) (within one_pointer (c, tt) (word c ∷ [])) (ptr_val c ∷ [], tt) $ k)
 
 module _ {M : Type 1} {𝓤 : Ura M} {𝓛 : Logic 𝓤} {K : Type 0} {Γ : List (Item 𝓤)} {G : Goal 𝓤 𝓛.H} where
+  -- an owner by value
   pub owner_made : K → (c : Ptr) (x : Text) (a : Times)
       → Step K 𝓛 (‵ ((the_row).own_val (record { at = c; text = x }) (word c ∷ [])) ∷ Γ) G (‵ (holds a) ∷ ‵ (na_inv (key c x) (shared c x a)) ∷ ‵ (sees c x (a.0 ∷ [])) ∷ Γ) G
   owner_made t c x a = step (λ k. fjoin3 t $ fpack t Times (owner c x) a $ word_made t c $ fjoin t $ k)
