@@ -10,28 +10,23 @@ ghost use Rattle.std.specs.Cmp.Lexicographic.{bytes_decides, pointwise, slice_cm
 ghost use Rattle.std.specs.Cmp.{partial_equiv_from_equiv};
 
 use crate::stop::Memory;
+use shared_string::SharedString;
 use std::alloc::{AllocError, Global};
 use std::cmp::Ordering;
 use std::fmt;
 use std::hash::{Hash, Hasher};
 use std::marker::Model;
 
-/// A shared text, seen as its list of code points. The memory of a text is not given back yet.
+/// A shared text, seen as its list of code points. Its memory is given back as that of a `SharedString`.
 #[derive(Drop)]
 pub struct Text {
-    at: &'static String,
+    shared: SharedString,
 }
 
 impl Model for Text {
     ghost Value = { List ℕ };
 
-    ghost view = { λ t. chars (string_bytes t.at.now) };
-}
-
-fn forever(owned: Box<String>) -> &'static String
-    ensures { result.now ≡ owned.value }
-{
-    Box::leak(owned)
+    ghost view = { λ t. t.shared };
 }
 
 impl Text {
@@ -39,14 +34,9 @@ impl Text {
     pub fn new(alloc: Global, text: &str) -> Result<Text, Memory>
         ensures { IfOk result (λ t. t ≡ chars text.now) }
     {
-        let owned = String::from_str(alloc, text)?;
-        match Box::new(alloc, owned) {
-            Ok(owned) => {
-                let at = forever(owned);
-                Ok(Text { at })
-            }
-            Err(_) => Err(Memory),
-        }
+        Ok(Text {
+            shared: SharedString::new(alloc, text)?,
+        })
     }
 
     /// The text as it is read. Takes no memory.
@@ -61,13 +51,15 @@ impl Text {
     pub fn share(&self) -> Text
         ensures { result ≡ self.now }
     {
-        Text { at: self.at }
+        Text {
+            shared: self.shared.share(),
+        }
     }
 
     fn text(&self) -> &String
         ensures { chars (string_bytes result.now) ≡ self.now }
     {
-        self.at
+        self.shared.as_string()
     }
 }
 
