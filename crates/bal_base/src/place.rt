@@ -40,3 +40,6 @@ fn after(before: &str) -> (u32, u32)
     }
     (line, column)
 }
+
+#[cfg(test)]
+mod tests;

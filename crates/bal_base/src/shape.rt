@@ -87,4 +87,6 @@ impl Graph {
     }
 }
 
+#[cfg(test)]
+mod tests;
 mod valid;

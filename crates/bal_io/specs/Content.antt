@@ -1,9 +1,9 @@
 -- What the calls on the outside say of content, where an object tells it.
-use Rattle.std.specs.Prelude.{◌≡◌, ◌<◌, ◌≤◌, ◌+◌, ◌-◌, ◌==◌, ◌++◌, ◌⊎◌, ⊤, ℕ, List, [], Option, Some, None, Bool, true, false, IfSome, length, map, slice_get, slice_index, nat_lt, take, drop, if◌then◌else◌, ◌&&◌}
+use Rattle.std.specs.Prelude.{◌≡◌, ◌<◌, ◌≤◌, ◌-◌, ◌==◌, ◌++◌, ◌⊎◌, ⊤, ℕ, List, [], Option, Some, None, Bool, true, false, IfSome, length, map, slice_get, slice_index, nat_lt, take, drop, if◌then◌else◌, ◌&&◌}
 use Rattle.std.specs.List.{before_first, after_first}
 use Rattle.bal_io.specs.declared.outside.Line.{Line}
 
-abbrev is_line_feed : ℕ → Bool
+abbrev pub is_line_feed : ℕ → Bool
 is_line_feed b = b == 10
 
 -- a relation of what is told before a call and after it; an object goes on telling or not telling
@@ -42,14 +42,16 @@ LosesFront old new = (front : List ℕ) × (front ++ new ≡ old)
 abbrev pub first_line : List ℕ → List ℕ
 first_line rest = before_first is_line_feed rest
 
--- the same without a carriage return just before the line feed
+-- a line without a carriage return at its end
+abbrev pub without_return : List ℕ → List ℕ
+without_return line =
+    let size = length line in
+    if nat_lt 0 size && (slice_index line (size - 1) == 13) then take (size - 1) line else line
+
+-- the first line as it is given: a carriage return is left out only where a line feed follows it
 abbrev pub line_text : List ℕ → List ℕ
 line_text rest =
-    let line = first_line rest in
-    let size = length line in
-    if nat_lt size (length rest) && nat_lt 0 size && (slice_index line (size - 1) == 13)
-    then take (size - 1) line
-    else line
+    if nat_lt (length (first_line rest)) (length rest) then without_return (first_line rest) else rest
 
 -- a line that fits is given whole, and its line feed is taken with it
 abbrev pub GivesWhole : ℕ → Line → List ℕ → List ℕ → Type 0
@@ -61,7 +63,11 @@ abbrev pub GivesCut : ℕ → Line → List ℕ → List ℕ → Type 0
 GivesCut max line old new =
     (max < length (first_line old)) × (line.whole ≡ false) × (line.bytes ≡ take max old) × (new ≡ drop max old)
 
+-- a line that is given of the rest, and what is left after it
+abbrev pub GivesLine : ℕ → Line → List ℕ → List ℕ → Type 0
+GivesLine max line old new = GivesWhole max line old new ⊎ GivesCut max line old new
+
 -- what a call for the next line gives of the rest, and what it leaves
 abbrev pub ReadsLine : ℕ → Option Line → List ℕ → List ℕ → Type 0
 ReadsLine max None old new = (old ≡ []) × (new ≡ [])
-ReadsLine max (Some line) old new = (0 < length old) × (GivesWhole max line old new ⊎ GivesCut max line old new)
+ReadsLine max (Some line) old new = (0 < length old) × GivesLine max line old new

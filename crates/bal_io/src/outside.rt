@@ -58,6 +58,7 @@ pub trait Source {
     fn read_line(&mut self, alloc: Global, max: u64) -> Result<Option<Line>, Stop<Failed>>
         ensures faults { CountsFaults (faults self.old) (faults self.new) result }
         ensures line { IfOk result (λ line. Told (ReadsLine max line) (rest self.old) (rest self.new)) }
+        ensures bound { IfOk result (λ line. IfSome line (λ l. length l.bytes ≤ max)) }
         ensures err { OnErr result (Told LosesFront (rest self.old) (rest self.new)) };
 }
 

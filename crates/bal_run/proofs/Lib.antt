@@ -1,6 +1,14 @@
+pub mod Executed
+pub mod Mains
 pub mod Moves
+pub mod ReadingFile
+pub mod ReadingLexeme
+pub mod ReadingLiteral
+pub mod ReadingStatement
+pub mod ReadingSum
 pub mod Simulation
 pub mod Stands
 pub mod Steps
 pub mod Sums
+pub mod Telling
 pub mod Way

@@ -4,14 +4,14 @@ use Rattle.std.specs.Prelude.{IsSomeAnd, slice_get}
 use Rattle.std.proofs.lemmas.Option.{slice_get_within}
 use Rattle.bal_base.specs.End.{End}
 use Rattle.bal_io.specs.Content.{Told, Appends, IsPrefixOf}
-use Rattle.bal_run.specs.Running.{Leads}
+use Rattle.bal_run.specs.Running.{Leads, Comes}
 use Rattle.stack_code.specs.declared.code.Code.{Code}
 use Rattle.stack_code.specs.declared.instr.Constant.{Constant}
 use Rattle.stack_code.specs.declared.instr.Instr.{Instr}
 use Rattle.stack_code.specs.declared.instr.Instr.TheVariants.{Tick, Const, Add, Mul, Native, Pop, Return}
 use Rattle.stack_code.specs.declared.value.Value.{Value}
 use Rattle.stack_code.specs.declared.value.Value.TheVariants.{Nil, Int}
-use Rattle.stack_code.specs.Machine.{State, On, Ends, Computes, PrintsLine, Drops, Leaves, Does, Step, Then, RunsFrom, CodeRuns, IsStart, went, value_of, text_of}
+use Rattle.stack_code.specs.Machine.{State, Next, On, Ends, Computes, PrintsLine, Drops, Leaves, Does, Step, Then, RunsFrom, CodeRuns, IsStart, went, value_of, text_of}
 use Rattle.bal_run.proofs.Simulation.{start-one}
 use Rattle.bal_run.proofs.Steps.{Step-one}
 
@@ -106,3 +106,14 @@ told-front xs o None None (Some c) p q = absurd q
 
 pub step-counted : (n : ℕ) → (n % 2 ^ 64 + 1) % 2 ^ 64 ≡ suc n % 2 ^ 64
 step-counted n = omega arith
+
+pub comes-on : (code : Code) (n : ℕ) (s t : State) → Leads code n s t → Comes code n s (On t)
+comes-on code zero s t l = ap On l
+comes-on code (suc n) s t (u, h, l) = by n s u t h l
+  where
+    by : (n : ℕ) (s u t : State) → Step code s (On u) → Leads code n u t → (v : State) × Leads code n s v × Step code v (On t)
+    by zero s u t h l = (s, refl, subst (λ x. Step code s (On x)) (sym l) h)
+    by (suc n) s u t h (x, k, l) = let r = by n u x t k l in (r.0, (u, h, r.1), r.2)
+
+pub comes-last : (code : Code) (n : ℕ) (s t : State) (next : Next) → Leads code n s t → Step code t next → Comes code (suc n) s next
+comes-last code n s t next l h = (t, l, h)

@@ -8,12 +8,11 @@ use Rattle.bal_run.specs.declared.machine.Ending.TheVariants.{Returned as Return
 use Rattle.bal_run.specs.declared.machine.Effect.{Effect}
 use Rattle.bal_run.specs.declared.machine.Effect.TheVariants.{Moved, Prints, Ended}
 use Rattle.bal_run.specs.declared.machine.Machine.{Machine}
-use Rattle.bal_run.specs.declared.machine.Ran.{Ran}
 use Rattle.stack_code.specs.declared.code.Code.{Code}
 use Rattle.stack_code.specs.declared.instr.Instr.{Instr}
 use Rattle.stack_code.specs.declared.value.Value.{Value}
 use Rattle.stack_code.specs.declared.value.Value.TheVariants.{Int, Nil}
-use Rattle.stack_code.specs.Machine.{State, Next, On, Ends, Does, Step, RunsFrom, CodeRuns, text_of}
+use Rattle.stack_code.specs.Machine.{State, Next, On, Ends, Does, Step, RunsFrom, CodeRuns, IsStart, text_of}
 
 -- ---- runs
 
@@ -21,6 +20,11 @@ use Rattle.stack_code.specs.Machine.{State, Next, On, Ends, Does, Step, RunsFrom
 abbrev pub Leads : Code → ℕ → State → State → Type 0
 Leads code zero s t = t ≡ s
 Leads code (suc n) s t = (u : State) × Step code s (On u) × Leads code n u t
+
+-- so many steps lead from the state to what comes next: a state, or the end
+abbrev pub Comes : Code → ℕ → State → Next → Type 0
+Comes code zero s next = next ≡ On s
+Comes code (suc n) s next = (t : State) × Leads code n s t × Step code t next
 
 -- the code has a run that comes to an end
 abbrev pub HasRun : Code → Type 0
@@ -30,10 +34,14 @@ abbrev pub end_of : Ending → End
 end_of ReturnedEnding = Returned
 end_of Overflowed = Panicked number_overflow
 
--- the run that was made is one of the code, and what the output gained is what the run writes
-abbrev pub Made : Code → Ran → Option (List ℕ) → Option (List ℕ) → Type 0
-Made code ran old new =
-    (n : ℕ) × (output : List ℕ) × CodeRuns code n output (end_of ran.ending) × (ran.steps ≡ n % 2 ^ 64) × Told (Appends output) old new
+-- a run of the code with this end and so many steps, modulo 2 to the power 64, was made, and what the output gained is what it writes
+abbrev pub Made : Code → Ending → ℕ → Option (List ℕ) → Option (List ℕ) → Type 0
+Made code ending steps old new =
+    (n : ℕ) × (output : List ℕ) × CodeRuns code n output (end_of ending) × (steps ≡ n % 2 ^ 64) × Told (Appends output) old new
+
+-- so many steps of a run of the code were made, modulo 2 to the power 64
+abbrev pub MadeSteps : Code → ℕ → Type 0
+MadeSteps code steps = (n : ℕ) × (start : State) × (next : Next) × IsStart code start × Comes code n start next × (steps ≡ n % 2 ^ 64)
 
 -- what the output gained is a front of what each run of the code writes
 abbrev pub WroteFront : Code → Option (List ℕ) → Option (List ℕ) → Type 0

@@ -1,5 +1,21 @@
 //! The top call: from a folder's bytes to output bytes.
+//!
+//! - [`bal_run`] compiles a folder and runs it. It answers with a [`Run`], which keeps what was [`Built`].
+//! - [`Status`] and [`status_number`]: how a call ended, and the exit status of a program that ends so.
+//! - [`dir_of`]: the folder that the words of a command name.
+//!
+//! The layers below the call have no crates of their own yet: `reading` makes the tree of a source file,
+//! `lower` its code, `machine` runs code, and `compile` puts the first two together.
 #![tactic(auto)]
 
-pub mod lower;
-pub mod machine;
+mod compile;
+mod lower;
+mod machine;
+mod reading;
+mod status;
+mod top;
+mod words;
+
+pub use status::{Built, Run, Status, status_number};
+pub use top::bal_run;
+pub use words::dir_of;

@@ -1,7 +1,7 @@
 //! The machine: runs code.
 ghost use Rattle.std.specs.Prelude.{◌≡◌, ◌<◌, ◌∷◌, [], ◌+ℤ◌, ◌*ℤ◌, IfOk, OnErr, length, reverse};
 ghost use Rattle.bal_io.specs.Faults.{CountsFaults};
-ghost use Rattle.bal_run.specs.Running.{HasRun, Made, WroteFront, CanDo, Acts, EndsWithInt, EndsWithInts, ComputesLast, PushesOrEnds, PrintsLast, IsOnItsWay, Moves, WroteFrontFrom, shown};
+ghost use Rattle.bal_run.specs.Running.{HasRun, Made, MadeSteps, WroteFront, CanDo, Acts, EndsWithInt, EndsWithInts, ComputesLast, PushesOrEnds, PrintsLast, IsOnItsWay, Moves, WroteFrontFrom, shown};
 ghost use Rattle.stack_code.specs.Machine.{IsStart, text_of, value_of};
 ghost use Rattle.stack_code.specs.declared.instr.Instr.TheVariants.{Const};
 ghost use Rattle.stack_code.specs.declared.value.Value.TheVariants.{Int};
@@ -21,27 +21,38 @@ pub enum Ending {
     Overflowed,
 }
 
-/// The end of a run, and how many steps it made, modulo 2 to the power 64.
-#[derive(Clone, Copy, Debug, PartialEq, Eq)]
+/// What came of a run, and how many steps it made, modulo 2 to the power 64.
+#[derive(Debug, Drop)]
 pub struct Ran {
-    pub ending: Ending,
+    pub end: Result<Ending, Stop<Failed>>,
     pub steps: u64,
 }
 
 /// Runs the code to its end. Each line is written by one call, as it is printed.
-pub fn run<O: Sink>(alloc: Global, code: &Code, out: &mut O) -> Result<Ran, Stop<Failed>>
+pub fn run<O: Sink>(alloc: Global, code: &Code, out: &mut O) -> Ran
     requires { HasRun code.now }
-    ensures faults { CountsFaults (O.faults out.old) (O.faults out.new) result }
-    ensures made { IfOk result (λ ran. Made code.now ran (O.written out.old) (O.written out.new)) }
-    ensures front { OnErr result (WroteFront code.now (O.written out.old) (O.written out.new)) }
+    ensures faults { CountsFaults (O.faults out.old) (O.faults out.new) result.end }
+    ensures made { IfOk result.end (λ ending. Made code.now ending result.steps (O.written out.old) (O.written out.new)) }
+    ensures steps { MadeSteps code.now result.steps }
+    ensures front { OnErr result.end (WroteFront code.now (O.written out.old) (O.written out.new)) }
 {
     let mut machine = Machine::new(alloc, code);
     let mut steps: u64 = 0;
     loop {
-        let ended = machine.step(alloc, code, out)?;
-        steps = steps.wrapping_add(1);
-        if let Some(ending) = ended {
-            return Ok(Ran { ending, steps });
+        match machine.step(alloc, code, out) {
+            Ok(None) => steps = steps.wrapping_add(1),
+            Ok(Some(ending)) => {
+                return Ran {
+                    end: Ok(ending),
+                    steps: steps.wrapping_add(1),
+                };
+            }
+            Err(stop) => {
+                return Ran {
+                    end: Err(stop),
+                    steps,
+                };
+            }
         }
     }
 }

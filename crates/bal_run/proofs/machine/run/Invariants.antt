@@ -4,8 +4,8 @@ use Rattle.stack_code.specs.Machine.{State, IsStart}
 use Rattle.bal_run.specs.Running.{Leads, shown}
 use Rattle.bal_run.proofs.machine.run.Given as goal
 
-abbrev pub invariant-loop-machine : goal.invariant-loop-machine
-invariant-loop-machine g l =
+abbrev pub invariant-loop-steps : goal.invariant-loop-steps
+invariant-loop-steps g l =
     (n : ℕ) × (start : State) × (output : List ℕ)
     × IsStart l.code start
     × Leads l.code n start (shown l.machine output)
@@ -13,5 +13,5 @@ invariant-loop-machine g l =
     × Told (Appends output) (g.O.Sink.written l.initial.out) (g.O.Sink.written l.out)
     × (g.O.Sink.faults l.out ≡ g.O.Sink.faults l.initial.out)
 
-abbrev pub decreases-loop-machine : goal.decreases-loop-machine
-decreases-loop-machine g l = length l.code.instrs - l.machine.place
+abbrev pub decreases-loop-steps : goal.decreases-loop-steps
+decreases-loop-steps g l = length l.code.instrs - l.machine.place

@@ -1,0 +1,109 @@
+-- The search for the folder's `main.bal`.
+use Rattle.std.proofs.Common.{◌≡◌, ◌⊎◌, ℕ, ◌+◌, ◌<◌, ◌≤◌, List, length, take, Bool, true, false, Option, Some, None, refl, sym, ap, subst, ◌∙◌, ⊎_elim, arith}
+use Rattle.std.specs.Prelude.{IfSome, slice_get, map, Result, Ok, Err, Vec}
+use Rattle.std.specs.Global.{Global}
+use Rattle.std.specs.Str.{chars}
+use lib.Utf8.{encode, encodes}
+use Rattle.std.specs.Option.{option_map}
+use Rattle.std.proofs.lemmas.List.{length-take, take_all}
+use Rattle.std.proofs.lemmas.Option.{slice_get-map, slice_get_within}
+use Rattle.bal_base.specs.declared.stop.Stop.{Stop}
+use Rattle.bal_base.specs.declared.stop.Stop.TheVariants.{Memory, Fault}
+use Rattle.bal_io.specs.Content.{IsNameAt, IsFrontAt}
+use Rattle.bal_run.specs.declared.compile.LoadFault.{LoadFault}
+use Rattle.bal_run.specs.declared.compile.LoadFault.TheVariants.{Folder, NoMain, NotOfForm}
+use Rattle.bal_run.specs.declared.status.Built.{Built}
+use Rattle.bal_run.specs.Form.{FileReads}
+use Rattle.bal_run.specs.Files.{Files, Compiled, HasNoMain, IsBuiltFrom, IsFrontOfMain, IsMainAt, IsMainFile, IsSearched, main_name}
+
+abbrev pub NoneBefore : Files → ℕ → Type 0
+NoneBefore all i = (j : ℕ) → j < i → IsNameAt all j main_name → ⊥
+
+same-name : (all : Files) (i : ℕ) (name : List ℕ) → IsNameAt all i name → IsNameAt all i main_name → name ≡ main_name
+same-name all i name h k = let both : Some name ≡ Some main_name = sym h ∙ k in cc
+
+below_or : (i j : ℕ) → j < i + 1 → (j < i) ⊎ (j ≡ i)
+below_or i j lt = grind (arith, lt)
+
+pub none-more : (w v : Option Files) (i : ℕ) (name : List ℕ) → v ≡ w → IfSome w (λ all. NoneBefore all i) → IfSome w (λ all. IsNameAt all i name) → (name ≡ main_name → ⊥) → IfSome v (λ all. NoneBefore all (i + 1))
+none-more w v i name e before here other = subst (λ o. IfSome o (λ all. NoneBefore all (i + 1))) (sym e) (by w before here)
+  where
+    by : (w : Option Files) → IfSome w (λ all. NoneBefore all i) → IfSome w (λ all. IsNameAt all i name) → IfSome w (λ all. NoneBefore all (i + 1))
+    by (Some all) p q =
+        λ j lt h. ⊎_elim (λ l. p j l h) (λ s. other (same-name all i name q (subst (λ n. IsNameAt all n main_name) s h))) (below_or i j lt)
+    by None p q = tt
+
+pub found-here : (w v : Option Files) (i : ℕ) (name : List ℕ) → w ≡ v → IfSome w (λ all. NoneBefore all i) → IfSome w (λ all. IsNameAt all i name) → name ≡ main_name → IfSome v (λ all. IsSearched all (Some i))
+found-here w v i name e before here is = subst (λ o. IfSome o (λ all. IsSearched all (Some i))) e (by w before here)
+  where
+    by : (w : Option Files) → IfSome w (λ all. NoneBefore all i) → IfSome w (λ all. IsNameAt all i name) → IfSome w (λ all. IsSearched all (Some i))
+    by (Some all) p q = (subst (IsNameAt all i) is q, p)
+    by None p q = tt
+
+nowhere : (all : Files) (i : ℕ) → NoneBefore all i → length all ≤ i → HasNoMain all
+nowhere all i before past k h =
+    let at = sym (slice_get-map (λ f. f.0) all k) ∙ h in
+    before k (omega (arith, within (slice_get all k) refl at)) h
+  where
+    within : (o : Option (List ℕ × List ℕ)) → slice_get all k ≡ o → option_map (λ f. f.0) (slice_get all k) ≡ Some main_name → k < length all
+    within (Some f) e q = slice_get_within all k f e
+    within None e q = absurd (let bad : None ≡ Some main_name = sym (ap (option_map (λ f. f.0)) e) ∙ q in let no : ⊥ = cc in no)
+
+pub searched-none : (w v : Option Files) (i n : ℕ) → w ≡ v → IfSome w (λ all. NoneBefore all i) → IfSome v (λ all. n ≡ length all) → n ≤ i → IfSome v (λ all. IsSearched all None)
+searched-none w v i n e before count le = by v (subst (λ o. IfSome o (λ all. NoneBefore all i)) e before) count
+  where
+    by : (v : Option Files) → IfSome v (λ all. NoneBefore all i) → IfSome v (λ all. n ≡ length all) → IfSome v (λ all. IsSearched all None)
+    by (Some all) p q = nowhere all i p (omega (arith, q))
+    by None p q = tt
+
+-- ---- the bytes of the file
+
+whole-bytes : (all : Files) (k : ℕ) (front : List ℕ) → IsFrontAt all k 1048577 front → (bytes : List ℕ) × (slice_get (map (λ f. f.1) all) k ≡ Some bytes) × (front ≡ take 1048577 bytes)
+whole-bytes all k front h = by (slice_get all k) refl
+  where
+    by : (o : Option (List ℕ × List ℕ)) → slice_get all k ≡ o → (bytes : List ℕ) × (slice_get (map (λ f. f.1) all) k ≡ Some bytes) × (front ≡ take 1048577 bytes)
+    by (Some f) e =
+        let both : Some front ≡ Some (take 1048577 f.1) = sym h ∙ (slice_get-map (λ g. take 1048577 g.1) all k ∙ ap (option_map (λ g. take 1048577 g.1)) e) in
+        (f.1, slice_get-map (λ g. g.1) all k ∙ ap (option_map (λ g. g.1)) e, (let same : front ≡ take 1048577 f.1 = cc in same))
+    by None e =
+        absurd (let bad : Some front ≡ None = sym h ∙ (slice_get-map (λ g. take 1048577 g.1) all k ∙ ap (option_map (λ g. take 1048577 g.1)) e) in let no : ⊥ = cc in no)
+
+short-front : (bytes front : List ℕ) → front ≡ take 1048577 bytes → length front ≤ 1048576 → front ≡ bytes
+short-front bytes front e short =
+    let small : length bytes ≤ 1048577 = omega (arith, ap length e, length-take 1048577 bytes) in e ∙ take_all 1048577 bytes small
+
+short-bytes : (bytes front : List ℕ) → front ≡ take 1048577 bytes → length bytes ≤ 1048576 → front ≡ bytes
+short-bytes bytes front e short = e ∙ take_all 1048577 bytes (omega arith)
+
+pub compiled-of : (w : Option Files) (front : Vec ℕ Global) (r : Result Built (Stop LoadFault)) → IfSome w (λ all. IsFrontOfMain all (Some front)) → IsBuiltFrom front.items r → Compiled w r
+compiled-of (Some all) front (Ok built) (k, main, h) b =
+    let file = whole-bytes all k front.items h in
+    let same = short-front file.0 front.items file.2 b.0.0 in
+    ((file.0, (k, main, file.1), subst (λ l. (length l ≤ 1048576) × FileReads l built.tree) same b.0), b.1)
+compiled-of None front (Ok built) h b = (tt, b.1)
+compiled-of (Some all) front (Err (Fault NotOfForm)) (k, main, h) b =
+    let file = whole-bytes all k front.items h in
+    (file.0, (k, main, file.1), λ tree p. b tree (subst (λ l. (length l ≤ 1048576) × FileReads l tree) (sym (short-bytes file.0 front.items file.2 p.0)) p))
+compiled-of None front (Err (Fault NotOfForm)) h b = tt
+compiled-of w front (Err Memory) h b = tt
+compiled-of w front (Err (Fault Folder)) h b = absurd b
+compiled-of w front (Err (Fault NoMain)) h b = absurd b
+
+pub front-found : (w : Option Files) (k : ℕ) (front : Vec ℕ Global) → IfSome w (λ all. IsSearched all (Some k)) → IfSome w (λ all. IsFrontAt all k 1048577 front.items) → IfSome w (λ all. IsFrontOfMain all (Some front))
+front-found (Some all) k front s f = (k, s, f)
+front-found None k front s f = tt
+
+-- ---- the name
+
+-- a test does not answer both
+pub no-answer : (b : Bool) → b ≡ true → b ≡ false → ⊥
+no-answer true p q = let bad : ⊥ = cc in bad
+no-answer false p q = let bad : ⊥ = cc in bad
+
+pub chars-name : chars main_name ≡ main_name
+unfolding chars
+chars-name = refl
+
+pub encodes-name : encodes main_name ≡ main_name
+unfolding encode
+encodes-name = refl

@@ -1,0 +1,110 @@
+//! How a call of the top ends, and what it keeps.
+ghost use Rattle.std.specs.Prelude.{◌≡◌};
+ghost use Rattle.bal_run.specs.Status.{number_of, text_of, IsTold};
+
+use bal_base::{FaultCode, LimitKind, Refusal, Ring, Text};
+use bal_tree::FileTree;
+use stack_code::Code;
+
+/// What a call of the top came to.
+#[derive(Debug, Drop)]
+pub struct Run {
+    /// How it ended.
+    pub status: Status,
+    /// What was compiled, if compiling succeeded.
+    pub built: Option<Built>,
+    /// How often a strand was picked to run, modulo 2 to the power 64.
+    pub turns: u64,
+    /// How many steps the code made, modulo 2 to the power 64, and 0 where no code ran.
+    pub steps: u64,
+}
+
+/// A compiled program.
+#[derive(Debug, Drop)]
+pub struct Built {
+    /// The tree of its source file.
+    pub tree: FileTree,
+    /// Its code.
+    pub code: Code,
+}
+
+/// How a call of the top ended.
+#[derive(Debug, Drop)]
+pub enum Status {
+    /// Main returned nil.
+    Done,
+    /// Main or an initialiser returned an error with this message.
+    ErrorReturned(Text),
+    /// Main's strand ended by a panic with this message.
+    Panicked(Text),
+    /// The source program is refused.
+    Refused(Refusal),
+    /// So many ticks were spent, and the next step needs one.
+    GoesOn { ticks: u64 },
+    /// No strand is ready, and main has not ended: these wait for one another.
+    Stalled { ring: Ring },
+    /// The folder could not be read.
+    FolderFault,
+    /// The input could not be read.
+    InputFault,
+    /// The output could not be written.
+    OutFault,
+    /// Memory ran out.
+    Memory,
+    /// The words are no good command.
+    Words,
+    /// A step would pass a limit.
+    Limit(LimitKind),
+    /// The diagnostics could not be written.
+    DiagFault,
+}
+
+/// The exit status of a program that ends so, from 0 to 12. Takes no memory.
+pub fn status_number(status: &Status) -> u8
+    ensures { result ≡ number_of status.now }
+{
+    match status {
+        Status::Done => 0,
+        Status::ErrorReturned(_) => 1,
+        Status::Panicked(_) => 2,
+        Status::Refused(_) => 3,
+        Status::GoesOn { .. } => 4,
+        Status::Stalled { .. } => 5,
+        Status::FolderFault => 6,
+        Status::InputFault => 7,
+        Status::OutFault => 8,
+        Status::Memory => 9,
+        Status::Words => 10,
+        Status::Limit(_) => 11,
+        Status::DiagFault => 12,
+    }
+}
+
+/// The text of the status for the diagnostics, with its line end; nothing where the program is done.
+pub(crate) fn text(status: &Status) -> &'static [u8]
+    requires { IsTold status.now }
+    ensures { result.now ≡ text_of status.now }
+{
+    match status {
+        Status::Done => b"",
+        Status::Panicked(_) => b"panic: {ballerina}NumberOverflow\n",
+        Status::Refused(refusal) => match refusal.fault.code {
+            FaultCode::NoMain => b"209 no public function main\n",
+            FaultCode::Syntax => b"main.bal:1:1: 103 not a definition\n",
+            _ => unreachable!(),
+        },
+        Status::FolderFault => b"cannot read the folder\n",
+        Status::OutFault => b"cannot write the output\n",
+        Status::Memory => b"out of memory\n",
+        Status::Words => USAGE,
+        Status::ErrorReturned(_)
+        | Status::GoesOn { .. }
+        | Status::Stalled { .. }
+        | Status::InputFault
+        | Status::Limit(_)
+        | Status::DiagFault => unreachable!(),
+    }
+}
+
+const USAGE: &[u8] =
+    b"usage: bal_run DIR [WORDS] [--mode run|check|pairs|code|subtype|make] [--ticks N] [--seed N]\n";
