@@ -1,0 +1,22 @@
+//! Types as sets of shapes.
+//!
+//! - [`BasicSet`], [`SemType`] and [`Ty`]: types, put together of basic sets and atoms by or, and, not.
+//! - [`AtomDef`] and [`FieldDef`]: what an atom stands for. Types recur through atoms alone.
+//! - [`TyList`], [`FieldList`], [`ChoiceList`], [`TypeList`] and [`AtomDefs`]: lists by name.
+//! - [`TypeEnv`]: the atoms' definitions by their numbers, and [`AtomLimit`], when there would be too many.
+//! - [`Types`]: what can be asked of types, with [`Answer`], [`Keys`], [`Apply`] and [`TypeLimit`].
+#![tactic(auto)]
+
+mod answers;
+mod atoms;
+mod basic;
+mod decide;
+mod env;
+mod lists;
+
+pub use answers::{Answer, Apply, Keys, TypeLimit};
+pub use atoms::{AtomDef, FieldDef};
+pub use basic::{BasicSet, Choice, SemType, Ty};
+pub use decide::Types;
+pub use env::{AtomLimit, TypeEnv};
+pub use lists::{AtomDefs, ChoiceList, FieldList, TyList, TypeList};
