@@ -1,1 +1,4 @@
 pub mod DefinedLaws
+pub mod Growth
+pub mod Same
+pub mod Unfolding

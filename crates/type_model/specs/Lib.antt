@@ -2,6 +2,7 @@ pub mod Application
 pub mod Basic
 pub mod Calls
 pub mod Defined
+pub mod Elements
 pub mod Inclusion
 pub mod Membership
 pub mod Parts
