@@ -4,7 +4,6 @@ use Rattle.std.proofs.lemmas.List.Elements.{All-append, All-weaker}
 use Rattle.type_model.specs.declared.basic.SemType.{SemType, Basic, Atom, Or', And', Not'}
 use Rattle.type_model.specs.declared.basic.Ty.{Ty}
 use Rattle.type_model.specs.declared.basic.Choice.{Choice}
-use Rattle.type_model.specs.declared.atoms.FieldDef.{FieldDef}
 use Rattle.type_model.specs.declared.atoms.AtomDef.{AtomDef}
 use Rattle.type_model.specs.declared.atoms.AtomDef.TheVariants.{List as ListAtom, Mapping as MappingAtom, Arrow, Error as ErrorAtom, Future as FutureAtom}
 use Rattle.type_model.specs.Places.{HasDistinctFields}

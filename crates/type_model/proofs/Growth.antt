@@ -1,7 +1,6 @@
 -- A type that names only atoms of an environment has the same shapes in each environment that keeps these.
-use Rattle.std.proofs.Common.{◌≡◌, ℕ, ◌+◌, ◌<◌, ◌≤◌, ◌↔◌, ◌++◌, ◌⊎◌, ⊎_elim, inl, inr, zero, suc, List, [], ◌∷◌, length, get_or, slice_get, All, IfSome, IsSomeAnd, IsTrue, Option, Some, None, Bool, true, false, arith, refl, sym, subst, ◌∙◌, if◌then◌else◌}
+use Rattle.std.proofs.Common.{◌≡◌, ℕ, ◌+◌, ◌<◌, ◌↔◌, zero, suc, List, [], ◌∷◌, length, slice_get, All, IfSome, IsSomeAnd, Option, Some, Bool, true, false, sym, subst, if◌then◌else◌}
 use Rattle.std.proofs.lemmas.List.Elements.{All-head, All-tail}
-use Rattle.std.proofs.lemmas.Option.{slice_get-get_or}
 use Rattle.bal_base.specs.declared.text.Text.{Text}
 use Rattle.bal_base.specs.declared.shape.Shape.{Shape, Nil, Bool as BoolShape, Int, Str, List', Mapping', Error', Function, Future', Row_of-Shape, end_of-Shape, more_of-Shape, items-the_row-Shape as shapes_in, Row_of-Fields-items-2 as Row_of-Field, end_of-Fields-items-2 as end_of-Field, more_of-Fields-items-2 as more_of-Field, items-the_row-Fields-items-2 as fields_in}
 use Rattle.bal_base.specs.declared.shape.Case.{Held-Case-result, None', Some'}
@@ -11,7 +10,7 @@ use Rattle.type_model.specs.declared.basic.Ty.{Ty}
 use Rattle.type_model.specs.declared.atoms.FieldDef.{FieldDef}
 use Rattle.type_model.specs.declared.atoms.AtomDef.{AtomDef}
 use Rattle.type_model.specs.declared.atoms.AtomDef.TheVariants.{List as ListAtom, Mapping as MappingAtom, Arrow, Error as ErrorAtom, Future as FutureAtom}
-use Rattle.type_model.specs.Places.{item_type, key_type, is_same_text, or_rest}
+use Rattle.type_model.specs.Places.{item_type, key_type, is_same_text}
 use Rattle.type_model.specs.Membership.{InBy, Fits, EachIn, MembersIn, AllIn, Maps, CasesMap, ResultIn, In, ListFits, MappingFits, ErrorFits, FunctionFits, FutureFits}
 use Rattle.type_model.proofs.Same.{both, either, neither, where_so, itself, at_some}
 use Rattle.type_model.specs.Defined.{NamesBelow, TyBelow, DefBelow, IsDefined, IsClosed}

@@ -1,5 +1,5 @@
 -- What it is to fit the definition of an atom, by the lists of a shape's parts.
-use Rattle.std.proofs.Common.{◌≡◌, ℕ, zero, suc, ◌+◌, ◌<◌, ◌≤◌, ◌↔◌, List, [], ◌∷◌, length, get_or, slice_get, All, IsSomeAnd, Bool, false, refl, sym, subst, ◌∙◌, Option, Some, None, Global, Box, arith}
+use Rattle.std.proofs.Common.{◌≡◌, ℕ, zero, suc, ◌+◌, ◌<◌, ◌≤◌, ◌↔◌, List, [], ◌∷◌, length, get_or, slice_get, All, IsSomeAnd, Bool, false, sym, subst, ◌∙◌, Option, Some, None, Global, Box, arith}
 use Rattle.std.proofs.lemmas.List.Elements.{All-nil, All-cons, All-head, All-tail}
 use mathlib.Core.Former.{Count, this, arity as arity_of}
 use Rattle.std.specs.formers.vec.Vec.{the_former}
@@ -21,9 +21,8 @@ use Rattle.type_model.specs.declared.atoms.AtomDef.TheVariants.{List as ListAtom
 use Rattle.type_model.specs.Basic.{InBasic}
 use Rattle.type_model.specs.Places.{item_type, HasRequired}
 use Rattle.type_model.specs.Membership.{In, InBy, Fits, EachIn, MembersIn, AllIn, Maps, CasesMap, ResultIn, ListFits, MappingFits, ErrorFits, FunctionFits, FutureFits}
-use Rattle.type_model.specs.Application.{arguments_of}
 use Rattle.type_model.specs.Elements.{ItemsIn, MemberIn, CaseMaps}
-use Rattle.type_model.proofs.Same.{both, either, neither, where_so, itself, at_some}
+use Rattle.type_model.proofs.Same.{both, either, neither, where_so, itself}
 
 -- ---- the items of a list
 

@@ -18,9 +18,15 @@ pub struct FieldDef {
 pub enum AtomDef {
     /// Lists with these types at the first places, and then any number of items of `rest`, or none
     /// where it is absent.
-    List { fixed: TyList, rest: Option<Ty> },
+    List {
+        fixed: TyList,
+        rest: Option<Ty>,
+    },
     /// Mappings with these fields, and beside them any members of `rest`, or none where it is absent.
-    Mapping { fields: FieldList, rest: Option<Ty> },
+    Mapping {
+        fields: FieldList,
+        rest: Option<Ty>,
+    },
     /// Functions that give a result in `result` to each unmarked list of arguments in `args`; where
     /// `isolated`, isolated ones alone.
     Arrow {
@@ -29,7 +35,11 @@ pub enum AtomDef {
         isolated: bool,
     },
     /// Errors with a detail in `detail`.
-    Error { detail: SemType },
+    Error {
+        detail: SemType,
+    },
     /// Futures whose results are all in `result`.
-    Future { result: SemType },
+    Future {
+        result: SemType,
+    },
 }
