@@ -11,6 +11,7 @@ mod answers;
 mod atoms;
 mod basic;
 mod decide;
+mod defined;
 mod env;
 mod lists;
 
