@@ -1,14 +1,14 @@
 -- Laws of membership and inclusion.
-use Rattle.std.proofs.Common.{◌≡◌, ℕ, zero, suc, ◌<◌, ◌↔◌, ◌++◌, ◌⊎◌, List, [], ◌∷◌, length, slice_get, All, Contains, IsSomeAnd, Option, Some, None, Box, Global, refl, sym, subst, arith}
+use Rattle.std.proofs.Common.{◌≡◌, ℕ, zero, suc, ◌<◌, ◌↔◌, ◌++◌, ◌⊎◌, ⊎_elim, List, [], ◌∷◌, length, slice_get, IsSomeAnd, Some, None, Box, Global, refl, sym, subst, arith}
 use Rattle.bal_base.specs.declared.shape.Shape.{Shape}
-use Rattle.bal_base.specs.Valid.{IsValid}
 use Rattle.type_model.specs.declared.basic.SemType.{SemType, Basic, Atom, Or, And, Not}
 use Rattle.type_model.specs.declared.basic.BasicSet.{BasicSet}
 use Rattle.type_model.specs.declared.atoms.AtomDef.{AtomDef}
 use Rattle.type_model.specs.Basic.{InBasic}
 use Rattle.type_model.specs.Membership.{In, Fits}
-use Rattle.type_model.specs.Inclusion.{Sub, IsEmpty, HasExactly, HaveSameShapes}
+use Rattle.type_model.specs.Inclusion.{Sub, IsEmpty, HaveSameShapes}
 use Rattle.type_model.specs.Defined.{IsDefined, IsClosed}
+use Rattle.type_model.proofs.Decided.{In-decided}
 use Rattle.type_model.proofs.Same.{itself}
 use Rattle.type_model.proofs.Growth.{In-kept}
 
@@ -61,4 +61,11 @@ module _ (env : List AtomDef) where
   HaveSameShapes-Sub s t = (
     λ h. (λ x v i. (h x v).0 i, λ x v i. (h x v).1 i),
     λ h x v. (h.0 x v, h.1 x v),
+  )
+
+  -- s is below t exactly where no shape is in s and not in t
+  pub Sub-IsEmpty : (s t : Box SemType Global) (not_t : Box SemType Global) → not_t.value ≡ Not t → Sub env s.value t.value ↔ IsEmpty env (And s not_t)
+  Sub-IsEmpty s t not_t is = (
+    λ h x v i. (subst (λ u. In env x u) is i.1) (h x v i.0),
+    λ h x v i. ⊎_elim (λ (j : In env x t.value). j) (λ (n : ¬ In env x t.value). absurd (h x v (i, subst (λ u. In env x u) (sym is) n))) (In-decided env x t.value),
   )

@@ -1,6 +1,9 @@
+pub mod ApplicationLaws
+pub mod Decided
 pub mod DefinedLaws
 pub mod Growth
 pub mod Laws
 pub mod Names
+pub mod PartLaws
 pub mod Same
 pub mod Unfolding
