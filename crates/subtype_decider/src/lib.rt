@@ -8,3 +8,6 @@ mod keys;
 mod member;
 
 pub use member::holds;
+
+#[cfg(test)]
+mod tests;

@@ -1,6 +1,6 @@
 -- What stays defined in a larger environment.
-use Rattle.std.proofs.Common.{◌≡◌, ℕ, ◌+◌, ◌<◌, ◌≤◌, ◌++◌, List, length, All, IfSome, Option, Some, None, arith, length-append, sym, subst}
-use Rattle.std.proofs.lemmas.List.Elements.{All-append, All-weaker}
+use Rattle.std.proofs.Common.{◌≡◌, ℕ, ◌+◌, ◌<◌, ◌≤◌, ◌++◌, List, [], ◌∷◌, length, All, IfSome, Option, Some, None, arith, length-append, sym, subst}
+use Rattle.std.proofs.lemmas.List.Elements.{All-append, All-cons, All-nil, All-weaker}
 use Rattle.type_model.specs.declared.basic.SemType.{SemType, Basic, Atom, Or', And', Not'}
 use Rattle.type_model.specs.declared.basic.Ty.{Ty}
 use Rattle.type_model.specs.declared.basic.Choice.{Choice}
@@ -46,3 +46,8 @@ IsEnv-append env group e named distinct le =
       distinct = All-append HasDistinctFields env group e.distinct distinct;
       bound = omega arith;
     }
+
+-- a single atom over the environment is a group over it
+pub IsDefinedGroup-one : (env : List AtomDef) (d : AtomDef) → DefBelow (length env) d → IsDefinedGroup env (d ∷ [])
+IsDefinedGroup-one env d h =
+    All-cons (DefBelow (length env + 1)) d [] (DefBelow-more (length env) (length env + 1) (omega arith) d h) (All-nil (DefBelow (length env + 1)))
