@@ -48,7 +48,7 @@ pub enum SemType {
 }
 
 /// An atom of which a constructor may make its value.
-#[derive(Debug, Drop)]
+#[derive(Clone, Copy, Debug, PartialEq, Eq)]
 pub struct Choice {
     /// The atom's number.
     pub atom: u32,

@@ -25,7 +25,7 @@ pub trait Types {
     /// The definitions of the atoms.
     ghost atoms: { Self → List AtomDef };
 
-    /// What a limit says of the questions to which a call leads, over these atoms.
+    /// Whether the questions to which a call leads, over these atoms, pass the limit.
     ghost passes: { List AtomDef → Asked → TypeLimit → Type 0 };
 
     /// The definitions of the atoms. Takes no memory.

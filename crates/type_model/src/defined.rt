@@ -55,6 +55,20 @@ impl AtomDef {
         }
     }
 
+    /// Whether every atom that a group of definitions names is one of the first `atoms`.
+    pub fn are_below(defs: &[AtomDef], atoms: usize) -> bool
+        ensures { IsTrue result ↔ All (DefBelow atoms) defs.now }
+    {
+        defs.iter().all(|d| d.names_below(atoms))
+    }
+
+    /// Whether in each mapping atom of a group no two fields have the same name.
+    pub fn have_distinct_fields(defs: &[AtomDef]) -> bool
+        ensures { IsTrue result ↔ All HasDistinctFields defs.now }
+    {
+        defs.iter().all(|d| d.has_distinct_fields())
+    }
+
     /// Whether no two fields of a mapping atom have the same name.
     pub fn has_distinct_fields(&self) -> bool
         ensures { IsTrue result ↔ HasDistinctFields self.now }

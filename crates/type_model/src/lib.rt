@@ -4,6 +4,7 @@
 //! - [`AtomDef`] and [`FieldDef`]: what an atom stands for. Types recur through atoms alone.
 //! - [`TyList`], [`FieldList`], [`ChoiceList`], [`TypeList`] and [`AtomDefs`]: lists by name.
 //! - [`TypeEnv`]: the atoms' definitions by their numbers, and [`AtomLimit`], when there would be too many.
+//! - [`AtomDef::are_below`] and [`AtomDef::have_distinct_fields`]: what an environment asks of new atoms.
 //! - [`Types`]: what can be asked of types, with [`Answer`], [`Keys`], [`Apply`] and [`TypeLimit`].
 #![tactic(auto)]
 

@@ -49,12 +49,11 @@ fn futures(a: Global, count: usize) -> Option<Vec<AtomDef>> {
 /// The number of the first of `count` further atoms.
 fn add(a: Global, env: &mut TypeEnv, count: usize) -> Option<u32> {
     let defs = futures(a, count)?;
-    let atoms = env.defs().len();
-    if defs.iter().all(|d| d.names_below(atoms)) && defs.iter().all(|d| d.has_distinct_fields()) {
-        env.add(defs).ok()
-    } else {
-        None
+    let atoms = env.defs().len() + defs.len();
+    if !AtomDef::are_below(&defs, atoms) || !AtomDef::have_distinct_fields(&defs) {
+        return None;
     }
+    env.add(defs).ok()
 }
 
 #[test]

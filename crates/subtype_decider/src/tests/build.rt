@@ -323,7 +323,7 @@ fn other_defs(a: Global, defs: &mut Vec<AtomDef>) -> Option<()> {
 
 fn env_of(a: Global, defs: Vec<AtomDef>) -> Option<TypeEnv> {
     let atoms = defs.len();
-    if !defs.iter().all(|d| d.names_below(atoms)) || !defs.iter().all(|d| d.has_distinct_fields()) {
+    if !AtomDef::are_below(&defs, atoms) || !AtomDef::have_distinct_fields(&defs) {
         return None;
     }
     let mut env = TypeEnv::new(a);
