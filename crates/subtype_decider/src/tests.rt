@@ -21,7 +21,7 @@ fn agree(rt: &impl Abort, env: &Option<TypeEnv>, rows: &[Row]) {
 }
 
 #[test]
-fn basic_sets(rt: HostRuntime) {
+fn simple_values(rt: HostRuntime) {
     let a = rt.alloc();
     let env = Some(TypeEnv::new(a));
     let rows = [
@@ -38,6 +38,15 @@ fn basic_sets(rt: HostRuntime) {
         (text(a, "b"), single(a, "a"), false),
         (text(a, "b"), strings(), true),
         (nil(), strings(), false),
+    ];
+    agree(&rt, &env, &rows);
+}
+
+#[test]
+fn sets_of_one_kind(rt: HostRuntime) {
+    let a = rt.alloc();
+    let env = Some(TypeEnv::new(a));
+    let rows = [
         (ints(a, false, &[]), basic(BasicSet::ListAll), true),
         (ints(a, true, &[]), basic(BasicSet::ListAll), true),
         (ints(a, false, &[]), basic(BasicSet::MappingAll), false),
@@ -56,9 +65,9 @@ fn basic_sets(rt: HostRuntime) {
 }
 
 #[test]
-fn readonly_and_marks(rt: HostRuntime) {
+fn readonly_sets(rt: HostRuntime) {
     let a = rt.alloc();
-    let env = env(a);
+    let env = Some(TypeEnv::new(a));
     let rows = [
         (nil(), readonly(), true),
         (bool(false), readonly(), true),
@@ -71,6 +80,15 @@ fn readonly_and_marks(rt: HostRuntime) {
         (error(a, empty(a, true)), readonly(), true),
         (function(a, false), readonly(), true),
         (future(a, &[]), readonly(), false),
+    ];
+    agree(&rt, &env, &rows);
+}
+
+#[test]
+fn marked_and_unmarked_lists(rt: HostRuntime) {
+    let a = rt.alloc();
+    let env = env(a);
+    let rows = [
         (ints(a, true, &[1]), and(a, atom(INTS), readonly()), true),
         (ints(a, false, &[1]), and(a, atom(INTS), readonly()), false),
         (
@@ -85,7 +103,7 @@ fn readonly_and_marks(rt: HostRuntime) {
 #[test]
 fn or_and_not(rt: HostRuntime) {
     let a = rt.alloc();
-    let env = env(a);
+    let env = Some(TypeEnv::new(a));
     let rows = [
         (nil(), or(a, basic(BasicSet::Nil), byte()), true),
         (num(3), or(a, basic(BasicSet::Nil), byte()), true),
@@ -94,6 +112,15 @@ fn or_and_not(rt: HostRuntime) {
         (num(-3), and(a, byte(), int()), false),
         (num(3), not(a, byte()), false),
         (num(-3), not(a, byte()), true),
+    ];
+    agree(&rt, &env, &rows);
+}
+
+#[test]
+fn not_and_atoms(rt: HostRuntime) {
+    let a = rt.alloc();
+    let env = env(a);
+    let rows = [
         (ints(a, false, &[1]), not(a, atom(INTS)), false),
         (two(a, false, num(1), nil()), not(a, atom(INTS)), true),
         (ints(a, false, &[]), atom(NO_ATOM), false),
@@ -103,7 +130,7 @@ fn or_and_not(rt: HostRuntime) {
 }
 
 #[test]
-fn lists(rt: HostRuntime) {
+fn lists_of_one_type(rt: HostRuntime) {
     let a = rt.alloc();
     let env = env(a);
     let rows = [
@@ -112,6 +139,15 @@ fn lists(rt: HostRuntime) {
         (two(a, false, num(1), text(a, "a")), atom(INTS), false),
         (num(1), atom(INTS), false),
         (empty(a, false), atom(INTS), false),
+    ];
+    agree(&rt, &env, &rows);
+}
+
+#[test]
+fn tuples(rt: HostRuntime) {
+    let a = rt.alloc();
+    let env = env(a);
+    let rows = [
         (two(a, false, num(1), text(a, "a")), atom(PAIR), true),
         (two(a, false, text(a, "a"), num(1)), atom(PAIR), false),
         (ints(a, false, &[1]), atom(PAIR), false),
@@ -120,6 +156,15 @@ fn lists(rt: HostRuntime) {
             atom(PAIR),
             false,
         ),
+    ];
+    agree(&rt, &env, &rows);
+}
+
+#[test]
+fn tuples_with_a_rest(rt: HostRuntime) {
+    let a = rt.alloc();
+    let env = env(a);
+    let rows = [
         (ints(a, false, &[]), atom(INT_THEN_STRINGS), false),
         (ints(a, false, &[1]), atom(INT_THEN_STRINGS), true),
         (
@@ -132,6 +177,15 @@ fn lists(rt: HostRuntime) {
             atom(INT_THEN_STRINGS),
             false,
         ),
+    ];
+    agree(&rt, &env, &rows);
+}
+
+#[test]
+fn lists_of_themselves(rt: HostRuntime) {
+    let a = rt.alloc();
+    let env = env(a);
+    let rows = [
         (ints(a, false, &[]), atom(NESTED), true),
         (
             two(a, false, ints(a, false, &[]), one(a, ints(a, false, &[]))),
@@ -144,7 +198,7 @@ fn lists(rt: HostRuntime) {
 }
 
 #[test]
-fn mappings(rt: HostRuntime) {
+fn records(rt: HostRuntime) {
     let a = rt.alloc();
     let env = env(a);
     let rows = [
@@ -154,10 +208,28 @@ fn mappings(rt: HostRuntime) {
         (a_and(a, num(1), "b", num(2)), atom(RECORD), false),
         (a_and(a, num(1), "c", num(2)), atom(RECORD), false),
         (field(a, "a", text(a, "x")), atom(RECORD), false),
+    ];
+    agree(&rt, &env, &rows);
+}
+
+#[test]
+fn maps(rt: HostRuntime) {
+    let a = rt.alloc();
+    let env = env(a);
+    let rows = [
         (empty(a, false), atom(INT_MAP), true),
         (field(a, "x", num(1)), atom(INT_MAP), true),
         (field(a, "x", text(a, "s")), atom(INT_MAP), false),
         (ints(a, false, &[1]), atom(INT_MAP), false),
+    ];
+    agree(&rt, &env, &rows);
+}
+
+#[test]
+fn open_records(rt: HostRuntime) {
+    let a = rt.alloc();
+    let env = env(a);
+    let rows = [
         (field(a, "a", num(1)), atom(OPEN), true),
         (
             a_and(a, num(1), "z", one(a, empty(a, false))),
@@ -166,6 +238,15 @@ fn mappings(rt: HostRuntime) {
         ),
         (a_and(a, num(1), "z", function(a, true)), atom(OPEN), false),
         (field(a, "z", nil()), atom(OPEN), false),
+    ];
+    agree(&rt, &env, &rows);
+}
+
+#[test]
+fn records_of_themselves(rt: HostRuntime) {
+    let a = rt.alloc();
+    let env = env(a);
+    let rows = [
         (node(a, nil(), num(1)), atom(NODE), true),
         (node(a, node(a, nil(), num(2)), num(1)), atom(NODE), true),
         (node(a, node(a, nil(), nil()), num(1)), atom(NODE), false),
@@ -175,7 +256,7 @@ fn mappings(rt: HostRuntime) {
 }
 
 #[test]
-fn errors_functions_and_futures(rt: HostRuntime) {
+fn errors(rt: HostRuntime) {
     let a = rt.alloc();
     let env = env(a);
     let rows = [
@@ -183,12 +264,30 @@ fn errors_functions_and_futures(rt: HostRuntime) {
         (error(a, field(a, "a", num(1))), atom(ERROR), true),
         (error(a, field(a, "a", nil())), atom(ERROR), false),
         (field(a, "a", num(1)), atom(ERROR), false),
+    ];
+    agree(&rt, &env, &rows);
+}
+
+#[test]
+fn functions(rt: HostRuntime) {
+    let a = rt.alloc();
+    let env = env(a);
+    let rows = [
         (function(a, false), atom(ARROW), true),
         (gives(a, &[1], text(a, "x")), atom(ARROW), true),
         (gives(a, &[1], num(2)), atom(ARROW), false),
         (gives(a, &[1], None), atom(ARROW), false),
         (gives(a, &[], None), atom(ARROW), true),
         (gives(a, &[1, 2], nil()), atom(ARROW), true),
+    ];
+    agree(&rt, &env, &rows);
+}
+
+#[test]
+fn functions_with_two_cases(rt: HostRuntime) {
+    let a = rt.alloc();
+    let env = env(a);
+    let rows = [
         (
             both(a, answers(a, &[1], text(a, "x")), answers(a, &[2], None)),
             atom(ARROW),
@@ -199,11 +298,38 @@ fn errors_functions_and_futures(rt: HostRuntime) {
             atom(ARROW),
             true,
         ),
+    ];
+    agree(&rt, &env, &rows);
+}
+
+#[test]
+fn isolated_functions(rt: HostRuntime) {
+    let a = rt.alloc();
+    let env = env(a);
+    let rows = [
         (function(a, true), atom(ARROW), true),
         (function(a, true), atom(ISOLATED), true),
         (function(a, false), atom(ISOLATED), false),
+    ];
+    agree(&rt, &env, &rows);
+}
+
+#[test]
+fn arguments_are_unmarked(rt: HostRuntime) {
+    let a = rt.alloc();
+    let env = env(a);
+    let rows = [
         (gives(a, &[1], None), atom(UNMARKED), false),
         (gives(a, &[1], None), atom(MARKED), true),
+    ];
+    agree(&rt, &env, &rows);
+}
+
+#[test]
+fn futures(rt: HostRuntime) {
+    let a = rt.alloc();
+    let env = env(a);
+    let rows = [
         (future(a, &[]), atom(FUTURE), true),
         (future(a, &[1, 2]), atom(FUTURE), true),
         (future(a, &[1, -1]), atom(FUTURE), false),
