@@ -1,0 +1,107 @@
+-- How the words and signs of the language are written.
+use Rattle.std.specs.Prelude.{ℕ, List, [], ◌∷◌, codes}
+use Rattle.bal_base.specs.declared.token.Keyword.{Keyword}
+use Rattle.bal_base.specs.declared.token.Keyword.TheVariants as keyword
+use Rattle.bal_base.specs.declared.token.Sign.{Sign}
+use Rattle.bal_base.specs.declared.token.Sign.TheVariants as sign
+
+abbrev pub keyword_text : Keyword → List ℕ
+keyword_text keyword.Import = codes "import"
+keyword_text keyword.As = codes "as"
+keyword_text keyword.Public = codes "public"
+keyword_text keyword.Type = codes "type"
+keyword_text keyword.Const = codes "const"
+keyword_text keyword.Final = codes "final"
+keyword_text keyword.Var = codes "var"
+keyword_text keyword.Function = codes "function"
+keyword_text keyword.Returns = codes "returns"
+keyword_text keyword.Return = codes "return"
+keyword_text keyword.Isolated = codes "isolated"
+keyword_text keyword.Worker = codes "worker"
+keyword_text keyword.Record = codes "record"
+keyword_text keyword.Map = codes "map"
+keyword_text keyword.Error = codes "error"
+keyword_text keyword.Future = codes "future"
+keyword_text keyword.Any = codes "any"
+keyword_text keyword.AnyData = codes "anydata"
+keyword_text keyword.Never = codes "never"
+keyword_text keyword.ReadOnly = codes "readonly"
+keyword_text keyword.Int = codes "int"
+keyword_text keyword.String = codes "string"
+keyword_text keyword.Boolean = codes "boolean"
+keyword_text keyword.Byte = codes "byte"
+keyword_text keyword.True = codes "true"
+keyword_text keyword.False = codes "false"
+keyword_text keyword.If = codes "if"
+keyword_text keyword.Else = codes "else"
+keyword_text keyword.While = codes "while"
+keyword_text keyword.Foreach = codes "foreach"
+keyword_text keyword.In = codes "in"
+keyword_text keyword.Match = codes "match"
+keyword_text keyword.Break = codes "break"
+keyword_text keyword.Continue = codes "continue"
+keyword_text keyword.Is = codes "is"
+keyword_text keyword.Check = codes "check"
+keyword_text keyword.CheckPanic = codes "checkpanic"
+keyword_text keyword.Trap = codes "trap"
+keyword_text keyword.Panic = codes "panic"
+keyword_text keyword.Start = codes "start"
+keyword_text keyword.Wait = codes "wait"
+keyword_text keyword.Flush = codes "flush"
+
+abbrev pub sign_text : Sign → List ℕ
+sign_text sign.OpenBraceBar = codes "{|"
+sign_text sign.CloseBraceBar = codes "|}"
+sign_text sign.OpenBrace = codes "{"
+sign_text sign.CloseBrace = codes "}"
+sign_text sign.OpenParen = codes "("
+sign_text sign.CloseParen = codes ")"
+sign_text sign.OpenBracket = codes "["
+sign_text sign.CloseBracket = codes "]"
+sign_text sign.Semicolon = codes ";"
+sign_text sign.Comma = codes ","
+sign_text sign.Colon = codes ":"
+sign_text sign.Dot = codes "."
+sign_text sign.QuestionDot = codes "?."
+sign_text sign.Elvis = codes "?:"
+sign_text sign.Question = codes "?"
+sign_text sign.Ellipsis = codes "..."
+sign_text sign.DotDotLess = codes "..<"
+sign_text sign.DoubleArrow = codes "->>"
+sign_text sign.Arrow = codes "->"
+sign_text sign.LeftArrow = codes "<-"
+sign_text sign.FatArrow = codes "=>"
+sign_text sign.TripleEqual = codes "==="
+sign_text sign.NotTripleEqual = codes "!=="
+sign_text sign.DoubleEqual = codes "=="
+sign_text sign.NotEqual = codes "!="
+sign_text sign.Equal = codes "="
+sign_text sign.LessEqual = codes "<="
+sign_text sign.GreaterEqual = codes ">="
+sign_text sign.Less = codes "<"
+sign_text sign.Greater = codes ">"
+sign_text sign.DoubleAmpersand = codes "&&"
+sign_text sign.DoubleBar = codes "||"
+sign_text sign.Ampersand = codes "&"
+sign_text sign.Bar = codes "|"
+sign_text sign.Not = codes "!"
+sign_text sign.Plus = codes "+"
+sign_text sign.Minus = codes "-"
+sign_text sign.Star = codes "*"
+sign_text sign.Slash = codes "/"
+sign_text sign.Percent = codes "%"
+sign_text sign.PlusEqual = codes "+="
+sign_text sign.MinusEqual = codes "-="
+sign_text sign.StarEqual = codes "*="
+sign_text sign.SlashEqual = codes "/="
+sign_text sign.Underscore = codes "_"
+
+-- words of Ballerina for what this profile leaves out
+unfoldable pub left_out_words : List (List ℕ)
+left_out_words =
+    codes "float" ∷ codes "decimal" ∷ codes "xml" ∷ codes "json" ∷ codes "table" ∷ codes "stream" ∷
+    codes "typedesc" ∷ codes "handle" ∷ codes "object" ∷ codes "class" ∷ codes "service" ∷ codes "client" ∷
+    codes "resource" ∷ codes "remote" ∷ codes "transaction" ∷ codes "commit" ∷ codes "rollback" ∷ codes "retry" ∷
+    codes "lock" ∷ codes "fork" ∷ codes "do" ∷ codes "fail" ∷ codes "from" ∷ codes "let" ∷
+    codes "select" ∷ codes "listener" ∷ codes "enum" ∷ codes "annotation" ∷ codes "external" ∷ codes "distinct" ∷
+    codes "typeof" ∷ codes "new" ∷ codes "init" ∷ []

