@@ -1,6 +1,13 @@
 //! What stands at the front of a text.
 
-use bal_base::TokenKind;
+use crate::cursor::{Class, split_first, split_run, strip};
+use crate::number::number;
+use crate::sign::sign;
+use crate::string::string;
+use crate::word::word;
+use bal_base::{Memory, TokenKind};
+use std::alloc::Global;
+use unicode_ident::is_xid_start;
 
 /// What stands at the front of a text.
 #[derive(Debug, Drop)]
@@ -11,4 +18,71 @@ pub enum Lexeme {
     LeftOut,
     /// A token.
     Token(TokenKind),
+}
+
+/// What a character may begin.
+#[derive(Clone, Copy)]
+enum Start {
+    White,
+    LeftOutMark,
+    Digit,
+    Quote,
+    Hash,
+    Word,
+    Sign,
+}
+
+fn start_of(c: char) -> Start {
+    match c {
+        ' ' | '\t' | '\n' | '\r' => Start::White,
+        '`' | '\'' | '@' | '~' | '^' => Start::LeftOutMark,
+        '0'..='9' => Start::Digit,
+        '"' => Start::Quote,
+        '#' => Start::Hash,
+        _ => {
+            if c == '_' || is_xid_start(c) {
+                Start::Word
+            } else {
+                Start::Sign
+            }
+        }
+    }
+}
+
+/// The longest lexeme at the text's front, and what follows it.
+pub(crate) fn first_lexeme(alloc: Global, s: &str) -> Result<Option<(Lexeme, &str)>, Memory> {
+    let Some((c, after)) = split_first(s) else {
+        return Ok(None);
+    };
+    match start_of(c) {
+        Start::White => Ok(Some((Lexeme::Gap, after))),
+        Start::LeftOutMark => Ok(Some((Lexeme::LeftOut, after))),
+        Start::Digit => Ok(number(s)),
+        Start::Quote => Ok(literal(alloc, after)?),
+        Start::Hash => Ok(Some((Lexeme::Gap, comment_end(after)))),
+        Start::Word => Ok(Some(word(alloc, s)?)),
+        Start::Sign => Ok(comment_or_sign(s)),
+    }
+}
+
+/// A string literal, after its opening quote.
+fn literal(alloc: Global, s: &str) -> Result<Option<(Lexeme, &str)>, Memory> {
+    match string(alloc, s)? {
+        None => Ok(None),
+        Some((text, after)) => Ok(Some((Lexeme::Token(TokenKind::Str(text)), after))),
+    }
+}
+
+/// A comment that begins with `//`, or a sign.
+fn comment_or_sign(s: &str) -> Option<(Lexeme, &str)> {
+    if let Some(after) = strip(s, "//") {
+        return Some((Lexeme::Gap, comment_end(after)));
+    }
+    let (sign, after) = sign(s)?;
+    Some((Lexeme::Token(TokenKind::Sign(sign)), after))
+}
+
+/// What follows a comment, from the line's end on.
+fn comment_end(s: &str) -> &str {
+    split_run(s, Class::Line).1
 }

@@ -8,9 +8,16 @@ ghost use Rattle.bal_base.specs.declared.fault.FaultCode.{FaultCode};
 ghost use Rattle.bal_base.specs.declared.token.Token.{Token as TokenOf};
 ghost use Rattle.bal_lexer.specs.Lexes.{Lexes, Refuses, IsRefusal, IfFault};
 
+mod cursor;
+mod keyword;
 mod lexeme;
+mod number;
+mod sign;
+mod string;
+mod word;
 
-use bal_base::{Fault, Stop, Token};
+use crate::lexeme::{Lexeme, first_lexeme};
+use bal_base::{Fault, FaultCode, Kept, Memory, Place, Stop, Token};
 use std::alloc::Global;
 
 /// The tokens of a source text, each with its slice in bytes: white space, comments and the tokens' slices
@@ -31,8 +38,37 @@ pub fn lex(alloc: Global, file: u32, text: &str) -> Result<Vec<Token>, Stop<Faul
     ensures only_refusal { (code : FaultCode) (at : ℕ) → Refuses (chars text.now) code at
         → MatchResult result (λ _. ⊥) (λ stop. IfFault stop (λ f. (f.code ≡ code) × (f.at ≡ Some (record { file = file; at = at })))) }
 {
-    let _ = alloc;
-    let _ = file;
-    let _ = text;
-    Err(Stop::Memory)
+    let mut tokens = Vec::new(alloc);
+    let mut rest = text;
+    while !rest.is_empty() {
+        let at = place(text, rest);
+        match first_lexeme(alloc, rest) {
+            Err(Memory) => return Err(Stop::Memory),
+            Ok(None) => return Err(refusal(FaultCode::BadToken, file, at)),
+            Ok(Some((Lexeme::LeftOut, _))) => return Err(refusal(FaultCode::LeftOut, file, at)),
+            Ok(Some((Lexeme::Gap, after))) => rest = after,
+            Ok(Some((Lexeme::Token(kind), after))) => {
+                let end = place(text, after);
+                tokens.push(Token { kind, at, end })?;
+                rest = after;
+            }
+        }
+    }
+    Ok(tokens)
 }
+
+/// Where in the text its end `rest` begins.
+fn place(text: &str, rest: &str) -> u32 {
+    (text.len() - rest.len()) as u32
+}
+
+fn refusal(code: FaultCode, file: u32, at: u32) -> Stop<Fault> {
+    Stop::Fault(Fault {
+        code,
+        at: Some(Place { file, at }),
+        kept: Kept::Nothing,
+    })
+}
+
+#[cfg(test)]
+mod tests;
