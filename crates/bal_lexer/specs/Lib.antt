@@ -1,3 +1,4 @@
 pub mod Spellings
 pub mod Lexemes
 pub mod Lexes
+pub mod Runs

@@ -1,4 +1,7 @@
 //! Steps over a text. None allocates.
+ghost use Rattle.std.specs.Prelude.{◌≡◌, ◌≢◌, ◌<◌, ◌++◌, ◌∷◌, [], List, ℕ, MatchOption, IfSome, length, chars, IsUtf8, encode_utf8};
+ghost use Rattle.bal_lexer.specs.Lexemes.{begins_with};
+ghost use Rattle.bal_lexer.specs.Runs.{class_test, run, after_run};
 
 use unicode_ident::is_xid_continue;
 
@@ -16,7 +19,9 @@ pub(crate) enum Class {
 }
 
 impl Class {
-    pub(crate) fn has(self, c: char) -> bool {
+    pub(crate) fn has(self, c: char) -> bool
+        ensures { result ≡ class_test self c }
+    {
         match self {
             Class::Word => is_xid_continue(c),
             Class::Digit => c.is_ascii_digit(),
@@ -27,14 +32,21 @@ impl Class {
 }
 
 /// The first character, and what follows it.
-pub(crate) fn split_first(s: &str) -> Option<(char, &str)> {
+pub(crate) fn split_first(s: &str) -> Option<(char, &str)>
+    ensures bytes { MatchOption result (s.now ≡ []) (λ x. s.now ≡ encode_utf8 x.0 ++ x.1.now) }
+    ensures chars { MatchOption result (chars s.now ≡ []) (λ x. chars s.now ≡ x.0 ∷ chars x.1.now) }
+    ensures text { IfSome result (λ x. IsUtf8 x.1.now) }
+    ensures shorter { IfSome result (λ x. length x.1.now < length s.now) }
+{
     let mut chars = s.chars();
     let c = chars.next()?;
     Some((c, chars.as_str()))
 }
 
 /// Whether the text begins with a character of the class.
-pub(crate) fn begins_with(s: &str, class: Class) -> bool {
+pub(crate) fn begins_with(s: &str, class: Class) -> bool
+    ensures { result ≡ begins_with (class_test class) (chars s.now) }
+{
     match split_first(s) {
         Some((c, _)) => class.has(c),
         None => false,
@@ -42,7 +54,10 @@ pub(crate) fn begins_with(s: &str, class: Class) -> bool {
 }
 
 /// The longest front of characters of the class, and what follows it.
-pub(crate) fn split_run(s: &str, class: Class) -> (&str, &str) {
+pub(crate) fn split_run(s: &str, class: Class) -> (&str, &str)
+    ensures front { chars result.0.now ≡ run (class_test class) (chars s.now) }
+    ensures after { chars result.1.now ≡ after_run (class_test class) (chars s.now) }
+{
     let mut rest = s;
     while let Some((c, after)) = split_first(rest) {
         if !class.has(c) {
@@ -54,6 +69,8 @@ pub(crate) fn split_run(s: &str, class: Class) -> (&str, &str) {
 }
 
 /// What follows the prefix, if the text begins with it.
-pub(crate) fn strip<'a>(s: &'a str, prefix: &str) -> Option<&'a str> {
+pub(crate) fn strip<'a>(s: &'a str, prefix: &str) -> Option<&'a str>
+    ensures { MatchOption result ((rest : List ℕ) → chars s.now ≢ chars prefix.now ++ rest) (λ x. chars s.now ≡ chars prefix.now ++ chars x.now) }
+{
     s.strip_prefix(prefix)
 }
