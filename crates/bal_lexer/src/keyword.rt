@@ -1,4 +1,8 @@
 //! The words of the language.
+ghost use Rattle.std.specs.Prelude.{◌≡◌, find};
+ghost use Rattle.std.specs.List.{list_any};
+ghost use Rattle.std.specs.Str.{bytes_eq};
+ghost use Rattle.bal_lexer.specs.Spellings.{keyword_text, left_out_words};
 
 use bal_base::Keyword;
 
@@ -86,7 +90,9 @@ const LEFT_OUT: [&str; 33] = [
 ];
 
 /// How the keyword is written.
-pub(crate) fn keyword_text(keyword: Keyword) -> &'static str {
+pub(crate) fn keyword_text(keyword: Keyword) -> &'static str
+    ensures { result.now ≡ keyword_text keyword }
+{
     match keyword {
         Keyword::Import => "import",
         Keyword::As => "as",
@@ -134,21 +140,25 @@ pub(crate) fn keyword_text(keyword: Keyword) -> &'static str {
 }
 
 /// The keyword that is written so.
-pub(crate) fn keyword_of(word: &str) -> Option<Keyword> {
-    for keyword in KEYWORDS {
-        if word == keyword_text(keyword) {
-            return Some(keyword);
-        }
-    }
-    None
+pub(crate) fn keyword_of(word: &str) -> Option<Keyword>
+    ensures { result ≡ find (λ k. bytes_eq (keyword_text k) word.now) KEYWORDS }
+{
+    KEYWORDS
+        .iter()
+        .copied()
+        .find(|keyword| keyword_text(*keyword) == word)
 }
 
 /// Whether the word is one of those that are left out.
-pub(crate) fn is_left_out(word: &str) -> bool {
-    for left_out in LEFT_OUT {
-        if word == left_out {
-            return true;
-        }
-    }
-    false
+#[tactic(auto, unfolding(crate::specs::Spellings::left_out_words))]
+pub(crate) fn is_left_out(word: &str) -> bool
+    ensures { result ≡ list_any (λ w. bytes_eq w word.now) left_out_words }
+{
+    is_among(&LEFT_OUT, word)
+}
+
+fn is_among(words: &[&str], word: &str) -> bool
+    ensures { result ≡ list_any (λ w. bytes_eq w.now word.now) words.now }
+{
+    words.iter().any(|w| *w == word)
 }

@@ -1,4 +1,8 @@
 //! Signs.
+ghost use Rattle.std.specs.Prelude.{◌≡◌, ◌≤◌, ◌++◌, ℕ, List, MatchOption, IfSome, chars, length, find, nat_eq};
+ghost use Rattle.std.specs.List.{starts_with};
+ghost use Rattle.bal_base.specs.declared.token.Sign.{Sign as SignOf};
+ghost use Rattle.bal_lexer.specs.Spellings.{sign_text};
 
 use crate::cursor::strip;
 use bal_base::Sign;
@@ -53,7 +57,9 @@ const SIGNS: [Sign; 45] = [
 ];
 
 /// How the sign is written.
-pub(crate) fn sign_text(sign: Sign) -> &'static str {
+pub(crate) fn sign_text(sign: Sign) -> &'static str
+    ensures { result.now ≡ sign_text sign }
+{
     match sign {
         Sign::OpenBraceBar => "{|",
         Sign::CloseBraceBar => "|}",
@@ -104,11 +110,28 @@ pub(crate) fn sign_text(sign: Sign) -> &'static str {
 }
 
 /// The longest sign at the text's front, and what follows it.
-pub(crate) fn sign(s: &str) -> Option<(Sign, &str)> {
-    for sign in SIGNS {
-        if let Some(after) = strip(s, sign_text(sign)) {
-            return Some((sign, after));
-        }
-    }
-    None
+pub(crate) fn sign(s: &str) -> Option<(Sign, &str)>
+    ensures here { IfSome result (λ x. chars s.now ≡ sign_text x.0 ++ chars x.1.now) }
+    ensures longest { (other : SignOf) (rest : List ℕ) → chars s.now ≡ sign_text other ++ rest
+        → MatchOption result ⊥ (λ x. length (sign_text other) ≤ length (sign_text x.0)) }
+{
+    let sign = first_sign(s)?;
+    let after = strip(s, sign_text(sign))?;
+    Some((sign, after))
+}
+
+/// The first of the signs that the text begins with.
+fn first_sign(s: &str) -> Option<Sign>
+    ensures { result ≡ find (λ g. starts_with nat_eq s.now (sign_text g)) SIGNS }
+{
+    SIGNS
+        .iter()
+        .copied()
+        .find(|sign| begins(s, sign_text(*sign)))
+}
+
+fn begins(s: &str, front: &str) -> bool
+    ensures { result ≡ starts_with nat_eq s.now front.now }
+{
+    s.as_bytes().starts_with(front.as_bytes())
 }
