@@ -1,0 +1,27 @@
+-- Texts of ASCII are their characters.
+use Rattle.std.proofs.Common.{◌≡◌, ℕ, zero, suc, ◌+◌, ◌<◌, Bool, true, false, ◌&&◌, nat_lt, List, [], ◌∷◌, ◌++◌, length, get_or, IsUtf8, chars, refl, sym, ap, ◌∙◌, subst, arith}
+use Rattle.std.specs.Prelude.{encode_utf8_all, nat_eq}
+use Rattle.std.specs.Str.{IsAscii, bytes_eq}
+use Rattle.std.specs.List.{list_all, starts_with}
+use Rattle.std.proofs.lemmas.Bool.{cases_Bool, and_parts, ltb-true}
+use Rattle.std.proofs.lemmas.Str.{encodes-IsAscii, chars-IsAscii, IsUtf8-from_ascii, encodes-chars, encodes-append}
+
+-- whether each is below 128
+abbrev pub all_ascii : List ℕ → Bool
+all_ascii xs = list_all (λ c. nat_lt c 128) xs
+
+pub IsAscii-all : (xs : List ℕ) → all_ascii xs ≡ true → IsAscii xs
+IsAscii-all [] all i = omega arith
+IsAscii-all (x ∷ xs) all zero = ltb-true x 128 (and_parts (nat_lt x 128) (all_ascii xs) all).0
+IsAscii-all (x ∷ xs) all (suc i) = IsAscii-all xs (and_parts (nat_lt x 128) (all_ascii xs) all).1 i
+
+-- a text that begins with characters of ASCII begins with them as bytes
+pub bytes-front : (s front rest : List ℕ) → IsUtf8 s → all_ascii front ≡ true → chars s ≡ front ++ rest → s ≡ front ++ encode_utf8_all rest
+bytes-front s front rest text ascii e =
+    sym (encodes-chars s text) ∙ ap encode_utf8_all e ∙ encodes-append front rest ∙ ap (λ l. l ++ encode_utf8_all rest) (encodes-IsAscii front (IsAscii-all front ascii))
+
+pub chars-ascii : (xs : List ℕ) → all_ascii xs ≡ true → chars xs ≡ xs
+chars-ascii xs ascii = chars-IsAscii xs (IsAscii-all xs ascii)
+
+pub bytes-ascii : (s xs : List ℕ) → IsUtf8 s → all_ascii xs ≡ true → chars s ≡ xs → s ≡ xs
+bytes-ascii s xs text ascii e = sym (encodes-chars s text) ∙ ap encode_utf8_all e ∙ encodes-IsAscii xs (IsAscii-all xs ascii)

@@ -1,0 +1,160 @@
+-- The signs, one by one.
+use Rattle.std.proofs.Common.{◌≡◌, ℕ, ◌<◌, true, length, Some, None, Contains, find, refl, sym, ap, ◌∙◌, lit<}
+use Rattle.std.specs.Str.{bytes_eq}
+use Rattle.bal_base.specs.declared.token.Sign.{Sign}
+use Rattle.bal_base.specs.declared.token.Sign.TheVariants as sign
+use Rattle.bal_lexer.specs.Spellings.{sign_text}
+use Rattle.bal_lexer.specs.declared.sign.TheConstants.{SIGNS}
+use Rattle.bal_lexer.proofs.Ascii.{all_ascii}
+use Rattle.bal_lexer.proofs.Finds.{descends}
+
+pub signs_descend : descends (λ g. length (sign_text g)) SIGNS ≡ true
+signs_descend = refl
+
+-- no sign is missing
+pub has_sign : (g : Sign) → Contains SIGNS g
+has_sign sign.Ellipsis = (0, lit< tt, refl)
+has_sign sign.DotDotLess = (1, lit< tt, refl)
+has_sign sign.DoubleArrow = (2, lit< tt, refl)
+has_sign sign.TripleEqual = (3, lit< tt, refl)
+has_sign sign.NotTripleEqual = (4, lit< tt, refl)
+has_sign sign.OpenBraceBar = (5, lit< tt, refl)
+has_sign sign.CloseBraceBar = (6, lit< tt, refl)
+has_sign sign.QuestionDot = (7, lit< tt, refl)
+has_sign sign.Elvis = (8, lit< tt, refl)
+has_sign sign.Arrow = (9, lit< tt, refl)
+has_sign sign.LeftArrow = (10, lit< tt, refl)
+has_sign sign.FatArrow = (11, lit< tt, refl)
+has_sign sign.DoubleEqual = (12, lit< tt, refl)
+has_sign sign.NotEqual = (13, lit< tt, refl)
+has_sign sign.LessEqual = (14, lit< tt, refl)
+has_sign sign.GreaterEqual = (15, lit< tt, refl)
+has_sign sign.DoubleAmpersand = (16, lit< tt, refl)
+has_sign sign.DoubleBar = (17, lit< tt, refl)
+has_sign sign.PlusEqual = (18, lit< tt, refl)
+has_sign sign.MinusEqual = (19, lit< tt, refl)
+has_sign sign.StarEqual = (20, lit< tt, refl)
+has_sign sign.SlashEqual = (21, lit< tt, refl)
+has_sign sign.OpenBrace = (22, lit< tt, refl)
+has_sign sign.CloseBrace = (23, lit< tt, refl)
+has_sign sign.OpenParen = (24, lit< tt, refl)
+has_sign sign.CloseParen = (25, lit< tt, refl)
+has_sign sign.OpenBracket = (26, lit< tt, refl)
+has_sign sign.CloseBracket = (27, lit< tt, refl)
+has_sign sign.Semicolon = (28, lit< tt, refl)
+has_sign sign.Comma = (29, lit< tt, refl)
+has_sign sign.Colon = (30, lit< tt, refl)
+has_sign sign.Dot = (31, lit< tt, refl)
+has_sign sign.Question = (32, lit< tt, refl)
+has_sign sign.Equal = (33, lit< tt, refl)
+has_sign sign.Less = (34, lit< tt, refl)
+has_sign sign.Greater = (35, lit< tt, refl)
+has_sign sign.Ampersand = (36, lit< tt, refl)
+has_sign sign.Bar = (37, lit< tt, refl)
+has_sign sign.Not = (38, lit< tt, refl)
+has_sign sign.Plus = (39, lit< tt, refl)
+has_sign sign.Minus = (40, lit< tt, refl)
+has_sign sign.Star = (41, lit< tt, refl)
+has_sign sign.Slash = (42, lit< tt, refl)
+has_sign sign.Percent = (43, lit< tt, refl)
+has_sign sign.Underscore = (44, lit< tt, refl)
+
+pub sign_ascii : (g : Sign) → all_ascii (sign_text g) ≡ true
+sign_ascii sign.OpenBraceBar = refl
+sign_ascii sign.CloseBraceBar = refl
+sign_ascii sign.OpenBrace = refl
+sign_ascii sign.CloseBrace = refl
+sign_ascii sign.OpenParen = refl
+sign_ascii sign.CloseParen = refl
+sign_ascii sign.OpenBracket = refl
+sign_ascii sign.CloseBracket = refl
+sign_ascii sign.Semicolon = refl
+sign_ascii sign.Comma = refl
+sign_ascii sign.Colon = refl
+sign_ascii sign.Dot = refl
+sign_ascii sign.QuestionDot = refl
+sign_ascii sign.Elvis = refl
+sign_ascii sign.Question = refl
+sign_ascii sign.Ellipsis = refl
+sign_ascii sign.DotDotLess = refl
+sign_ascii sign.DoubleArrow = refl
+sign_ascii sign.Arrow = refl
+sign_ascii sign.LeftArrow = refl
+sign_ascii sign.FatArrow = refl
+sign_ascii sign.TripleEqual = refl
+sign_ascii sign.NotTripleEqual = refl
+sign_ascii sign.DoubleEqual = refl
+sign_ascii sign.NotEqual = refl
+sign_ascii sign.Equal = refl
+sign_ascii sign.LessEqual = refl
+sign_ascii sign.GreaterEqual = refl
+sign_ascii sign.Less = refl
+sign_ascii sign.Greater = refl
+sign_ascii sign.DoubleAmpersand = refl
+sign_ascii sign.DoubleBar = refl
+sign_ascii sign.Ampersand = refl
+sign_ascii sign.Bar = refl
+sign_ascii sign.Not = refl
+sign_ascii sign.Plus = refl
+sign_ascii sign.Minus = refl
+sign_ascii sign.Star = refl
+sign_ascii sign.Slash = refl
+sign_ascii sign.Percent = refl
+sign_ascii sign.PlusEqual = refl
+sign_ascii sign.MinusEqual = refl
+sign_ascii sign.StarEqual = refl
+sign_ascii sign.SlashEqual = refl
+sign_ascii sign.Underscore = refl
+
+find_written : (g : Sign) → find (λ h. bytes_eq (sign_text h) (sign_text g)) SIGNS ≡ Some g
+find_written sign.OpenBraceBar = refl
+find_written sign.CloseBraceBar = refl
+find_written sign.OpenBrace = refl
+find_written sign.CloseBrace = refl
+find_written sign.OpenParen = refl
+find_written sign.CloseParen = refl
+find_written sign.OpenBracket = refl
+find_written sign.CloseBracket = refl
+find_written sign.Semicolon = refl
+find_written sign.Comma = refl
+find_written sign.Colon = refl
+find_written sign.Dot = refl
+find_written sign.QuestionDot = refl
+find_written sign.Elvis = refl
+find_written sign.Question = refl
+find_written sign.Ellipsis = refl
+find_written sign.DotDotLess = refl
+find_written sign.DoubleArrow = refl
+find_written sign.Arrow = refl
+find_written sign.LeftArrow = refl
+find_written sign.FatArrow = refl
+find_written sign.TripleEqual = refl
+find_written sign.NotTripleEqual = refl
+find_written sign.DoubleEqual = refl
+find_written sign.NotEqual = refl
+find_written sign.Equal = refl
+find_written sign.LessEqual = refl
+find_written sign.GreaterEqual = refl
+find_written sign.Less = refl
+find_written sign.Greater = refl
+find_written sign.DoubleAmpersand = refl
+find_written sign.DoubleBar = refl
+find_written sign.Ampersand = refl
+find_written sign.Bar = refl
+find_written sign.Not = refl
+find_written sign.Plus = refl
+find_written sign.Minus = refl
+find_written sign.Star = refl
+find_written sign.Slash = refl
+find_written sign.Percent = refl
+find_written sign.PlusEqual = refl
+find_written sign.MinusEqual = refl
+find_written sign.StarEqual = refl
+find_written sign.SlashEqual = refl
+find_written sign.Underscore = refl
+
+-- no two signs are written alike
+pub sign_text-same : (g h : Sign) → sign_text g ≡ sign_text h → g ≡ h
+sign_text-same g h e =
+    let both = sym (find_written g) ∙ ap (λ t. find (λ k. bytes_eq (sign_text k) t) SIGNS) e ∙ find_written h in
+    cc
