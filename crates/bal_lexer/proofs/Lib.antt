@@ -5,3 +5,4 @@ pub mod Ascii
 pub mod Signs
 pub mod Keywords
 pub mod SignScan
+pub mod WordKinds

@@ -2,3 +2,4 @@ pub mod Spellings
 pub mod Lexemes
 pub mod Lexes
 pub mod Runs
+pub mod Words
