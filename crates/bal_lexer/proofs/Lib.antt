@@ -6,3 +6,4 @@ pub mod Signs
 pub mod Keywords
 pub mod SignScan
 pub mod WordKinds
+pub mod IntLemmas

@@ -3,3 +3,4 @@ pub mod Lexemes
 pub mod Lexes
 pub mod Runs
 pub mod Words
+pub mod Numbers
