@@ -5,7 +5,7 @@ use Rattle.std.specs.Str.{IsCharBoundary}
 use Rattle.std.specs.List.{list_all}
 use Rattle.std.proofs.Math.Seq.{take-append_seam, drop-append_seam}
 use Rattle.std.proofs.lemmas.List.{length-append, append-nil}
-use Rattle.std.proofs.lemmas.Bool.{and_parts, cases_Bool}
+use Rattle.std.proofs.lemmas.Bool.{and_parts, and_from, cases_Bool}
 use Rattle.std.proofs.lemmas.Str.{IsCharBoundary-at_seam, IsUtf8-take, chars_past_char, chars-append, chars-nil}
 use Rattle.bal_lexer.specs.Lexemes.{begins_with}
 use Rattle.bal_lexer.specs.Runs.{run, after_run}
@@ -86,3 +86,9 @@ has_passed-run test s rest whole text passed stops =
       ap chars dropped ∙ sym (ap (after_run test) parts ∙ after_run-append test (chars passed.front) (chars rest) passed.all stops),
       subst (IsCharBoundary s) (sym count) (IsCharBoundary-at_seam s passed.front rest passed.seam text),
     )
+
+pub list_all-weaker : (p q : ℕ → Bool) (xs : List ℕ) → ((c : ℕ) → p c ≡ true → q c ≡ true) → list_all p xs ≡ true → list_all q xs ≡ true
+list_all-weaker p q [] weaker all = refl
+list_all-weaker p q (x ∷ xs) weaker all =
+    let parts = and_parts (p x) (list_all p xs) all in
+    and_from (q x) (list_all q xs) (weaker x parts.0) (list_all-weaker p q xs weaker parts.1)
