@@ -33,7 +33,7 @@ fits-pos n fits = omega (arith, ints)
 pub fits-from : (n : ℕ) → n ≤ 9223372036854775807 → FitsSigned w64 (pos n)
 fits-from n small = omega (arith, ints)
 
-all-digits : (radix : ℕ) (ds : List ℕ) → radix ≤ 16 → list_all (λ c. is_digit c radix) ds ≡ true → AllDigits radix ds × (all_ascii ds ≡ true)
+pub all-digits : (radix : ℕ) (ds : List ℕ) → radix ≤ 16 → list_all (λ c. is_digit c radix) ds ≡ true → AllDigits radix ds × (all_ascii ds ≡ true)
 all-digits radix [] small all = (tt, refl)
 all-digits radix (d ∷ ds) small all =
     let parts = and_parts (is_digit d radix) (list_all (λ c. is_digit c radix) ds) all in
@@ -51,7 +51,7 @@ signless radix (d ∷ ds) small all =
     let plus : (d == 43) ≡ false = ne_eqb d 43 (λ e. omega arith) in
     (minus, rw (minus, plus) refl)
 
-OkIff-same : {T E : Type 0} (r : Result T E) (P Q : Type 0) (v : T) → (P → Q) → (Q → P) → OkIff r P v → OkIff r Q v
+pub OkIff-same : {T E : Type 0} (r : Result T E) (P Q : Type 0) (v : T) → (P → Q) → (Q → P) → OkIff r P v → OkIff r Q v
 OkIff-same (Ok x) P Q v to from h = (to h.0, h.1)
 OkIff-same (Err e) P Q v to from h = λ q. h (from q)
 

@@ -7,3 +7,4 @@ pub mod Keywords
 pub mod SignScan
 pub mod WordKinds
 pub mod IntLemmas
+pub mod ScalarLemmas

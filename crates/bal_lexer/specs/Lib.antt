@@ -4,3 +4,4 @@ pub mod Lexes
 pub mod Runs
 pub mod Words
 pub mod Numbers
+pub mod Strings
