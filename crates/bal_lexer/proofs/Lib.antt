@@ -8,3 +8,5 @@ pub mod SignScan
 pub mod WordKinds
 pub mod IntLemmas
 pub mod ScalarLemmas
+pub mod Pieces
+pub mod StringScan

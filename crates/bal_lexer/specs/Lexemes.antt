@@ -66,15 +66,15 @@ abbrev pub is_plain : ℕ → Bool
 is_plain c = not (((c == 34) || (c == 92)) || ((c == 10) || (c == 13)))
 
 -- the character that a `\` and this letter stand for
-abbrev pub is_escape : ℕ → ℕ → Type 0
-is_escape letter c = ((letter ≡ 92) × (c ≡ 92)) ⊎ ((letter ≡ 34) × (c ≡ 34)) ⊎ ((letter ≡ 110) × (c ≡ 10)) ⊎ ((letter ≡ 114) × (c ≡ 13)) ⊎ ((letter ≡ 116) × (c ≡ 9))
+abbrev pub IsEscape : ℕ → ℕ → Type 0
+IsEscape letter c = ((letter ≡ 92) × (c ≡ 92)) ⊎ ((letter ≡ 34) × (c ≡ 34)) ⊎ ((letter ≡ 110) × (c ≡ 10)) ⊎ ((letter ≡ 114) × (c ≡ 13)) ⊎ ((letter ≡ 116) × (c ≡ 9))
 
 -- the piece of a string literal stands for the character: itself, an escape by a letter, or an escape by the
 -- hexadecimal number of a code point that is no surrogate
 abbrev pub StandsFor : List ℕ → ℕ → Type 0
 StandsFor piece c =
     ((piece ≡ c ∷ []) × (is_plain c ≡ true))
-    ⊎ ((letter : ℕ) × (piece ≡ 92 ∷ letter ∷ []) × is_escape letter c)
+    ⊎ ((letter : ℕ) × (piece ≡ 92 ∷ letter ∷ []) × IsEscape letter c)
     ⊎ ((digits : List ℕ) × (piece ≡ codes "\\u{" ++ digits ++ codes "}") × AreDigits is_ascii_hexdigit digits
       × (length digits ≤ 6) × (c ≡ digits_value 16 digits) × IsScalar c)
 
