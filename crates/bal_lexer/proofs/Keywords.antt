@@ -1,9 +1,10 @@
 -- The keywords, one by one.
-use Rattle.std.proofs.Common.{◌≡◌, ℕ, ◌<◌, true, length, Some, None, Contains, find, refl, sym, ap, ◌∙◌, lit<}
+use Rattle.std.proofs.Common.{◌≡◌, ℕ, ◌<◌, true, false, length, codes, Some, None, Contains, find, refl, sym, ap, ◌∙◌, lit<}
 use Rattle.std.specs.Str.{bytes_eq}
+use Rattle.std.specs.List.{list_any}
 use Rattle.bal_base.specs.declared.token.Keyword.{Keyword}
 use Rattle.bal_base.specs.declared.token.Keyword.TheVariants as keyword
-use Rattle.bal_lexer.specs.Spellings.{keyword_text}
+use Rattle.bal_lexer.specs.Spellings.{keyword_text, left_out_words}
 use Rattle.bal_lexer.specs.declared.keyword.TheConstants.{KEYWORDS}
 use Rattle.bal_lexer.proofs.Ascii.{all_ascii}
 
@@ -95,6 +96,97 @@ keyword_ascii keyword.Panic = refl
 keyword_ascii keyword.Start = refl
 keyword_ascii keyword.Wait = refl
 keyword_ascii keyword.Flush = refl
+
+-- no keyword is left out
+pub keyword-not_left_out : (k : Keyword) → list_any (λ w. bytes_eq w (keyword_text k)) left_out_words ≡ false
+unfolding left_out_words
+keyword-not_left_out keyword.Import = refl
+keyword-not_left_out keyword.As = refl
+keyword-not_left_out keyword.Public = refl
+keyword-not_left_out keyword.Type = refl
+keyword-not_left_out keyword.Const = refl
+keyword-not_left_out keyword.Final = refl
+keyword-not_left_out keyword.Var = refl
+keyword-not_left_out keyword.Function = refl
+keyword-not_left_out keyword.Returns = refl
+keyword-not_left_out keyword.Return = refl
+keyword-not_left_out keyword.Isolated = refl
+keyword-not_left_out keyword.Worker = refl
+keyword-not_left_out keyword.Record = refl
+keyword-not_left_out keyword.Map = refl
+keyword-not_left_out keyword.Error = refl
+keyword-not_left_out keyword.Future = refl
+keyword-not_left_out keyword.Any = refl
+keyword-not_left_out keyword.AnyData = refl
+keyword-not_left_out keyword.Never = refl
+keyword-not_left_out keyword.ReadOnly = refl
+keyword-not_left_out keyword.Int = refl
+keyword-not_left_out keyword.String = refl
+keyword-not_left_out keyword.Boolean = refl
+keyword-not_left_out keyword.Byte = refl
+keyword-not_left_out keyword.True = refl
+keyword-not_left_out keyword.False = refl
+keyword-not_left_out keyword.If = refl
+keyword-not_left_out keyword.Else = refl
+keyword-not_left_out keyword.While = refl
+keyword-not_left_out keyword.Foreach = refl
+keyword-not_left_out keyword.In = refl
+keyword-not_left_out keyword.Match = refl
+keyword-not_left_out keyword.Break = refl
+keyword-not_left_out keyword.Continue = refl
+keyword-not_left_out keyword.Is = refl
+keyword-not_left_out keyword.Check = refl
+keyword-not_left_out keyword.CheckPanic = refl
+keyword-not_left_out keyword.Trap = refl
+keyword-not_left_out keyword.Panic = refl
+keyword-not_left_out keyword.Start = refl
+keyword-not_left_out keyword.Wait = refl
+keyword-not_left_out keyword.Flush = refl
+
+-- no keyword is a sign
+pub keyword-no_sign : (k : Keyword) → bytes_eq (keyword_text k) (codes "_") ≡ false
+keyword-no_sign keyword.Import = refl
+keyword-no_sign keyword.As = refl
+keyword-no_sign keyword.Public = refl
+keyword-no_sign keyword.Type = refl
+keyword-no_sign keyword.Const = refl
+keyword-no_sign keyword.Final = refl
+keyword-no_sign keyword.Var = refl
+keyword-no_sign keyword.Function = refl
+keyword-no_sign keyword.Returns = refl
+keyword-no_sign keyword.Return = refl
+keyword-no_sign keyword.Isolated = refl
+keyword-no_sign keyword.Worker = refl
+keyword-no_sign keyword.Record = refl
+keyword-no_sign keyword.Map = refl
+keyword-no_sign keyword.Error = refl
+keyword-no_sign keyword.Future = refl
+keyword-no_sign keyword.Any = refl
+keyword-no_sign keyword.AnyData = refl
+keyword-no_sign keyword.Never = refl
+keyword-no_sign keyword.ReadOnly = refl
+keyword-no_sign keyword.Int = refl
+keyword-no_sign keyword.String = refl
+keyword-no_sign keyword.Boolean = refl
+keyword-no_sign keyword.Byte = refl
+keyword-no_sign keyword.True = refl
+keyword-no_sign keyword.False = refl
+keyword-no_sign keyword.If = refl
+keyword-no_sign keyword.Else = refl
+keyword-no_sign keyword.While = refl
+keyword-no_sign keyword.Foreach = refl
+keyword-no_sign keyword.In = refl
+keyword-no_sign keyword.Match = refl
+keyword-no_sign keyword.Break = refl
+keyword-no_sign keyword.Continue = refl
+keyword-no_sign keyword.Is = refl
+keyword-no_sign keyword.Check = refl
+keyword-no_sign keyword.CheckPanic = refl
+keyword-no_sign keyword.Trap = refl
+keyword-no_sign keyword.Panic = refl
+keyword-no_sign keyword.Start = refl
+keyword-no_sign keyword.Wait = refl
+keyword-no_sign keyword.Flush = refl
 
 find_written : (k : Keyword) → find (λ h. bytes_eq (keyword_text h) (keyword_text k)) KEYWORDS ≡ Some k
 find_written keyword.Import = refl

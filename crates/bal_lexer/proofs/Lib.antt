@@ -10,3 +10,6 @@ pub mod IntLemmas
 pub mod ScalarLemmas
 pub mod Pieces
 pub mod StringScan
+pub mod Starts
+pub mod Heads
+pub mod Classes

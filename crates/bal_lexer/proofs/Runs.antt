@@ -1,5 +1,5 @@
 -- Runs of characters, in a text and in its list of characters.
-use Rattle.std.proofs.Common.{◌≡◌, ℕ, ◌+◌, ◌-◌, Bool, true, false, cond, ◌&&◌, inl, inr, List, [], ◌∷◌, ◌++◌, length, take, drop, IsUtf8, chars, refl, sym, ap, ◌∙◌, subst, arith, append_assoc, rules}
+use Rattle.std.proofs.Common.{◌≡◌, ℕ, ◌+◌, ◌-◌, ◌≤◌, Bool, true, false, cond, ◌&&◌, inl, inr, List, [], ◌∷◌, ◌++◌, length, take, drop, IsUtf8, chars, refl, sym, ap, ◌∙◌, subst, arith, append_assoc, rules}
 use Rattle.std.specs.Prelude.{encode_utf8, encode_utf8_all}
 use Rattle.std.specs.Str.{IsCharBoundary}
 use Rattle.std.specs.List.{list_all}
@@ -92,3 +92,14 @@ list_all-weaker p q [] weaker all = refl
 list_all-weaker p q (x ∷ xs) weaker all =
     let parts = and_parts (p x) (list_all p xs) all in
     and_from (q x) (list_all q xs) (weaker x parts.0) (list_all-weaker p q xs weaker parts.1)
+
+-- a front that passes is no longer than the run
+pub run-longest : (test : ℕ → Bool) (zs xs ys : List ℕ) → zs ≡ xs ++ ys → list_all test xs ≡ true → length xs ≤ length (run test zs)
+run-longest test zs xs ys split all = subst (λ l. length xs ≤ length (run test l)) (sym split) (go test xs ys all)
+  where
+    go : (test : ℕ → Bool) (xs ys : List ℕ) → list_all test xs ≡ true → length xs ≤ length (run test (xs ++ ys))
+    go test [] ys all = omega arith
+    go test (x ∷ xs) ys all =
+        let parts = and_parts (test x) (list_all test xs) all in
+        let more = go test xs ys parts.1 in
+        rw parts.0 (omega (arith, more))

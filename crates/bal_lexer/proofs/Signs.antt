@@ -1,9 +1,11 @@
 -- The signs, one by one.
-use Rattle.std.proofs.Common.{◌≡◌, ℕ, ◌<◌, true, length, Some, None, Contains, find, refl, sym, ap, ◌∙◌, lit<}
+use Rattle.std.proofs.Common.{◌≡◌, ℕ, ◌<◌, true, false, not, ◌||◌, ◌==◌, nat_le, nat_eq, length, codes, Some, None, Contains, find, refl, sym, ap, ◌∙◌, lit<}
 use Rattle.std.specs.Str.{bytes_eq}
+use Rattle.std.specs.List.{starts_with}
 use Rattle.bal_base.specs.declared.token.Sign.{Sign}
 use Rattle.bal_base.specs.declared.token.Sign.TheVariants as sign
 use Rattle.bal_lexer.specs.Spellings.{sign_text}
+use Rattle.bal_lexer.specs.Lexemes.{begins_with}
 use Rattle.bal_lexer.specs.declared.sign.TheConstants.{SIGNS}
 use Rattle.bal_lexer.proofs.Ascii.{all_ascii}
 use Rattle.bal_lexer.proofs.Finds.{descends}
@@ -105,6 +107,102 @@ sign_ascii sign.MinusEqual = refl
 sign_ascii sign.StarEqual = refl
 sign_ascii sign.SlashEqual = refl
 sign_ascii sign.Underscore = refl
+
+-- a sign that begins with `/` has two characters at most
+pub slash_short : (g : Sign) → (not (begins_with (λ c. c == 47) (sign_text g)) || nat_le (length (sign_text g)) 2) ≡ true
+slash_short sign.OpenBraceBar = refl
+slash_short sign.CloseBraceBar = refl
+slash_short sign.OpenBrace = refl
+slash_short sign.CloseBrace = refl
+slash_short sign.OpenParen = refl
+slash_short sign.CloseParen = refl
+slash_short sign.OpenBracket = refl
+slash_short sign.CloseBracket = refl
+slash_short sign.Semicolon = refl
+slash_short sign.Comma = refl
+slash_short sign.Colon = refl
+slash_short sign.Dot = refl
+slash_short sign.QuestionDot = refl
+slash_short sign.Elvis = refl
+slash_short sign.Question = refl
+slash_short sign.Ellipsis = refl
+slash_short sign.DotDotLess = refl
+slash_short sign.DoubleArrow = refl
+slash_short sign.Arrow = refl
+slash_short sign.LeftArrow = refl
+slash_short sign.FatArrow = refl
+slash_short sign.TripleEqual = refl
+slash_short sign.NotTripleEqual = refl
+slash_short sign.DoubleEqual = refl
+slash_short sign.NotEqual = refl
+slash_short sign.Equal = refl
+slash_short sign.LessEqual = refl
+slash_short sign.GreaterEqual = refl
+slash_short sign.Less = refl
+slash_short sign.Greater = refl
+slash_short sign.DoubleAmpersand = refl
+slash_short sign.DoubleBar = refl
+slash_short sign.Ampersand = refl
+slash_short sign.Bar = refl
+slash_short sign.Not = refl
+slash_short sign.Plus = refl
+slash_short sign.Minus = refl
+slash_short sign.Star = refl
+slash_short sign.Slash = refl
+slash_short sign.Percent = refl
+slash_short sign.PlusEqual = refl
+slash_short sign.MinusEqual = refl
+slash_short sign.StarEqual = refl
+slash_short sign.SlashEqual = refl
+slash_short sign.Underscore = refl
+
+-- no sign is a comment
+pub no_comment : (g : Sign) → starts_with nat_eq (sign_text g) (codes "//") ≡ false
+no_comment sign.OpenBraceBar = refl
+no_comment sign.CloseBraceBar = refl
+no_comment sign.OpenBrace = refl
+no_comment sign.CloseBrace = refl
+no_comment sign.OpenParen = refl
+no_comment sign.CloseParen = refl
+no_comment sign.OpenBracket = refl
+no_comment sign.CloseBracket = refl
+no_comment sign.Semicolon = refl
+no_comment sign.Comma = refl
+no_comment sign.Colon = refl
+no_comment sign.Dot = refl
+no_comment sign.QuestionDot = refl
+no_comment sign.Elvis = refl
+no_comment sign.Question = refl
+no_comment sign.Ellipsis = refl
+no_comment sign.DotDotLess = refl
+no_comment sign.DoubleArrow = refl
+no_comment sign.Arrow = refl
+no_comment sign.LeftArrow = refl
+no_comment sign.FatArrow = refl
+no_comment sign.TripleEqual = refl
+no_comment sign.NotTripleEqual = refl
+no_comment sign.DoubleEqual = refl
+no_comment sign.NotEqual = refl
+no_comment sign.Equal = refl
+no_comment sign.LessEqual = refl
+no_comment sign.GreaterEqual = refl
+no_comment sign.Less = refl
+no_comment sign.Greater = refl
+no_comment sign.DoubleAmpersand = refl
+no_comment sign.DoubleBar = refl
+no_comment sign.Ampersand = refl
+no_comment sign.Bar = refl
+no_comment sign.Not = refl
+no_comment sign.Plus = refl
+no_comment sign.Minus = refl
+no_comment sign.Star = refl
+no_comment sign.Slash = refl
+no_comment sign.Percent = refl
+no_comment sign.PlusEqual = refl
+no_comment sign.MinusEqual = refl
+no_comment sign.StarEqual = refl
+no_comment sign.SlashEqual = refl
+no_comment sign.Underscore = refl
 
 find_written : (g : Sign) → find (λ h. bytes_eq (sign_text h) (sign_text g)) SIGNS ≡ Some g
 find_written sign.OpenBraceBar = refl

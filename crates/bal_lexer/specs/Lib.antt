@@ -5,3 +5,4 @@ pub mod Runs
 pub mod Words
 pub mod Numbers
 pub mod Strings
+pub mod Firsts

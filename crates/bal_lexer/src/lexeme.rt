@@ -1,4 +1,8 @@
 //! What stands at the front of a text.
+ghost use Rattle.std.specs.Prelude.{◌≡◌, ◌∷◌, IfOk, chars, option_map};
+ghost use Rattle.bal_lexer.specs.Runs.{after_run};
+ghost use Rattle.bal_lexer.specs.Strings.{Closes};
+ghost use Rattle.bal_lexer.specs.Firsts.{start_of, in_line, First, FirstAt};
 
 use crate::cursor::{Class, split_first, split_run, strip};
 use crate::number::number;
@@ -32,7 +36,9 @@ enum Start {
     Sign,
 }
 
-fn start_of(c: char) -> Start {
+fn start_of(c: char) -> Start
+    ensures { result ≡ start_of c }
+{
     match c {
         ' ' | '\t' | '\n' | '\r' => Start::White,
         '`' | '\'' | '@' | '~' | '^' => Start::LeftOutMark,
@@ -50,7 +56,9 @@ fn start_of(c: char) -> Start {
 }
 
 /// The longest lexeme at the text's front, and what follows it.
-pub(crate) fn first_lexeme(alloc: Global, s: &str) -> Result<Option<(Lexeme, &str)>, Memory> {
+pub(crate) fn first_lexeme(alloc: Global, s: &str) -> Result<Option<(Lexeme, &str)>, Memory>
+    ensures { IfOk result (λ found. First (chars s.now) (option_map (λ x. (x.0, chars x.1.now)) found)) }
+{
     let Some((c, after)) = split_first(s) else {
         return Ok(None);
     };
@@ -66,7 +74,9 @@ pub(crate) fn first_lexeme(alloc: Global, s: &str) -> Result<Option<(Lexeme, &st
 }
 
 /// A string literal, after its opening quote.
-fn literal(alloc: Global, s: &str) -> Result<Option<(Lexeme, &str)>, Memory> {
+fn literal(alloc: Global, s: &str) -> Result<Option<(Lexeme, &str)>, Memory>
+    ensures { IfOk result (λ found. FirstAt Start.Quote (34 ∷ chars s.now) (option_map (λ x. (x.0, chars x.1.now)) found)) }
+{
     match string(alloc, s)? {
         None => Ok(None),
         Some((text, after)) => Ok(Some((Lexeme::Token(TokenKind::Str(text)), after))),
@@ -74,7 +84,9 @@ fn literal(alloc: Global, s: &str) -> Result<Option<(Lexeme, &str)>, Memory> {
 }
 
 /// A comment that begins with `//`, or a sign.
-fn comment_or_sign(s: &str) -> Option<(Lexeme, &str)> {
+fn comment_or_sign(s: &str) -> Option<(Lexeme, &str)>
+    ensures { FirstAt Start.Sign (chars s.now) (option_map (λ x. (x.0, chars x.1.now)) result) }
+{
     if let Some(after) = strip(s, "//") {
         return Some((Lexeme::Gap, comment_end(after)));
     }
@@ -83,6 +95,8 @@ fn comment_or_sign(s: &str) -> Option<(Lexeme, &str)> {
 }
 
 /// What follows a comment, from the line's end on.
-fn comment_end(s: &str) -> &str {
+fn comment_end(s: &str) -> &str
+    ensures { chars result.now ≡ after_run in_line (chars s.now) }
+{
     split_run(s, Class::Line).1
 }
