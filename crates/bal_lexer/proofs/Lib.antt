@@ -13,3 +13,5 @@ pub mod StringScan
 pub mod Starts
 pub mod Heads
 pub mod Classes
+pub mod StringFirst
+pub mod NumberFirst

@@ -18,8 +18,9 @@ returns-in-Some c =
     subst (λ a. FirstAt Sign s (Some (Gap, a))) (sym c.comment_end.ensures) (comment-first s after (c.in-Some.ensures ∙ ap (λ l. l ++ after) slashes))
 
 pub returns-in_err-sign : goal.returns-in_err-sign
-returns-in_err-sign c = ?
+returns-in_err-sign c =
+    rw c.from_residual.ensures (sign-none (chars c.args.s.now) (λ rest e. c.in_default.ensures rest (e ∙ sym (ap (λ l. l ++ rest) slashes))) c.in_err-sign.ensures.longest)
 
 pub returns : goal.returns
 returns c =
-    sign-first (chars c.args.s.now) c.in_ok-sign.sign (chars c.in_ok-sign.after.now) (λ rest e. c.in-None.ensures rest (e ∙ sym (ap (λ l. l ++ rest) slashes))) c.in_ok-sign.ensures.here c.in_ok-sign.ensures.longest
+    sign-first (chars c.args.s.now) c.in_ok-sign.sign (chars c.in_ok-sign.after.now) (λ rest e. c.in_default.ensures rest (e ∙ sym (ap (λ l. l ++ rest) slashes))) c.in_ok-sign.ensures.here c.in_ok-sign.ensures.longest
