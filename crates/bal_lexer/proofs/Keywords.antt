@@ -188,7 +188,7 @@ keyword-no_sign keyword.Start = refl
 keyword-no_sign keyword.Wait = refl
 keyword-no_sign keyword.Flush = refl
 
-find_written : (k : Keyword) → find (λ h. bytes_eq (keyword_text h) (keyword_text k)) KEYWORDS ≡ Some k
+pub find_written : (k : Keyword) → find (λ h. bytes_eq (keyword_text h) (keyword_text k)) KEYWORDS ≡ Some k
 find_written keyword.Import = refl
 find_written keyword.As = refl
 find_written keyword.Public = refl

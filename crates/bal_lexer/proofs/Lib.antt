@@ -15,3 +15,4 @@ pub mod Heads
 pub mod Classes
 pub mod StringFirst
 pub mod NumberFirst
+pub mod Unique

@@ -206,7 +206,7 @@ same-length text xs ys as' bs p q e =
 int-of : (text slice after : List ℕ) (n : ℕ) → text ≡ slice ++ after → IsIntLiteral slice n → n ≤ 9223372036854775807 → begins_with is_xid_continue after ≡ false → literal_at text ≡ Some (Token (kind.Int (pos n)), after)
 int-of text slice after n split literal small ends = ap literal_at split ∙ literal_at-int slice after n (record { literal = literal; small = small; ends = ends })
 
-first-same : (x y : ℕ) (xs ys : List ℕ) → x ∷ xs ≡ y ∷ ys → x ≡ y
+pub first-same : (x y : ℕ) (xs ys : List ℕ) → x ∷ xs ≡ y ∷ ys → x ≡ y
 first-same x y xs ys e = cc
 
 -- a literal that a fraction follows is within its digits

@@ -204,7 +204,7 @@ no_comment sign.StarEqual = refl
 no_comment sign.SlashEqual = refl
 no_comment sign.Underscore = refl
 
-find_written : (g : Sign) → find (λ h. bytes_eq (sign_text h) (sign_text g)) SIGNS ≡ Some g
+pub find_written : (g : Sign) → find (λ h. bytes_eq (sign_text h) (sign_text g)) SIGNS ≡ Some g
 find_written sign.OpenBraceBar = refl
 find_written sign.CloseBraceBar = refl
 find_written sign.OpenBrace = refl

@@ -20,7 +20,7 @@ pub keyword-none : (s : List ℕ) → IsUtf8 s → find (λ h. bytes_eq (keyword
 keyword-none s text none k e =
     both_ways _ (find-none (λ h. bytes_eq (keyword_text h) s) KEYWORDS k none (has_keyword k)) ((bytes_eq-Decides (keyword_text k) s).1 (sym (bytes-ascii s (keyword_text k) text (keyword_ascii k) e)))
 
-contains-any : (s : List ℕ) (xs : List (List ℕ)) → list_any (λ w. bytes_eq w s) xs ≡ true → Contains xs s
+pub contains-any : (s : List ℕ) (xs : List (List ℕ)) → list_any (λ w. bytes_eq w s) xs ≡ true → Contains xs s
 contains-any s [] any = cc
 contains-any s (x ∷ xs) any =
     elim (or_cases (bytes_eq x s) (list_any (λ w. bytes_eq w s) xs) any) [
@@ -28,7 +28,7 @@ contains-any s (x ∷ xs) any =
       | inr there ↦ let (k, lt, e) = contains-any s xs there in (suc k, omega arith, e)
     ]
 
-list_any-at : (p : List ℕ → Bool) (xs : List (List ℕ)) (y : List ℕ) → list_any p xs ≡ false → Contains xs y → p y ≡ false
+pub list_any-at : (p : List ℕ → Bool) (xs : List (List ℕ)) (y : List ℕ) → list_any p xs ≡ false → Contains xs y → p y ≡ false
 list_any-at p [] y any (k, lt, e) = absurd (omega arith)
 list_any-at p (x ∷ xs) y any (zero, lt, e) = ap p (sym e) ∙ (or_parts (p x) (list_any p xs) any).0
 list_any-at p (x ∷ xs) y any (suc k, lt, e) = list_any-at p xs y (or_parts (p x) (list_any p xs) any).1 (k, omega arith, e)

@@ -5,6 +5,7 @@ use Rattle.bal_lexer.specs.declared.lexeme.Start.TheVariants.{White, LeftOutMark
 use Rattle.bal_lexer.specs.Firsts.{First, FirstAt}
 use Rattle.bal_lexer.specs.Numbers.{number_at}
 use Rattle.bal_lexer.proofs.Heads.{first-from, tells}
+use Rattle.bal_lexer.proofs.Unique.{begins-same}
 use Rattle.bal_lexer.proofs.Classes.{white-first, mark-first, hash-first, word-first}
 use Rattle.bal_lexer.proofs.NumberFirst.{number-first}
 use Rattle.bal_lexer.proofs.lexeme.first_lexeme.Goals as goal
