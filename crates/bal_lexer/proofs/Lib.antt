@@ -16,3 +16,4 @@ pub mod Classes
 pub mod StringFirst
 pub mod NumberFirst
 pub mod Unique
+pub mod Readings

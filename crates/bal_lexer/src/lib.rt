@@ -3,7 +3,7 @@
 //! - [`lex`]: the tokens of a whole text, or the place where it is refused.
 #![tactic(auto)]
 
-ghost use Rattle.std.specs.Prelude.{◌≡◌, ℕ, ◌<◌, ◌≤◌, List, Some, IfOk, IfErr, MatchResult, length, chars, ⊤};
+ghost use Rattle.std.specs.Prelude.{◌≡◌, ℕ, ◌-◌, ◌<◌, ◌≤◌, List, Some, IfOk, IfErr, MatchResult, length, chars, ⊤};
 ghost use Rattle.bal_base.specs.declared.fault.FaultCode.{FaultCode};
 ghost use Rattle.bal_base.specs.declared.token.Token.{Token as TokenOf};
 ghost use Rattle.bal_lexer.specs.Lexes.{Lexes, Refuses, IsRefusal, IfFault};
@@ -42,12 +42,15 @@ pub fn lex(alloc: Global, file: u32, text: &str) -> Result<Vec<Token>, Stop<Faul
     let mut rest = text;
     while !rest.is_empty() {
         let at = place(text, rest);
-        match first_lexeme(alloc, rest) {
+        let (lexeme, after) = match first_lexeme(alloc, rest) {
             Err(Memory) => return Err(Stop::Memory),
             Ok(None) => return Err(refusal(FaultCode::BadToken, file, at)),
-            Ok(Some((Lexeme::LeftOut, _))) => return Err(refusal(FaultCode::LeftOut, file, at)),
-            Ok(Some((Lexeme::Gap, after))) => rest = after,
-            Ok(Some((Lexeme::Token(kind), after))) => {
+            Ok(Some(found)) => found,
+        };
+        match lexeme {
+            Lexeme::LeftOut => return Err(refusal(FaultCode::LeftOut, file, at)),
+            Lexeme::Gap => rest = after,
+            Lexeme::Token(kind) => {
                 let end = place(text, after);
                 tokens.push(Token { kind, at, end })?;
                 rest = after;
@@ -58,11 +61,17 @@ pub fn lex(alloc: Global, file: u32, text: &str) -> Result<Vec<Token>, Stop<Faul
 }
 
 /// Where in the text its end `rest` begins.
-fn place(text: &str, rest: &str) -> u32 {
+fn place(text: &str, rest: &str) -> u32
+    requires small { length text.now ≤ 4294967295 }
+    requires within { length rest.now ≤ length text.now }
+    ensures { result ≡ length text.now - length rest.now }
+{
     (text.len() - rest.len()) as u32
 }
 
-fn refusal(code: FaultCode, file: u32, at: u32) -> Stop<Fault> {
+fn refusal(code: FaultCode, file: u32, at: u32) -> Stop<Fault>
+    ensures { IfFault result (λ f. (f.code ≡ code) × (f.at ≡ Some (record { file = file; at = at })) × (f.kept ≡ Kept.Nothing)) }
+{
     Stop::Fault(Fault {
         code,
         at: Some(Place { file, at }),
