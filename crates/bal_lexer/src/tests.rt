@@ -3,6 +3,7 @@ use crate::lex;
 use crate::sign::sign_text;
 use bal_base::{Fault, Stop, Token, TokenKind};
 use std::alloc::{AllocError, Global};
+use std::process::Abort;
 use std::test::Fail;
 
 fn show_kind(out: &mut String, kind: &TokenKind) -> Result<(), AllocError> {
@@ -50,7 +51,7 @@ fn shown(alloc: Global, text: &str) -> Result<String, AllocError> {
 }
 
 /// Texts, and what they are: each token as its kind, what it stands for and its place, or a fault.
-const CASES: [(&str, &str); 173] = [
+static CASES: [(&str, &str); 173] = [
     ("", ""),
     (" \t\r\n", ""),
     ("a b", "w:a@0-1;w:b@2-3;"),
@@ -226,11 +227,15 @@ const CASES: [(&str, &str); 173] = [
     ("\u{b}", "102 in 7@0"),
 ];
 
-#[test]
-fn texts_become_tokens(rt: HostRuntime) -> Result<(), Fail> {
-    for (text, expected) in CASES {
-        let shown = shown(rt.alloc(), text)?;
-        assert_eq!(rt; shown.as_str(), expected, "{text}");
+fn compare(rt: &impl Abort, alloc: Global, cases: &[(&str, &str)]) -> Result<(), Fail> {
+    for (text, expected) in cases {
+        let shown = shown(alloc, text)?;
+        assert_eq!(rt; shown.as_str(), *expected, "{text}");
     }
     Ok(())
+}
+
+#[test]
+fn texts_become_tokens(rt: HostRuntime) -> Result<(), Fail> {
+    compare(&rt, rt.alloc(), &CASES)
 }
