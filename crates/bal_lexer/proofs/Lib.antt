@@ -17,3 +17,4 @@ pub mod StringFirst
 pub mod NumberFirst
 pub mod Unique
 pub mod Readings
+pub mod Spans

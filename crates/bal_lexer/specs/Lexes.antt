@@ -1,5 +1,5 @@
 -- A whole text as tokens, and where a text is refused.
-use Rattle.std.specs.Prelude.{◌≡◌, ◌≢◌, ℕ, ◌+◌, ◌≤◌, List, [], ◌∷◌, ◌++◌, length, encode_utf8_all, Some, ⊤}
+use Rattle.std.specs.Prelude.{◌≡◌, ◌≢◌, ℕ, ◌+◌, ◌<◌, ◌≤◌, List, [], ◌∷◌, ◌++◌, length, encode_utf8_all, IsCharBoundary, Some, ⊤}
 use Rattle.bal_base.specs.declared.token.TokenKind.{TokenKind}
 use Rattle.bal_base.specs.declared.token.Token.{Token as TokenOf}
 use Rattle.bal_base.specs.declared.fault.FaultCode.{FaultCode}
@@ -43,6 +43,13 @@ pub data LexesFrom : ℕ → List ℕ → List TokenOf → Type 0 where
 -- the text is these tokens
 abbrev pub Lexes : List ℕ → List TokenOf → Type 0
 Lexes text tokens = LexesFrom 0 text tokens
+
+-- Each slice has a byte or more, stands between characters of the text, and begins no earlier than the
+-- slice before it ends, which is at `from`.
+abbrev pub AreSpans : List ℕ → ℕ → List TokenOf → Type 0
+AreSpans bytes from [] = from ≤ length bytes
+AreSpans bytes from (t ∷ tokens) =
+    (from ≤ t.at) × (t.at < t.end) × IsCharBoundary bytes t.at × IsCharBoundary bytes t.end × AreSpans bytes t.end tokens
 
 -- What is left of a text from the byte `at` on is refused at a place, the first at which a left-out form
 -- stands or no lexeme does.

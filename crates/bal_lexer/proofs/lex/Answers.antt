@@ -4,6 +4,7 @@ use Rattle.bal_base.specs.declared.token.Token.{Token as TokenOf}
 use Rattle.bal_lexer.specs.declared.lexeme.Lexeme.TheVariants.{Gap, LeftOut, Token}
 use Rattle.bal_lexer.specs.Lexes.{byte_len, Begins, token_at, Refuses, RefusesFrom, left_out, bad_token}
 use Rattle.bal_lexer.proofs.Readings.{HasLexed, has_lexed-none, has_lexed-gap, has_lexed-token, has_lexed-all, step, found-some, found-none, chars-some, chars-none, answer-right, answer-no_tokens, answer-only, lexes-same, lexes-no_refusal}
+use Rattle.bal_lexer.proofs.Spans.{spans, refusal-place, refusal-codes}
 use Rattle.bal_lexer.proofs.lex.Goals as goal
 use Rattle.bal_lexer.proofs.lex.Goals.{After-refusal, After-refusal-in-LeftOut}
 
@@ -126,3 +127,18 @@ returns-clause-only_tokens c = λ ts lexes. lexes-same (returns-clause-tokens c)
 
 pub returns-clause-only_refusal : goal.returns-clause-only_refusal
 returns-clause-only_refusal c = λ d at refuses. lexes-no_refusal (returns-clause-tokens c) refuses
+
+pub returns-in-Ok-None-clause-codes : goal.returns-in-Ok-None-clause-codes
+returns-in-Ok-None-clause-codes c = refusal-codes (chars c.args.text.now) c.args.file c.refusal.result (returns-in-Ok-None-clause-refused c)
+
+pub returns-in-Ok-None-clause-place : goal.returns-in-Ok-None-clause-place
+returns-in-Ok-None-clause-place c = refusal-place c.args.text.now c.args.file c.refusal.result c.utf8.text (returns-in-Ok-None-clause-refused c)
+
+pub returns-in-LeftOut-clause-codes : goal.returns-in-LeftOut-clause-codes
+returns-in-LeftOut-clause-codes c = refusal-codes (chars c.args.text.now) c.args.file c.refusal-in-LeftOut.result (returns-in-LeftOut-clause-refused c)
+
+pub returns-in-LeftOut-clause-place : goal.returns-in-LeftOut-clause-place
+returns-in-LeftOut-clause-place c = refusal-place c.args.text.now c.args.file c.refusal-in-LeftOut.result c.utf8.text (returns-in-LeftOut-clause-refused c)
+
+pub returns-clause-spans : goal.returns-clause-spans
+returns-clause-spans c = spans c.args.text.now c.loop-rest.tokens.items c.utf8.text (returns-clause-tokens c)
