@@ -16,7 +16,7 @@ use Rattle.bal_base.specs.declared.stop.Stop.{Stop}
 use Rattle.bal_base.specs.declared.stop.Stop.TheVariants as stop
 use Rattle.bal_lexer.specs.declared.lexeme.Lexeme.{Lexeme}
 use Rattle.bal_lexer.specs.declared.lexeme.Lexeme.TheVariants.{Gap, LeftOut, Token}
-use Rattle.bal_lexer.specs.Lexes.{byte_len, Begins, NothingBegins, token_at, LexesFrom, ends, passes, takes, Lexes, RefusesFrom, left_out, bad_token, past_gap, past_token, Refuses, IsRefusal, IfFault}
+use Rattle.bal_lexer.specs.Lexes.{byte_len, Begins, NothingBegins, token_at, LexesFrom, ends, passes, takes, Lexes, RefusesFrom, left_out, bad_token, past_gap, past_token, Refuses, IsFaultAt, IsRefusal, IfFault}
 use Rattle.bal_lexer.specs.Firsts.{First}
 use Rattle.bal_lexer.proofs.Heads.{heads}
 use Rattle.bal_lexer.proofs.Unique.{Same, begins-same}
@@ -148,25 +148,21 @@ empty-length (x ∷ s) e = absurd (omega arith)
 pub chars-none : (s : List ℕ) → (length s == 0) ≡ true → chars s ≡ []
 chars-none s empty = ap chars (empty-length s (eqb-true (length s) 0 empty)) ∙ chars-nil
 
--- the fault says so
-abbrev pub IsAnswer : ℕ → FaultCode → ℕ → Fault → Type 0
-IsAnswer file c at f = (f.code ≡ c) × (f.at ≡ Some (record { file = file; at = at })) × (f.kept ≡ kept.Nothing)
-
 -- an answer that a text is refused is right, and no other is
-pub answer-right : (text : List ℕ) (file : ℕ) (c : FaultCode) (at : ℕ) (stop : Stop Fault) → Refuses text c at → IfFault stop (IsAnswer file c at) → IfFault stop (IsRefusal text file)
+pub answer-right : (text : List ℕ) (file : ℕ) (c : FaultCode) (at : ℕ) (stop : Stop Fault) → Refuses text c at → IfFault stop (IsFaultAt file c at) → IfFault stop (IsRefusal text file)
 answer-right text file c at stop.Memory refused answer = tt
-answer-right text file c at (stop.Fault f) refused answer = record { at = at; refused = subst (λ d. Refuses text d at) (sym answer.0) refused; place = answer.1; kept = answer.2 }
+answer-right text file c at (stop.Fault f) refused answer = (at, subst (λ d. Refuses text d at) (sym answer.0) refused, (refl, answer.1, answer.2))
 
 pub answer-no_tokens : (text : List ℕ) (c : FaultCode) (at : ℕ) (stop : Stop Fault) → Refuses text c at → (ts : List TokenOf) → Lexes text ts → IfFault stop (λ _. ⊥)
 answer-no_tokens text c at stop.Memory refused ts lexes = tt
 answer-no_tokens text c at (stop.Fault f) refused ts lexes = lexes-no_refusal lexes refused
 
-pub answer-only : (text : List ℕ) (file : ℕ) (c : FaultCode) (at : ℕ) (stop : Stop Fault) → Refuses text c at → IfFault stop (IsAnswer file c at)
-    → (d : FaultCode) (place : ℕ) → Refuses text d place → IfFault stop (λ f. (f.code ≡ d) × (f.at ≡ Some (record { file = file; at = place })))
+pub answer-only : (text : List ℕ) (file : ℕ) (c : FaultCode) (at : ℕ) (stop : Stop Fault) → Refuses text c at → IfFault stop (IsFaultAt file c at)
+    → (d : FaultCode) (place : ℕ) → Refuses text d place → IfFault stop (IsFaultAt file d place)
 answer-only text file c at stop.Memory refused answer d place other = tt
 answer-only text file c at (stop.Fault f) refused answer d place other =
     let same = refuses-same refused other in
-    (answer.0 ∙ same.0, answer.1 ∙ ap (λ p. Some (record { file = file; at = p })) same.1)
+    (answer.0 ∙ same.0, answer.1 ∙ ap (λ p. Some (record { file = file; at = p })) same.1, answer.2)
 
 -- what one lexeme moves: the rest is shorter, and its place is after the slice
 pub step : (text s after slice : List ℕ) (l : Lexeme) → IsUtf8 s → IsUtf8 after → length s ≤ length text → Begins (chars s) slice (chars after) l

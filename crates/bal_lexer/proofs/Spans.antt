@@ -14,7 +14,7 @@ use Rattle.bal_base.specs.declared.stop.Stop.{Stop}
 use Rattle.bal_base.specs.declared.stop.Stop.TheVariants as stop
 use Rattle.bal_lexer.specs.declared.lexeme.Lexeme.{Lexeme}
 use Rattle.bal_lexer.specs.declared.lexeme.Lexeme.TheVariants.{Gap, LeftOut, Token}
-use Rattle.bal_lexer.specs.Lexes.{byte_len, Begins, NothingBegins, LexesFrom, ends, passes, takes, Lexes, AreSpans, RefusesFrom, left_out, bad_token, past_gap, past_token, Refuses, IsRefusal, IfFault}
+use Rattle.bal_lexer.specs.Lexes.{byte_len, Begins, NothingBegins, LexesFrom, ends, passes, takes, Lexes, AreSpans, RefusesFrom, left_out, bad_token, past_gap, past_token, Refuses, IsRefusal, IsTokenFault, StandsIn, IfFault}
 use Rattle.bal_lexer.proofs.Heads.{heads}
 
 scalars-back : (xs ys : List ℕ) → all_scalars (xs ++ ys) ≡ true → all_scalars ys ≡ true
@@ -78,11 +78,11 @@ codes-from (bad_token at rest some none) = inl refl
 codes-from (past_gap at rest slice after c p b more) = codes-from more
 codes-from (past_token at rest slice after kind c p b more) = codes-from more
 
-pub refusal-place : (bytes : List ℕ) (file : ℕ) (s : Stop Fault) → IsUtf8 bytes → IfFault s (IsRefusal (chars bytes) file) → IfFault s (λ f. IsSomeAnd f.at (λ p. (p.at < length bytes) × IsCharBoundary bytes p.at))
+pub refusal-place : (bytes : List ℕ) (file : ℕ) (s : Stop Fault) → IsUtf8 bytes → IfFault s (IsRefusal (chars bytes) file) → IfFault s (StandsIn bytes)
 refusal-place bytes file stop.Memory text refused = tt
 refusal-place bytes file (stop.Fault f) text refused =
-    subst (λ o. IsSomeAnd o (λ p. (p.at < length bytes) × IsCharBoundary bytes p.at)) (sym refused.place) (place-from refused.refused bytes (whole bytes text))
+    subst (λ o. IsSomeAnd o (λ p. (p.at < length bytes) × IsCharBoundary bytes p.at)) (sym refused.2.1) (place-from refused.1 bytes (whole bytes text))
 
-pub refusal-codes : (text : List ℕ) (file : ℕ) (s : Stop Fault) → IfFault s (IsRefusal text file) → IfFault s (λ f. (f.code ≡ code.BadToken) ⊎ (f.code ≡ code.LeftOut))
+pub refusal-codes : (text : List ℕ) (file : ℕ) (s : Stop Fault) → IfFault s (IsRefusal text file) → IfFault s IsTokenFault
 refusal-codes text file stop.Memory refused = tt
-refusal-codes text file (stop.Fault f) refused = codes-from refused.refused
+refusal-codes text file (stop.Fault f) refused = codes-from refused.1

@@ -1,5 +1,5 @@
 -- A whole text as tokens, and where a text is refused.
-use Rattle.std.specs.Prelude.{◌≡◌, ◌≢◌, ℕ, ◌+◌, ◌<◌, ◌≤◌, List, [], ◌∷◌, ◌++◌, length, encode_utf8_all, IsCharBoundary, Some, ⊤}
+use Rattle.std.specs.Prelude.{◌≡◌, ◌≢◌, ℕ, ◌+◌, ◌<◌, ◌≤◌, List, [], ◌∷◌, ◌++◌, length, encode_utf8_all, IsCharBoundary, ◌⊎◌, Some, IsSomeAnd, ⊤}
 use Rattle.bal_base.specs.declared.token.TokenKind.{TokenKind}
 use Rattle.bal_base.specs.declared.token.Token.{Token as TokenOf}
 use Rattle.bal_base.specs.declared.fault.FaultCode.{FaultCode}
@@ -65,12 +65,21 @@ pub data RefusesFrom : ℕ → List ℕ → FaultCode → ℕ → Type 0 where
 abbrev pub Refuses : List ℕ → FaultCode → ℕ → Type 0
 Refuses text code at = RefusesFrom 0 text code at
 
+-- the fault has this code and this place in the file, and shows nothing more
+abbrev pub IsFaultAt : ℕ → FaultCode → ℕ → Fault → Type 0
+IsFaultAt file code at fault = (fault.code ≡ code) × (fault.at ≡ Some (record { file = file; at = at })) × (fault.kept ≡ kept.Nothing)
+
 -- the fault says where the text of the file is refused, and why
-pub record IsRefusal (text : List ℕ) (file : ℕ) (fault : Fault) : Type 0 where
-  pub at : ℕ
-  pub refused : Refuses text fault.code at
-  pub place : fault.at ≡ Some (record { file = file; at = at })
-  pub kept : fault.kept ≡ kept.Nothing
+abbrev pub IsRefusal : List ℕ → ℕ → Fault → Type 0
+IsRefusal text file fault = (at : ℕ) × Refuses text fault.code at × IsFaultAt file fault.code at fault
+
+-- no token stands somewhere, or a left-out form does
+abbrev pub IsTokenFault : Fault → Type 0
+IsTokenFault fault = (fault.code ≡ code.BadToken) ⊎ (fault.code ≡ code.LeftOut)
+
+-- the fault has a place in the text, where a character begins
+abbrev pub StandsIn : List ℕ → Fault → Type 0
+StandsIn bytes fault = IsSomeAnd fault.at (λ place. (place.at < length bytes) × IsCharBoundary bytes place.at)
 
 -- a call that stopped did so for want of memory, or with a fault of which P holds
 abbrev pub IfFault : {F : Type 0} → Stop F → (F → Type 0) → Type 0

@@ -70,7 +70,8 @@ pub(crate) fn split_run(s: &str, class: Class) -> (&str, &str)
 
 /// What follows the prefix, if the text begins with it.
 pub(crate) fn strip<'a>(s: &'a str, prefix: &str) -> Option<&'a str>
-    ensures { MatchOption result ((rest : List ℕ) → chars s.now ≢ chars prefix.now ++ rest) (λ x. chars s.now ≡ chars prefix.now ++ chars x.now) }
+    ensures { MatchOption result ((rest : List ℕ) → chars s.now ≢ chars prefix.now ++ rest)
+        (λ x. chars s.now ≡ chars prefix.now ++ chars x.now) }
 {
     s.strip_prefix(prefix)
 }

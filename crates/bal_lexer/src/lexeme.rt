@@ -14,8 +14,8 @@ use std::alloc::Global;
 use unicode_ident::is_xid_start;
 
 /// What stands at the front of a text.
-#[derive(Debug, Drop)]
-pub enum Lexeme {
+#[derive(Drop)]
+pub(crate) enum Lexeme {
     /// White space or a comment.
     Gap,
     /// A form of the language that is left out.
@@ -57,7 +57,8 @@ fn start_of(c: char) -> Start
 
 /// The longest lexeme at the text's front, and what follows it.
 pub(crate) fn first_lexeme(alloc: Global, s: &str) -> Result<Option<(Lexeme, &str)>, Memory>
-    ensures { IfOk result (λ found. First (chars s.now) (option_map (λ x. (x.0, chars x.1.now)) found)) }
+    ensures { IfOk result (λ found.
+        First (chars s.now) (option_map (λ x. (x.0, chars x.1.now)) found)) }
 {
     let Some((c, after)) = split_first(s) else {
         return Ok(None);
@@ -75,7 +76,8 @@ pub(crate) fn first_lexeme(alloc: Global, s: &str) -> Result<Option<(Lexeme, &st
 
 /// A string literal, after its opening quote.
 fn literal(alloc: Global, s: &str) -> Result<Option<(Lexeme, &str)>, Memory>
-    ensures { IfOk result (λ found. FirstAt Start.Quote (34 ∷ chars s.now) (option_map (λ x. (x.0, chars x.1.now)) found)) }
+    ensures { IfOk result (λ found.
+        FirstAt Start.Quote (34 ∷ chars s.now) (option_map (λ x. (x.0, chars x.1.now)) found)) }
 {
     match string(alloc, s)? {
         None => Ok(None),

@@ -3,10 +3,10 @@
 //! - [`lex`]: the tokens of a whole text, or the place where it is refused.
 #![tactic(auto)]
 
-ghost use Rattle.std.specs.Prelude.{◌≡◌, ℕ, ◌-◌, ◌<◌, ◌≤◌, ◌⊎◌, List, Some, IfOk, IfErr, IsSomeAnd, MatchResult, IsCharBoundary, length, chars};
+ghost use Rattle.std.specs.Prelude.{◌≡◌, ℕ, ◌-◌, ◌≤◌, List, IfOk, IfErr, MatchResult, length, chars};
 ghost use Rattle.bal_base.specs.declared.fault.FaultCode.{FaultCode};
 ghost use Rattle.bal_base.specs.declared.token.Token.{Token as TokenOf};
-ghost use Rattle.bal_lexer.specs.Lexes.{Lexes, AreSpans, Refuses, IsRefusal, IfFault};
+ghost use Rattle.bal_lexer.specs.Lexes.{Lexes, AreSpans, Refuses, IsFaultAt, IsRefusal, IsTokenFault, StandsIn, IfFault};
 
 mod cursor;
 mod keyword;
@@ -32,14 +32,14 @@ pub fn lex(alloc: Global, file: u32, text: &str) -> Result<Vec<Token>, Stop<Faul
     ensures tokens { IfOk result (λ v. Lexes (chars text.now) v.items) }
     ensures spans { IfOk result (λ v. AreSpans text.now 0 v.items) }
     ensures refused { IfErr result (λ stop. IfFault stop (IsRefusal (chars text.now) file)) }
-    ensures codes { IfErr result (λ stop. IfFault stop (λ f. (f.code ≡ FaultCode.BadToken) ⊎ (f.code ≡ FaultCode.LeftOut))) }
-    ensures place { IfErr result (λ stop. IfFault stop (λ f. IsSomeAnd f.at (λ p. (p.at < length text.now) × IsCharBoundary text.now p.at))) }
+    ensures codes { IfErr result (λ stop. IfFault stop IsTokenFault) }
+    ensures place { IfErr result (λ stop. IfFault stop (StandsIn text.now)) }
 
     // One answer at most is right for a text, and so it is given, unless memory runs out.
     ensures only_tokens { (ts : List TokenOf) → Lexes (chars text.now) ts
         → MatchResult result (λ v. v.items ≡ ts) (λ stop. IfFault stop (λ _. ⊥)) }
     ensures only_refusal { (code : FaultCode) (at : ℕ) → Refuses (chars text.now) code at
-        → MatchResult result (λ _. ⊥) (λ stop. IfFault stop (λ f. (f.code ≡ code) × (f.at ≡ Some (record { file = file; at = at })))) }
+        → MatchResult result (λ _. ⊥) (λ stop. IfFault stop (IsFaultAt file code at)) }
 {
     let mut tokens = Vec::new(alloc);
     let mut rest = text;
@@ -73,7 +73,7 @@ fn place(text: &str, rest: &str) -> u32
 }
 
 fn refusal(code: FaultCode, file: u32, at: u32) -> Stop<Fault>
-    ensures { IfFault result (λ f. (f.code ≡ code) × (f.at ≡ Some (record { file = file; at = at })) × (f.kept ≡ Kept.Nothing)) }
+    ensures { IfFault result (IsFaultAt file code at) }
 {
     Stop::Fault(Fault {
         code,

@@ -75,7 +75,8 @@ fn int<'a>(digits: &str, radix: u32, after: &'a str) -> Option<(Lexeme, &'a str)
     requires low { 2 ≤ radix }
     requires high { radix ≤ 16 }
     requires digits { list_all (λ c. is_digit c radix) (chars digits.now) ≡ true }
-    ensures { option_map (λ x. (x.0, chars x.1.now)) result ≡ spec.int_at radix (chars digits.now) (chars after.now) }
+    ensures { option_map (λ x. (x.0, chars x.1.now)) result
+        ≡ spec.int_at radix (chars digits.now) (chars after.now) }
 {
     if begins_with(after, Class::Word) {
         return None;

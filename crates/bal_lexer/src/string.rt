@@ -12,7 +12,9 @@ use std::alloc::Global;
 /// The text that a string literal stands for, and what follows its closing quote. `s` is what follows the
 /// opening quote.
 pub(crate) fn string(alloc: Global, s: &str) -> Result<Option<(Text, &str)>, Memory>
-    ensures { IfOk result (λ found. MatchOption found ((value after : List ℕ) → Closes (chars s.now) value after → ⊥) (λ x. Closes (chars s.now) x.0 (chars x.1.now))) }
+    ensures { IfOk result (λ found. MatchOption found
+        ((value after : List ℕ) → Closes (chars s.now) value after → ⊥)
+        (λ x. Closes (chars s.now) x.0 (chars x.1.now))) }
 {
     let mut value = String::new(alloc);
     let mut rest = s;
