@@ -1,10 +1,10 @@
 -- Texts of ASCII are their characters.
-use Rattle.std.proofs.Common.{◌≡◌, ℕ, zero, suc, ◌+◌, ◌<◌, Bool, true, false, ◌&&◌, nat_lt, List, [], ◌∷◌, ◌++◌, length, get_or, IsUtf8, chars, refl, sym, ap, ◌∙◌, subst, arith}
-use Rattle.std.specs.Prelude.{encode_utf8_all, nat_eq}
-use Rattle.std.specs.Str.{IsAscii, bytes_eq}
-use Rattle.std.specs.List.{list_all, starts_with}
-use Rattle.std.proofs.lemmas.Bool.{cases_Bool, and_parts, ltb-true}
-use Rattle.std.proofs.lemmas.Str.{encodes-IsAscii, chars-IsAscii, IsUtf8-from_ascii, encodes-chars, encodes-append}
+use Rattle.std.proofs.Common.{◌≡◌, ℕ, zero, suc, Bool, true, nat_lt, List, [], ◌∷◌, ◌++◌, IsUtf8, chars, sym, ap, ◌∙◌, arith}
+use Rattle.std.specs.Prelude.{encode_utf8_all}
+use Rattle.std.specs.Str.{IsAscii}
+use Rattle.std.specs.List.{list_all}
+use Rattle.std.proofs.lemmas.Bool.{and_parts, ltb-true}
+use Rattle.std.proofs.lemmas.Str.{encodes-IsAscii, chars-IsAscii, encodes-chars, encodes-append}
 
 -- whether each is below 128
 abbrev pub all_ascii : List ℕ → Bool

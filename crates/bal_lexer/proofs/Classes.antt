@@ -1,8 +1,7 @@
 -- The longest lexeme where white space, a mark, a comment, a word or a sign begins.
-use Rattle.std.proofs.Common.{◌≡◌, ◌≢◌, ℕ, ◌+◌, ◌<◌, ◌≤◌, Bool, true, false, cond, not, ◌&&◌, ◌||◌, ◌==◌, nat_le, List, [], ◌∷◌, ◌++◌, length, Option, Some, None, inl, inr, refl, sym, ap, ◌∙◌, subst, arith}
+use Rattle.std.proofs.Common.{◌≡◌, ◌≢◌, ℕ, ◌≤◌, true, cond, not, ◌||◌, ◌==◌, nat_le, List, [], ◌∷◌, ◌++◌, length, Some, None, inl, inr, refl, sym, ap, ◌∙◌, subst, arith}
 use Rattle.std.specs.List.{list_all}
-use Rattle.std.proofs.lemmas.List.{length-append}
-use Rattle.std.proofs.lemmas.Bool.{and_parts, and_from, or_cases, eqb-true, leb-true, not-true, both_ways}
+use Rattle.std.proofs.lemmas.Bool.{and_from, or_cases, eqb-true, leb-true}
 use Rattle.unicode_ident.specs.Ident.{is_xid_start, is_xid_continue}
 use Rattle.unicode_ident.proofs.IdentLemmas.{is_xid_continue-ascii, is_xid_start-is_xid_continue}
 use Rattle.bal_base.specs.declared.token.TokenKind.TheVariants as kind
@@ -10,12 +9,11 @@ use Rattle.bal_base.specs.declared.token.Sign.{Sign as SignOf}
 use Rattle.bal_lexer.specs.Spellings.{sign_text}
 use Rattle.bal_lexer.specs.declared.lexeme.Lexeme.{Lexeme}
 use Rattle.bal_lexer.specs.declared.lexeme.Lexeme.TheVariants.{Gap, LeftOut, Token}
-use Rattle.bal_lexer.specs.declared.lexeme.Start.{Start}
-use Rattle.bal_lexer.specs.declared.lexeme.Start.TheVariants.{White, LeftOutMark, Digit, Quote, Hash, Word, Sign}
+use Rattle.bal_lexer.specs.declared.lexeme.Start.TheVariants.{White, LeftOutMark, Hash, Word, Sign}
 use Rattle.bal_lexer.specs.Lexemes.{is_white, starts_word, is_left_out_mark, begins_with}
 use Rattle.bal_lexer.specs.Words.{Means}
 use Rattle.bal_lexer.specs.Runs.{run, after_run}
-use Rattle.bal_lexer.specs.Firsts.{in_line, AtStart, LongestAt, FirstAt}
+use Rattle.bal_lexer.specs.Firsts.{in_line, AtStart, FirstAt}
 use Rattle.bal_lexer.proofs.Runs.{run-split, run-all, run-longest}
 use Rattle.bal_lexer.proofs.Signs.{slash_short}
 

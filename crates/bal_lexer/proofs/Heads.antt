@@ -1,6 +1,6 @@
 -- Every lexeme is one of those that begin with its first character.
-use Rattle.std.proofs.Common.{◌≡◌, ℕ, ◌+◌, ◌<◌, ◌≤◌, Bool, true, false, cond, ◌&&◌, ◌||◌, ◌==◌, pos, List, [], ◌∷◌, ◌++◌, length, Option, Some, None, inl, inr, refl, sym, ap, ◌∙◌, subst, arith}
-use Rattle.std.specs.Prelude.{◌⊎◌, ⊤}
+use Rattle.std.proofs.Common.{◌≡◌, ℕ, Bool, true, false, ◌==◌, List, [], ◌∷◌, ◌++◌, Option, Some, None, inl, inr, refl, sym, ap, ◌∙◌, subst, arith}
+use Rattle.std.specs.Prelude.{⊤}
 use Rattle.std.specs.List.{list_all}
 use Rattle.std.specs.Char.{is_ascii_digit}
 use Rattle.std.proofs.lemmas.Bool.{and_parts, eqb-true}
@@ -12,10 +12,8 @@ use Rattle.bal_lexer.specs.declared.lexeme.Lexeme.{Lexeme}
 use Rattle.bal_lexer.specs.declared.lexeme.Lexeme.TheVariants.{Gap, LeftOut, Token}
 use Rattle.bal_lexer.specs.declared.lexeme.Start.{Start}
 use Rattle.bal_lexer.specs.declared.lexeme.Start.TheVariants.{White, LeftOutMark, Digit, Quote, Hash, Word, Sign}
-use Rattle.bal_lexer.specs.Lexemes.{is_white, starts_word, is_left_out_mark, IsLexeme, IsDecimal, IsIntLiteral, AreDigits}
-use Rattle.bal_lexer.specs.Lexes.{Begins, NothingBegins}
-use Rattle.bal_lexer.specs.Words.{Means}
-use Rattle.bal_lexer.specs.Firsts.{start_of, in_line, AtStart, LongestAt, FirstAt, First}
+use Rattle.bal_lexer.specs.Lexemes.{is_white, starts_word, is_left_out_mark, IsLexeme, IsIntLiteral, AreDigits}
+use Rattle.bal_lexer.specs.Firsts.{start_of, AtStart, FirstAt, First}
 use Rattle.bal_lexer.proofs.Starts.{Heads, by_start, by_tests, heads-sign, start-ascii, start-white, start-mark, start-digit, start-word}
 
 heads-fraction : (slice after digits : List ℕ) (d : ℕ) → slice ≡ digits ++ 46 ∷ d ∷ [] → AreDigits is_ascii_digit digits → AtStart Digit slice after LeftOut → Heads slice after LeftOut

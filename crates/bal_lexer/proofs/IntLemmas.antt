@@ -1,11 +1,11 @@
 -- The int that digits write, as std reads it.
-use Rattle.std.proofs.Common.{◌≡◌, ◌≢◌, ℕ, zero, suc, ◌+◌, ◌*◌, ◌-◌, ◌<◌, ◌≤◌, ◌^◌, Bool, true, false, cond, not, ◌&&◌, ◌||◌, ◌==◌, nat_lt, nat_le, List, [], ◌∷◌, ◌++◌, length, get_or, drop, Option, Some, None, Result, Ok, Err, ℤ, pos, neg_ℤ, IsUtf8, chars, inl, inr, refl, sym, ap, ◌∙◌, subst, arith, w64}
+use Rattle.std.proofs.Common.{◌≡◌, ℕ, ◌<◌, ◌≤◌, true, false, cond, not, ◌&&◌, ◌==◌, nat_lt, nat_le, List, [], ◌∷◌, length, Some, None, Result, Ok, Err, ℤ, pos, neg_ℤ, IsUtf8, chars, inl, inr, refl, subst, arith, w64}
 use Rattle.std.specs.Prelude.{FitsSigned}
 use Rattle.std.specs.Result.{OkIff}
 use Rattle.std.specs.Char.{digit_value, is_digit, is_ascii_digit, is_ascii_hexdigit}
 use Rattle.std.specs.List.{list_all}
-use Rattle.std.specs.Str.Parse.{AllDigits, IsNumeral, ParsesSigned, digits_value, without_leading_sign, starts_with_minus, signed_digits_value}
-use Rattle.std.proofs.lemmas.Bool.{and_parts, and_from, ltb-true, leb-true, lt-ltb, le-leb, le-ltb, cases_lt, cases_Bool, ne_eqb}
+use Rattle.std.specs.Str.Parse.{AllDigits, IsNumeral, ParsesSigned, digits_value, without_leading_sign, starts_with_minus}
+use Rattle.std.proofs.lemmas.Bool.{and_parts, and_from, ltb-true, leb-true, lt-ltb, le-leb, cases_Bool, ne_eqb}
 use Rattle.std.proofs.lemmas.Bool.Decides.{nat_tests}
 use Rattle.std.proofs.lemmas.Int.{ints}
 use Rattle.unicode_ident.specs.Ident.{is_xid_continue}
@@ -65,8 +65,8 @@ reads-int radix s r small text all parses =
     let read : ParsesSigned w64 radix ds r = subst (λ t. ParsesSigned w64 radix t r) same parses in
     let sign = signless radix ds small all in
     let plain : OkIff r (IsNumeral radix ds × FitsSigned w64 (pos (digits_value radix ds))) (pos (digits_value radix ds)) =
-        subst (λ t. OkIff r (IsNumeral radix t × FitsSigned w64 (pos (digits_value radix t))) (pos (digits_value radix t))) sign.1
-        (subst (λ b. OkIff r (IsNumeral radix (without_leading_sign ds) × FitsSigned w64 (cond b (neg_ℤ (pos (digits_value radix (without_leading_sign ds)))) (pos (digits_value radix (without_leading_sign ds))))) (cond b (neg_ℤ (pos (digits_value radix (without_leading_sign ds)))) (pos (digits_value radix (without_leading_sign ds))))) sign.0 read) in
+    subst (λ t. OkIff r (IsNumeral radix t × FitsSigned w64 (pos (digits_value radix t))) (pos (digits_value radix t))) sign.1
+    (subst (λ b. OkIff r (IsNumeral radix (without_leading_sign ds) × FitsSigned w64 (cond b (neg_ℤ (pos (digits_value radix (without_leading_sign ds)))) (pos (digits_value radix (without_leading_sign ds))))) (cond b (neg_ℤ (pos (digits_value radix (without_leading_sign ds)))) (pos (digits_value radix (without_leading_sign ds))))) sign.0 read) in
     OkIff-same r _ _ _ (λ h. (h.0.0, fits-pos _ h.1)) (λ h. ((h.0, parts.0), fits-from _ h.1)) plain
 
 pub int_at-some : (radix : ℕ) (digits after : List ℕ) → begins_with is_xid_continue after ≡ false → 0 < length digits → digits_value radix digits ≤ 9223372036854775807

@@ -1,5 +1,5 @@
 -- The keywords, one by one.
-use Rattle.std.proofs.Common.{◌≡◌, ℕ, ◌<◌, true, false, length, codes, Some, None, Contains, find, refl, sym, ap, ◌∙◌, lit<}
+use Rattle.std.proofs.Common.{◌≡◌, true, false, codes, Some, Contains, find, refl, sym, ap, ◌∙◌, lit<}
 use Rattle.std.specs.Str.{bytes_eq}
 use Rattle.std.specs.List.{list_any}
 use Rattle.bal_base.specs.declared.token.Keyword.{Keyword}

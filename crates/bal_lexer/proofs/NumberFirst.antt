@@ -1,9 +1,9 @@
 -- The longest lexeme where a digit stands.
-use Rattle.std.proofs.Common.{◌≡◌, ℕ, ◌+◌, ◌<◌, ◌≤◌, Bool, true, false, cond, not, ◌&&◌, ◌||◌, ◌==◌, nat_lt, nat_le, pos, List, [], ◌∷◌, ◌++◌, length, Option, Some, None, inl, inr, refl, sym, ap, ◌∙◌, subst, arith, append_assoc}
+use Rattle.std.proofs.Common.{◌≡◌, ℕ, ◌<◌, ◌≤◌, Bool, true, false, cond, not, ◌&&◌, ◌||◌, ◌==◌, nat_lt, nat_le, pos, List, [], ◌∷◌, ◌++◌, length, Option, Some, None, inl, inr, refl, sym, ap, ◌∙◌, subst, arith, append_assoc}
 use Rattle.std.specs.Prelude.{◌⊎◌}
 use Rattle.std.specs.List.{list_all}
 use Rattle.std.specs.Option.{option_map_or}
-use Rattle.std.specs.Char.{is_ascii_digit, is_ascii_hexdigit, is_ascii_alphanumeric}
+use Rattle.std.specs.Char.{is_ascii_digit, is_ascii_hexdigit}
 use Rattle.std.specs.Str.Parse.{digits_value}
 use Rattle.std.proofs.lemmas.List.{length-append}
 use Rattle.std.proofs.lemmas.Option.{same_Some, cond_some}
@@ -15,10 +15,10 @@ use Rattle.bal_base.specs.declared.token.TokenKind.TheVariants as kind
 use Rattle.bal_lexer.specs.declared.lexeme.Lexeme.{Lexeme}
 use Rattle.bal_lexer.specs.declared.lexeme.Lexeme.TheVariants.{LeftOut, Token}
 use Rattle.bal_lexer.specs.declared.lexeme.Start.TheVariants.{Digit}
-use Rattle.bal_lexer.specs.Lexemes.{IsDecimal, IsIntLiteral, IsFraction, AreDigits, begins_with}
+use Rattle.bal_lexer.specs.Lexemes.{IsIntLiteral, IsFraction, AreDigits, begins_with}
 use Rattle.bal_lexer.specs.Runs.{run, after_run}
 use Rattle.bal_lexer.specs.Numbers.{after_fraction, after_x, int_at, hexadecimal_at, zero_at, literal_at, number_at}
-use Rattle.bal_lexer.specs.Firsts.{AtStart, LongestAt, FirstAt}
+use Rattle.bal_lexer.specs.Firsts.{FirstAt}
 use Rattle.bal_lexer.proofs.Runs.{run-append, after_run-append, run-split, run-all, run-longest}
 use Rattle.bal_lexer.proofs.IntLemmas.{int_at-some}
 
@@ -52,9 +52,9 @@ after_x-ends [] ends = refl
 after_x-ends (c ∷ cs) ends =
     elim (cases_Bool ((c == 120) || (c == 88))) [
       | inl x ↦ absurd (both_ways (is_xid_continue c) ends (elim (or_cases (c == 120) (c == 88) x) [
-          | inl low ↦ ap is_xid_continue (eqb-true c 120 low) ∙ is_xid_continue-ascii 120 (omega arith)
-          | inr up ↦ ap is_xid_continue (eqb-true c 88 up) ∙ is_xid_continue-ascii 88 (omega arith)
-        ]))
+        | inl low ↦ ap is_xid_continue (eqb-true c 120 low) ∙ is_xid_continue-ascii 120 (omega arith)
+        | inr up ↦ ap is_xid_continue (eqb-true c 88 up) ∙ is_xid_continue-ascii 88 (omega arith)
+      ]))
       | inr other ↦ rw other refl
     ]
 
@@ -232,9 +232,9 @@ fraction-first text c cs rest begins digit found =
       split = whole;
       stands = inl (refl, (digits, d, refl, (nonempty digits some, run-all is_ascii_digit text), last));
       longest = λ other rest' any split at. elim at [
-          | inl f ↦ same-length text other (digits ++ 46 ∷ d ∷ []) rest' rest split whole (same_Some rest' rest (sym (fraction-found text other rest' split f.1) ∙ found))
-          | inr i ↦ omega (arith, within-digits text other rest' rest i.0 d split i.2 is some, length-append digits (46 ∷ d ∷ []))
-        ];
+        | inl f ↦ same-length text other (digits ++ 46 ∷ d ∷ []) rest' rest split whole (same_Some rest' rest (sym (fraction-found text other rest' split f.1) ∙ found))
+        | inr i ↦ omega (arith, within-digits text other rest' rest i.0 d split i.2 is some, length-append digits (46 ∷ d ∷ []))
+      ];
     }
 
 no-fraction : (text slice after : List ℕ) → text ≡ slice ++ after → IsFraction slice → after_fraction (after_run is_ascii_digit text) ≡ None → ⊥
@@ -258,9 +258,9 @@ literal-first text c cs begins digit none (Some (lexeme, rest)) read =
       split = reads.split;
       stands = inr (reads.number, reads.is, reads.int.literal, reads.int.small, reads.int.ends);
       longest = λ other rest' any split at. elim at [
-          | inl f ↦ absurd (no-fraction text other rest' split f.1 none)
-          | inr i ↦ same-length text other reads.slice rest' rest split reads.split (ap (λ p. p.1) (same_Some (Token (kind.Int (pos i.0)), rest') (lexeme, rest) (sym (int-of text other rest' i.0 split i.2 i.3 i.4) ∙ read)))
-        ];
+        | inl f ↦ absurd (no-fraction text other rest' split f.1 none)
+        | inr i ↦ same-length text other reads.slice rest' rest split reads.split (ap (λ p. p.1) (same_Some (Token (kind.Int (pos i.0)), rest') (lexeme, rest) (sym (int-of text other rest' i.0 split i.2 i.3 i.4) ∙ read)))
+      ];
     }
 
 -- what a number is read as is the longest that stands there

@@ -1,14 +1,13 @@
 -- Reading a piece of a string literal gives what stands there, and finds each piece that does.
-use Rattle.std.proofs.Common.{◌≡◌, ℕ, zero, suc, ◌+◌, ◌<◌, ◌≤◌, Bool, true, false, cond, not, ◌&&◌, ◌||◌, ◌==◌, nat_lt, nat_le, List, [], ◌∷◌, ◌++◌, length, Option, Some, None, codes, inl, inr, refl, sym, ap, ◌∙◌, subst, arith, append_assoc}
-use Rattle.std.specs.Prelude.{option_map, option_and_then, ◌⊎◌}
+use Rattle.std.proofs.Common.{◌≡◌, ℕ, ◌<◌, ◌≤◌, true, false, cond, ◌&&◌, ◌||◌, ◌==◌, nat_lt, nat_le, List, [], ◌∷◌, ◌++◌, length, Option, Some, None, codes, inl, inr, refl, sym, ap, ◌∙◌, subst, arith, append_assoc}
+use Rattle.std.specs.Prelude.{option_map}
 use Rattle.std.specs.Char.{is_ascii_hexdigit, IsScalar}
-use Rattle.std.specs.List.{list_all}
 use Rattle.std.specs.Str.Parse.{digits_value}
-use Rattle.std.proofs.lemmas.Bool.{cases_Bool, and_parts, or_cases, eqb-true, ltb-true, leb-true, lt-ltb, le-leb, both_ways, not-true, or_parts}
+use Rattle.std.proofs.lemmas.Bool.{cases_Bool, and_parts, or_cases, eqb-true, ltb-true, leb-true, lt-ltb, le-leb, both_ways}
 use Rattle.std.proofs.lemmas.Option.{cond_some, same_Some, option_and_then_some}
 use Rattle.std.proofs.lemmas.List.{length-append}
 use lib.Utf8.{scalar}
-use Rattle.bal_lexer.specs.Lexemes.{is_plain, IsEscape, StandsFor, AreDigits, begins_with}
+use Rattle.bal_lexer.specs.Lexemes.{is_plain, IsEscape, StandsFor, AreDigits}
 use Rattle.bal_lexer.specs.Runs.{run, after_run}
 use Rattle.bal_lexer.specs.Strings.{after_char, scalar_at, code_point_at, escape_at, piece_at}
 use Rattle.bal_lexer.proofs.Runs.{run-append, after_run-append, run-split, run-all}
@@ -47,20 +46,20 @@ code_point_at-some : (text : List ℕ) (c : ℕ) (rest : List ℕ) → code_poin
 unfolding code_point_at
 code_point_at-some text c rest h =
     option_and_then_some _ (after_char 123 text) (c, rest) h (λ body opens h1.
-        option_and_then_some _ (scalar_at (run is_ascii_hexdigit body)) (c, rest) h1 (λ d number h2.
-            let digits = run is_ascii_hexdigit body in
-            let closed = option_map_some (λ after. (d, after)) (after_char 125 (after_run is_ascii_hexdigit body)) (c, rest) h2 in
-            let same : d ≡ c = ap (λ p. p.0) closed.2 in
-            let after : closed.0 ≡ rest = ap (λ p. p.1) closed.2 in
-            let facts = scalar_at-some digits d number in
-            let close = after_char-some 125 (after_run is_ascii_hexdigit body) closed.0 closed.1 in
-            let whole : text ≡ 123 ∷ (digits ++ 125 ∷ rest) =
-                after_char-some 123 text body opens ∙ ap (λ l. 123 ∷ l) (run-split is_ascii_hexdigit body ∙ ap (λ l. digits ++ l) (close ∙ ap (λ l. 125 ∷ l) after)) in
-            record {
-              piece = codes "\\u{" ++ digits ++ codes "}";
-              seam = ap (λ l. 92 ∷ 117 ∷ l) (whole ∙ ap (λ l. 123 ∷ l) (sym (append_assoc digits (125 ∷ []) rest)));
-              stands = inr (inr (digits, refl, (not-empty digits facts.0, run-all is_ascii_hexdigit body), facts.1, sym same ∙ facts.2, subst IsScalar same facts.3));
-            }))
+    option_and_then_some _ (scalar_at (run is_ascii_hexdigit body)) (c, rest) h1 (λ d number h2.
+    let digits = run is_ascii_hexdigit body in
+    let closed = option_map_some (λ after. (d, after)) (after_char 125 (after_run is_ascii_hexdigit body)) (c, rest) h2 in
+    let same : d ≡ c = ap (λ p. p.0) closed.2 in
+    let after : closed.0 ≡ rest = ap (λ p. p.1) closed.2 in
+    let facts = scalar_at-some digits d number in
+    let close = after_char-some 125 (after_run is_ascii_hexdigit body) closed.0 closed.1 in
+    let whole : text ≡ 123 ∷ (digits ++ 125 ∷ rest) =
+    after_char-some 123 text body opens ∙ ap (λ l. 123 ∷ l) (run-split is_ascii_hexdigit body ∙ ap (λ l. digits ++ l) (close ∙ ap (λ l. 125 ∷ l) after)) in
+    record {
+      piece = codes "\\u{" ++ digits ++ codes "}";
+      seam = ap (λ l. 92 ∷ 117 ∷ l) (whole ∙ ap (λ l. 123 ∷ l) (sym (append_assoc digits (125 ∷ []) rest)));
+      stands = inr (inr (digits, refl, (not-empty digits facts.0, run-all is_ascii_hexdigit body), facts.1, sym same ∙ facts.2, subst IsScalar same facts.3));
+    }))
 
 by_letter : (letter c : ℕ) (rest after : List ℕ) (d : ℕ) → IsEscape letter c → ◌≡◌ {A = Option (ℕ × List ℕ)} (Some (c, rest)) (Some (d, after)) → Stands (92 ∷ letter ∷ rest) d after
 by_letter letter c rest after d escape e =
@@ -81,18 +80,18 @@ escape_at-some (letter ∷ text) c rest h =
       | inl itself ↦
           by_letter letter letter text rest c (elim (or_cases (letter == 92) (letter == 34) itself) [ inl a ↦ inl (eqb-true letter 92 a, eqb-true letter 92 a) | inr a ↦ inr (inl (eqb-true letter 34 a, eqb-true letter 34 a)) ]) (rw itself at h)
       | inr other ↦ let h1 = rw other at h in elim (cases_Bool (letter == 110)) [
-          | inl n ↦ by_letter letter 10 text rest c (inr (inr (inl (eqb-true letter 110 n, refl)))) (rw n at h1)
-          | inr not_n ↦ let h2 = rw not_n at h1 in elim (cases_Bool (letter == 114)) [
-              | inl r ↦ by_letter letter 13 text rest c (inr (inr (inr (inl (eqb-true letter 114 r, refl))))) (rw r at h2)
-              | inr not_r ↦ let h3 = rw not_r at h2 in elim (cases_Bool (letter == 116)) [
-                  | inl t ↦ by_letter letter 9 text rest c (inr (inr (inr (inr (eqb-true letter 116 t, refl))))) (rw t at h3)
-                  | inr not_t ↦ let h4 = rw not_t at h3 in elim (cases_Bool (letter == 117)) [
-                      | inl u ↦ subst (λ l. Stands (92 ∷ l ∷ text) c rest) (sym (eqb-true letter 117 u)) (code_point_at-some text c rest (rw u at h4))
-                      | inr not_u ↦ let bad = rw not_u at h4 in cc
-                    ]
-                ]
+        | inl n ↦ by_letter letter 10 text rest c (inr (inr (inl (eqb-true letter 110 n, refl)))) (rw n at h1)
+        | inr not_n ↦ let h2 = rw not_n at h1 in elim (cases_Bool (letter == 114)) [
+          | inl r ↦ by_letter letter 13 text rest c (inr (inr (inr (inl (eqb-true letter 114 r, refl))))) (rw r at h2)
+          | inr not_r ↦ let h3 = rw not_r at h2 in elim (cases_Bool (letter == 116)) [
+            | inl t ↦ by_letter letter 9 text rest c (inr (inr (inr (inr (eqb-true letter 116 t, refl))))) (rw t at h3)
+            | inr not_t ↦ let h4 = rw not_t at h3 in elim (cases_Bool (letter == 117)) [
+              | inl u ↦ subst (λ l. Stands (92 ∷ l ∷ text) c rest) (sym (eqb-true letter 117 u)) (code_point_at-some text c rest (rw u at h4))
+              | inr not_u ↦ let bad = rw not_u at h4 in cc
             ]
+          ]
         ]
+      ]
     ]
 
 pub piece_at-some : (text : List ℕ) (c : ℕ) (rest : List ℕ) → piece_at text ≡ Some (c, rest) → Stands text c rest

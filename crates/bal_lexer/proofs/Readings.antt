@@ -1,5 +1,5 @@
 -- A text has one reading: its tokens, or the place where it is refused.
-use Rattle.std.proofs.Common.{◌≡◌, ◌≢◌, ℕ, ◌+◌, ◌-◌, ◌<◌, ◌≤◌, true, false, ◌==◌, Option, Some, None, List, [], ◌∷◌, ◌++◌, length, IsUtf8, chars, inl, inr, refl, sym, ap, ◌∙◌, subst, arith, append_assoc}
+use Rattle.std.proofs.Common.{◌≡◌, ◌≢◌, ℕ, ◌+◌, ◌-◌, ◌<◌, ◌≤◌, true, false, ◌==◌, Option, Some, None, List, [], ◌∷◌, ◌++◌, length, IsUtf8, chars, refl, sym, ap, ◌∙◌, subst, arith, append_assoc}
 use Rattle.std.specs.Prelude.{encode_utf8_all, option_map}
 use denote.Bor.{Bor}
 use Rattle.std.proofs.lemmas.List.{length-append, append-nil}
@@ -8,10 +8,7 @@ use Rattle.std.proofs.lemmas.Bool.{eqb-true, eqb-false}
 use Rattle.bal_base.specs.declared.token.TokenKind.{TokenKind}
 use Rattle.bal_base.specs.declared.token.Token.{Token as TokenOf}
 use Rattle.bal_base.specs.declared.fault.FaultCode.{FaultCode}
-use Rattle.bal_base.specs.declared.fault.FaultCode.TheVariants as code
 use Rattle.bal_base.specs.declared.fault.Fault.{Fault}
-use Rattle.bal_base.specs.declared.fault.Kept.TheVariants as kept
-use Rattle.bal_base.specs.declared.place.Place.{Place}
 use Rattle.bal_base.specs.declared.stop.Stop.{Stop}
 use Rattle.bal_base.specs.declared.stop.Stop.TheVariants as stop
 use Rattle.bal_lexer.specs.declared.lexeme.Lexeme.{Lexeme}
@@ -19,7 +16,7 @@ use Rattle.bal_lexer.specs.declared.lexeme.Lexeme.TheVariants.{Gap, LeftOut, Tok
 use Rattle.bal_lexer.specs.Lexes.{byte_len, Begins, NothingBegins, token_at, LexesFrom, ends, passes, takes, Lexes, RefusesFrom, left_out, bad_token, past_gap, past_token, Refuses, IsFaultAt, IsRefusal, IfFault}
 use Rattle.bal_lexer.specs.Firsts.{First}
 use Rattle.bal_lexer.proofs.Heads.{heads}
-use Rattle.bal_lexer.proofs.Unique.{Same, begins-same}
+use Rattle.bal_lexer.proofs.Unique.{begins-same}
 
 begins-some : (slice after : List ℕ) (l : Lexeme) → Begins [] slice after l → ⊥
 begins-some slice after l b =

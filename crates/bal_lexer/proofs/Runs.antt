@@ -1,6 +1,6 @@
 -- Runs of characters, in a text and in its list of characters.
-use Rattle.std.proofs.Common.{◌≡◌, ℕ, ◌+◌, ◌-◌, ◌≤◌, Bool, true, false, cond, ◌&&◌, inl, inr, List, [], ◌∷◌, ◌++◌, length, take, drop, IsUtf8, chars, refl, sym, ap, ◌∙◌, subst, arith, append_assoc, rules}
-use Rattle.std.specs.Prelude.{encode_utf8, encode_utf8_all}
+use Rattle.std.proofs.Common.{◌≡◌, ℕ, ◌-◌, ◌≤◌, Bool, true, false, cond, inl, inr, List, [], ◌∷◌, ◌++◌, length, take, drop, IsUtf8, chars, refl, sym, ap, ◌∙◌, subst, arith, append_assoc}
+use Rattle.std.specs.Prelude.{encode_utf8}
 use Rattle.std.specs.Str.{IsCharBoundary}
 use Rattle.std.specs.List.{list_all}
 use Rattle.std.proofs.Math.Seq.{take-append_seam, drop-append_seam}
@@ -80,8 +80,7 @@ has_passed-run test s rest whole text passed stops =
     let parts : chars s ≡ chars passed.front ++ chars rest = ap chars passed.seam ∙ chars-append passed.front rest front in
     let count : length s - length rest ≡ length passed.front = omega (arith, ap length passed.seam, length-append passed.front rest) in
     let taken : take (length s - length rest) s ≡ passed.front = ap (λ n. take n s) count ∙ ap (take (length passed.front)) passed.seam ∙ take-append_seam passed.front rest in
-    let dropped : drop (length s - length rest) s ≡ rest = ap (λ n. drop n s) count ∙ ap (drop (length passed.front)) passed.seam ∙ drop-append_seam passed.front rest in
-    (
+    let dropped : drop (length s - length rest) s ≡ rest = ap (λ n. drop n s) count ∙ ap (drop (length passed.front)) passed.seam ∙ drop-append_seam passed.front rest in (
       ap chars taken ∙ sym (ap (run test) parts ∙ run-append test (chars passed.front) (chars rest) passed.all stops),
       ap chars dropped ∙ sym (ap (after_run test) parts ∙ after_run-append test (chars passed.front) (chars rest) passed.all stops),
       subst (IsCharBoundary s) (sym count) (IsCharBoundary-at_seam s passed.front rest passed.seam text),

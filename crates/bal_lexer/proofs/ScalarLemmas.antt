@@ -1,13 +1,13 @@
 -- The character that hexadecimal digits write, as std reads it.
-use Rattle.std.proofs.Common.{◌≡◌, ◌≢◌, ℕ, zero, suc, ◌+◌, ◌*◌, ◌<◌, ◌≤◌, ◌^◌, Bool, true, false, cond, ◌&&◌, ◌==◌, nat_lt, nat_le, List, [], ◌∷◌, length, drop, Option, Some, None, Result, Ok, Err, IsUtf8, chars, inl, inr, refl, sym, ap, ◌∙◌, subst, arith}
+use Rattle.std.proofs.Common.{◌≡◌, ℕ, ◌<◌, ◌≤◌, ◌^◌, true, false, ◌==◌, nat_lt, List, [], ◌∷◌, length, Option, Some, None, Result, IsUtf8, chars, refl, ap, subst, arith}
 use Rattle.std.specs.Result.{OkIff}
 use Rattle.std.specs.Option.{SomeIff}
 use Rattle.std.specs.Char.{is_digit, is_ascii_hexdigit, IsScalar}
 use Rattle.std.specs.List.{list_all}
-use Rattle.std.specs.Str.Parse.{AllDigits, IsNumeral, ParsesUnsigned, digits_value, without_leading_plus}
+use Rattle.std.specs.Str.Parse.{IsNumeral, ParsesUnsigned, digits_value, without_leading_plus}
 use Rattle.std.proofs.lemmas.Int.Digits.{digits_value-lt}
 use Rattle.std.proofs.Math.Nat.{pow-le-pow_right}
-use Rattle.std.proofs.lemmas.Bool.{and_parts, lt-ltb, le-ltb, le-leb, lt-leb, ne_eqb, false_from_ne_true, and_left, and_right}
+use Rattle.std.proofs.lemmas.Bool.{and_parts, lt-ltb, le-ltb, le-leb, lt-leb, ne_eqb, false_from_ne_true, and_right}
 use lib.Utf8.{scalar}
 use Rattle.bal_lexer.specs.Strings.{scalar_at}
 use Rattle.bal_lexer.proofs.Ascii.{bytes-ascii}
@@ -40,7 +40,7 @@ reads-hex s r hex short parses =
     let same : s ≡ ds = hex-same s hex in
     let read : ParsesUnsigned 32 16 ds r = subst (λ t. ParsesUnsigned 32 16 t r) same parses in
     let plain : OkIff r (IsNumeral 16 ds × (digits_value 16 ds < 2 ^ 32)) (digits_value 16 ds) =
-        subst (λ t. OkIff r (IsNumeral 16 t × (digits_value 16 t < 2 ^ 32)) (digits_value 16 t)) (plusless ds all) read in
+    subst (λ t. OkIff r (IsNumeral 16 t × (digits_value 16 t < 2 ^ 32)) (digits_value 16 t)) (plusless ds all) read in
     let few : length ds ≤ 6 = subst (λ t. length t ≤ 6) same short in
     let bound = digits_value-lt 16 ds digits in
     let positive : 0 < 16 = omega arith in

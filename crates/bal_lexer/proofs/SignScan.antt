@@ -1,5 +1,5 @@
 -- The first sign that a text begins with, in the order of the signs, is the longest.
-use Rattle.std.proofs.Common.{◌≡◌, ℕ, ◌≤◌, true, false, List, ◌++◌, length, take, drop, nat_eq, Option, None, Some, find, IsUtf8, chars, sym, ap, ◌∙◌}
+use Rattle.std.proofs.Common.{◌≡◌, ℕ, ◌≤◌, true, List, ◌++◌, length, take, drop, nat_eq, Option, None, Some, find, IsUtf8, chars, sym, ap, ◌∙◌}
 use Rattle.std.specs.Prelude.{encode_utf8_all}
 use Rattle.std.specs.List.{starts_with}
 use Rattle.std.proofs.Math.Seq.{take-append_seam}
@@ -10,7 +10,7 @@ use Rattle.std.proofs.lemmas.Bool.{both_ways}
 use Rattle.bal_base.specs.declared.token.Sign.{Sign}
 use Rattle.bal_lexer.specs.Spellings.{sign_text}
 use Rattle.bal_lexer.specs.declared.sign.TheConstants.{SIGNS}
-use Rattle.bal_lexer.proofs.Ascii.{bytes-front, chars-ascii, IsAscii-all}
+use Rattle.bal_lexer.proofs.Ascii.{bytes-front, IsAscii-all}
 use Rattle.bal_lexer.proofs.Finds.{find-none, find-some, find-largest}
 use Rattle.bal_lexer.proofs.Signs.{signs_descend, has_sign, sign_ascii}
 

@@ -1,5 +1,5 @@
 -- The signs, one by one.
-use Rattle.std.proofs.Common.{◌≡◌, ℕ, ◌<◌, true, false, not, ◌||◌, ◌==◌, nat_le, nat_eq, length, codes, Some, None, Contains, find, refl, sym, ap, ◌∙◌, lit<}
+use Rattle.std.proofs.Common.{◌≡◌, true, false, not, ◌||◌, ◌==◌, nat_le, nat_eq, length, codes, Some, Contains, find, refl, sym, ap, ◌∙◌, lit<}
 use Rattle.std.specs.Str.{bytes_eq}
 use Rattle.std.specs.List.{starts_with}
 use Rattle.bal_base.specs.declared.token.Sign.{Sign}

@@ -1,5 +1,5 @@
 -- Where the tokens of a text stand, and where it is refused.
-use Rattle.std.proofs.Common.{◌≡◌, ◌≢◌, ℕ, ◌+◌, ◌<◌, ◌≤◌, true, ◌&&◌, List, [], ◌∷◌, ◌++◌, length, Some, IsUtf8, chars, inl, inr, refl, sym, ap, ◌∙◌, subst, arith, append_assoc}
+use Rattle.std.proofs.Common.{◌≡◌, ◌≢◌, ℕ, ◌+◌, ◌<◌, ◌≤◌, true, List, [], ◌∷◌, ◌++◌, length, IsUtf8, chars, inl, inr, refl, sym, ap, ◌∙◌, subst, arith, append_assoc}
 use Rattle.std.specs.Prelude.{◌⊎◌, encode_utf8_all, IsSomeAnd}
 use Rattle.std.specs.Str.{IsCharBoundary, all_scalars}
 use Rattle.std.proofs.lemmas.List.{length-append}
@@ -14,7 +14,7 @@ use Rattle.bal_base.specs.declared.stop.Stop.{Stop}
 use Rattle.bal_base.specs.declared.stop.Stop.TheVariants as stop
 use Rattle.bal_lexer.specs.declared.lexeme.Lexeme.{Lexeme}
 use Rattle.bal_lexer.specs.declared.lexeme.Lexeme.TheVariants.{Gap, LeftOut, Token}
-use Rattle.bal_lexer.specs.Lexes.{byte_len, Begins, NothingBegins, LexesFrom, ends, passes, takes, Lexes, AreSpans, RefusesFrom, left_out, bad_token, past_gap, past_token, Refuses, IsRefusal, IsTokenFault, StandsIn, IfFault}
+use Rattle.bal_lexer.specs.Lexes.{byte_len, Begins, LexesFrom, ends, passes, takes, Lexes, AreSpans, RefusesFrom, left_out, bad_token, past_gap, past_token, IsRefusal, IsTokenFault, StandsIn, IfFault}
 use Rattle.bal_lexer.proofs.Heads.{heads}
 
 scalars-back : (xs ys : List ℕ) → all_scalars (xs ++ ys) ≡ true → all_scalars ys ≡ true

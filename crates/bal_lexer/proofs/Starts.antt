@@ -1,23 +1,19 @@
 -- Which lexemes begin with a character.
-use Rattle.std.proofs.Common.{◌≡◌, ℕ, ◌+◌, ◌<◌, ◌≤◌, Bool, true, false, cond, not, ◌&&◌, ◌||◌, ◌==◌, nat_lt, nat_le, List, [], ◌∷◌, ◌++◌, length, Option, Some, None, codes, Contains, inl, inr, refl, sym, ap, ◌∙◌, subst, arith}
-use Rattle.std.specs.Prelude.{◌⊎◌}
-use Rattle.std.specs.List.{list_all}
-use Rattle.std.specs.Char.{is_ascii_digit, is_ascii_alphabetic, is_ascii_alphanumeric}
-use Rattle.std.proofs.lemmas.Bool.{cases_Bool, and_parts, or_cases, or_parts, eqb-true, ltb-true, cases_lt, both_ways}
+use Rattle.std.proofs.Common.{◌≡◌, ℕ, ◌<◌, ◌≤◌, Bool, true, false, cond, ◌||◌, ◌==◌, nat_lt, List, [], ◌∷◌, length, inl, inr, refl, sym, ap, ◌∙◌, subst, arith}
+use Rattle.std.specs.Char.{is_ascii_digit, is_ascii_alphabetic}
+use Rattle.std.proofs.lemmas.Bool.{and_parts, ltb-true, cases_lt}
 use Rattle.std.proofs.lemmas.Bool.Decides.{nat_tests}
-use Rattle.unicode_ident.specs.Ident.{is_xid_start, is_xid_continue}
-use Rattle.unicode_ident.proofs.IdentLemmas.{is_xid_start-ascii, is_xid_continue-ascii, is_xid_start-is_xid_continue}
+use Rattle.unicode_ident.proofs.IdentLemmas.{is_xid_start-ascii}
 use Rattle.bal_base.specs.declared.token.TokenKind.TheVariants as kind
 use Rattle.bal_base.specs.declared.token.Sign.{Sign as SignOf}
 use Rattle.bal_base.specs.declared.token.Sign.TheVariants as sign
 use Rattle.bal_lexer.specs.Spellings.{sign_text}
 use Rattle.bal_lexer.specs.declared.lexeme.Lexeme.{Lexeme}
-use Rattle.bal_lexer.specs.declared.lexeme.Lexeme.TheVariants.{Gap, LeftOut, Token}
+use Rattle.bal_lexer.specs.declared.lexeme.Lexeme.TheVariants.{Token}
 use Rattle.bal_lexer.specs.declared.lexeme.Start.{Start}
 use Rattle.bal_lexer.specs.declared.lexeme.Start.TheVariants.{White, LeftOutMark, Digit, Quote, Hash, Word, Sign}
-use Rattle.bal_lexer.specs.Lexemes.{is_white, starts_word, is_left_out_mark, IsLexeme, IsDecimal, IsIntLiteral}
-use Rattle.bal_lexer.specs.Words.{Means}
-use Rattle.bal_lexer.specs.Firsts.{start_of, in_line, AtStart}
+use Rattle.bal_lexer.specs.Lexemes.{is_white, starts_word, is_left_out_mark}
+use Rattle.bal_lexer.specs.Firsts.{start_of, AtStart}
 use Rattle.bal_lexer.proofs.Ascii.{all_ascii}
 use Rattle.bal_lexer.proofs.Signs.{sign_ascii}
 

@@ -1,14 +1,13 @@
 -- The one string literal that may stand where a quote does.
-use Rattle.std.proofs.Common.{◌≡◌, ℕ, ◌+◌, ◌<◌, ◌≤◌, List, [], ◌∷◌, ◌++◌, length, Option, Some, None, MatchOption, refl, sym, ap, ◌∙◌, subst, arith, append_assoc}
+use Rattle.std.proofs.Common.{◌≡◌, ℕ, ◌+◌, List, [], ◌∷◌, ◌++◌, length, Option, Some, None, refl, sym, ap, ◌∙◌, subst, arith, append_assoc}
 use Rattle.std.proofs.lemmas.List.{length-append}
 use Rattle.std.proofs.lemmas.Option.{same_Some}
 use Rattle.bal_base.specs.declared.token.TokenKind.TheVariants as kind
-use Rattle.bal_lexer.specs.declared.lexeme.Lexeme.{Lexeme}
 use Rattle.bal_lexer.specs.declared.lexeme.Lexeme.TheVariants.{Token}
 use Rattle.bal_lexer.specs.declared.lexeme.Start.TheVariants.{Quote}
 use Rattle.bal_lexer.specs.Lexemes.{Spells, IsStringLiteral}
 use Rattle.bal_lexer.specs.Strings.{piece_at, Closes}
-use Rattle.bal_lexer.specs.Firsts.{AtStart, LongestAt, FirstAt}
+use Rattle.bal_lexer.specs.Firsts.{FirstAt}
 use Rattle.bal_lexer.proofs.Pieces.{piece_at-some, piece_at-stands, piece_at-quote}
 
 -- a body that spells a text is read to its closing quote
@@ -61,6 +60,6 @@ string-first cs value after closes =
       longest = λ other rest any where' (text, is, literal).
           let same = closes-once cs text value rest after (literal-closes cs other rest text where' literal) closes in
           let sizes : length other + length rest ≡ length (34 ∷ body ++ 34 ∷ []) + length after =
-              sym (length-append other rest) ∙ ap length (sym where' ∙ ap (λ l. 34 ∷ l) (split ∙ sym (append_assoc body (34 ∷ []) after))) ∙ length-append (34 ∷ body ++ 34 ∷ []) after in
+          sym (length-append other rest) ∙ ap length (sym where' ∙ ap (λ l. 34 ∷ l) (split ∙ sym (append_assoc body (34 ∷ []) after))) ∙ length-append (34 ∷ body ++ 34 ∷ []) after in
           omega (arith, sizes, ap length same.1);
     }

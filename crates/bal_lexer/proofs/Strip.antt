@@ -1,8 +1,8 @@
 -- What `strip_prefix` says of characters.
-use Rattle.std.proofs.Common.{◌≡◌, ◌≢◌, ℕ, ◌+◌, List, [], ◌∷◌, ◌++◌, length, take, drop, Option, Some, None, MatchOption, IsUtf8, chars, refl, sym, ap, ◌∙◌, subst}
+use Rattle.std.proofs.Common.{◌≡◌, ◌≢◌, ℕ, List, ◌++◌, drop, Option, Some, None, MatchOption, IsUtf8, chars, sym, ap, ◌∙◌}
 use Rattle.std.specs.Prelude.{encode_utf8_all}
 use Rattle.std.specs.Str.Pattern.{FindsTextPrefix, StripsPrefix}
-use Rattle.std.proofs.lemmas.Str.{IsUtf8-drop, chars-append, encodes-append, encodes-chars}
+use Rattle.std.proofs.lemmas.Str.{chars-append, encodes-append, encodes-chars}
 use denote.Bor.{Bor}
 
 -- a text that begins with the characters of another begins with its bytes

@@ -1,5 +1,5 @@
 -- A slice is one lexeme at most, so a text has one reading.
-use Rattle.std.proofs.Common.{◌≡◌, ◌≢◌, ℕ, zero, suc, ◌+◌, ◌<◌, ◌≤◌, Bool, true, false, cond, not, ◌&&◌, ◌||◌, ◌==◌, nat_eq, pos, List, [], ◌∷◌, ◌++◌, length, take, drop, codes, Option, Some, None, Contains, find, inl, inr, refl, sym, ap, ◌∙◌, subst, arith}
+use Rattle.std.proofs.Common.{◌≡◌, ◌≢◌, ℕ, zero, suc, Bool, true, false, cond, not, nat_eq, pos, List, [], ◌∷◌, ◌++◌, length, take, drop, codes, Option, Some, None, Contains, find, inl, inr, refl, sym, ap, ◌∙◌, subst, arith}
 use Rattle.std.specs.Prelude.{◌⊎◌}
 use Rattle.std.specs.Str.{bytes_eq}
 use Rattle.std.specs.List.{list_all, list_any, starts_with}
@@ -8,7 +8,7 @@ use Rattle.std.specs.Str.Parse.{digits_value}
 use Rattle.std.proofs.Math.Seq.{take-append_seam, drop-append_seam}
 use Rattle.std.proofs.lemmas.List.{length-append}
 use Rattle.std.proofs.lemmas.Slice.Eq.{bytes_eq-Decides}
-use Rattle.std.proofs.lemmas.Bool.{cases_Bool, and_parts, both_ways, false_from_ne_true, not-true, or_left, or_right}
+use Rattle.std.proofs.lemmas.Bool.{and_parts, both_ways, false_from_ne_true, not-true, or_left, or_right}
 use Rattle.bal_base.specs.declared.token.TokenKind.TheVariants as kind
 use Rattle.bal_base.specs.declared.token.Keyword.{Keyword}
 use Rattle.bal_base.specs.declared.token.Sign.{Sign as SignOf}
@@ -19,15 +19,15 @@ use Rattle.bal_lexer.specs.declared.lexeme.Lexeme.{Lexeme}
 use Rattle.bal_lexer.specs.declared.lexeme.Lexeme.TheVariants.{Gap, LeftOut, Token}
 use Rattle.bal_lexer.specs.declared.lexeme.Start.{Start}
 use Rattle.bal_lexer.specs.declared.lexeme.Start.TheVariants.{White, LeftOutMark, Digit, Quote, Hash, Word, Sign}
-use Rattle.bal_lexer.specs.Lexemes.{IsLexeme, IsFraction, IsIntLiteral, IsStringLiteral, IsFree}
+use Rattle.bal_lexer.specs.Lexemes.{IsLexeme, IsFraction, IsIntLiteral, IsStringLiteral}
 use Rattle.bal_lexer.specs.Words.{Means}
 use Rattle.bal_lexer.specs.Runs.{after_run}
-use Rattle.bal_lexer.specs.Lexes.{Begins, NothingBegins}
+use Rattle.bal_lexer.specs.Lexes.{Begins}
 use Rattle.bal_lexer.specs.Firsts.{start_of, AtStart}
 use Rattle.bal_lexer.proofs.Finds.{list_all-at, find-some}
 use Rattle.bal_lexer.proofs.Keywords.{keyword-not_left_out, keyword-no_sign, find_written}
 use Rattle.bal_lexer.proofs.Signs.{no_comment, sign_text-same}
-use Rattle.bal_lexer.proofs.WordKinds.{list_any-at, contains-any}
+use Rattle.bal_lexer.proofs.WordKinds.{contains-any}
 use Rattle.bal_lexer.proofs.Runs.{after_run-append}
 use Rattle.bal_lexer.proofs.NumberFirst.{first-same}
 use Rattle.bal_lexer.proofs.StringFirst.{closes-spelled, closes-once}
@@ -81,6 +81,7 @@ means-meaning word (Token (kind.Keyword k)) is =
   where
     here : (k : Keyword) (word : List ℕ) → word ≡ keyword_text k → keyword_here word ≡ Some k
     here k word is = ap (λ v. find (λ h. bytes_eq (keyword_text h) v) KEYWORDS) is ∙ find_written k
+
     known : (k : Keyword) (word : List ℕ) → keyword_meaning (Some k) word ≡ Token (kind.Keyword k)
     known k word = refl
 means-meaning word (Token (kind.Int i)) means = absurd means

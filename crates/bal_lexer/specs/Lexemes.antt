@@ -1,11 +1,10 @@
 -- What stands in a source text: each kind of token, white space, comments, and the forms that are left
 -- out. A text is its list of code points.
-use Rattle.std.specs.Prelude.{◌≡◌, ◌≢◌, ℕ, ◌≤◌, Bool, true, false, not, ◌||◌, ◌==◌, ◌⊎◌, pos, List, [], ◌∷◌, ◌++◌, length, codes, Contains, Option, Some, None}
+use Rattle.std.specs.Prelude.{◌≡◌, ◌≢◌, ℕ, ◌≤◌, Bool, true, false, not, ◌||◌, ◌==◌, ◌⊎◌, pos, List, [], ◌∷◌, ◌++◌, length, codes, Contains}
 use Rattle.std.specs.List.{list_all}
 use Rattle.std.specs.Char.{IsScalar, is_ascii_digit, is_ascii_hexdigit}
 use Rattle.std.specs.Str.Parse.{digits_value}
 use Rattle.unicode_ident.specs.Ident.{is_xid_start, is_xid_continue}
-use Rattle.bal_base.specs.declared.token.TokenKind.{TokenKind}
 use Rattle.bal_base.specs.declared.token.TokenKind.TheVariants as kind
 use Rattle.bal_base.specs.declared.token.Keyword.{Keyword}
 use Rattle.bal_base.specs.declared.token.Sign.TheVariants as sign
@@ -23,7 +22,7 @@ IsWhite slice = (c : ℕ) × (slice ≡ c ∷ []) × (is_white c ≡ true)
 -- `//` or `#`, and then no line feed
 abbrev pub IsComment : List ℕ → Type 0
 IsComment slice = (body : List ℕ) × ((slice ≡ codes "//" ++ body) ⊎ (slice ≡ codes "#" ++ body))
-  × (list_all (λ c. not (c == 10)) body ≡ true)
+    × (list_all (λ c. not (c == 10)) body ≡ true)
 
 -- what a word begins with
 abbrev pub starts_word : ℕ → Bool
@@ -76,7 +75,7 @@ StandsFor piece c =
     ((piece ≡ c ∷ []) × (is_plain c ≡ true))
     ⊎ ((letter : ℕ) × (piece ≡ 92 ∷ letter ∷ []) × IsEscape letter c)
     ⊎ ((digits : List ℕ) × (piece ≡ codes "\\u{" ++ digits ++ codes "}") × AreDigits is_ascii_hexdigit digits
-      × (length digits ≤ 6) × (c ≡ digits_value 16 digits) × IsScalar c)
+    × (length digits ≤ 6) × (c ≡ digits_value 16 digits) × IsScalar c)
 
 -- the pieces of the body stand for the characters of the text, in order
 abbrev pub Spells : List ℕ → List ℕ → Type 0

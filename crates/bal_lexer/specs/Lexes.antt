@@ -36,9 +36,9 @@ token_at at slice kind = record { kind = kind; at = at; end = at + byte_len slic
 pub data LexesFrom : ℕ → List ℕ → List TokenOf → Type 0 where
   ends : (at : ℕ) → LexesFrom at [] []
   passes : (at : ℕ) (text slice after : List ℕ) (tokens : List TokenOf) → Begins text slice after Gap
-    → LexesFrom (at + byte_len slice) after tokens → LexesFrom at text tokens
+      → LexesFrom (at + byte_len slice) after tokens → LexesFrom at text tokens
   takes : (at : ℕ) (text slice after : List ℕ) (kind : TokenKind) (tokens : List TokenOf) → Begins text slice after (Token kind)
-    → LexesFrom (at + byte_len slice) after tokens → LexesFrom at text (token_at at slice kind ∷ tokens)
+      → LexesFrom (at + byte_len slice) after tokens → LexesFrom at text (token_at at slice kind ∷ tokens)
 
 -- the text is these tokens
 abbrev pub Lexes : List ℕ → List TokenOf → Type 0
@@ -57,9 +57,9 @@ pub data RefusesFrom : ℕ → List ℕ → FaultCode → ℕ → Type 0 where
   left_out : (at : ℕ) (text slice after : List ℕ) → Begins text slice after LeftOut → RefusesFrom at text code.LeftOut at
   bad_token : (at : ℕ) (text : List ℕ) → text ≢ [] → NothingBegins text → RefusesFrom at text code.BadToken at
   past_gap : (at : ℕ) (text slice after : List ℕ) (code : FaultCode) (place : ℕ) → Begins text slice after Gap
-    → RefusesFrom (at + byte_len slice) after code place → RefusesFrom at text code place
+      → RefusesFrom (at + byte_len slice) after code place → RefusesFrom at text code place
   past_token : (at : ℕ) (text slice after : List ℕ) (kind : TokenKind) (code : FaultCode) (place : ℕ) → Begins text slice after (Token kind)
-    → RefusesFrom (at + byte_len slice) after code place → RefusesFrom at text code place
+      → RefusesFrom (at + byte_len slice) after code place → RefusesFrom at text code place
 
 -- the text is refused so, at this byte
 abbrev pub Refuses : List ℕ → FaultCode → ℕ → Type 0

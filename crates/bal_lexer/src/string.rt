@@ -36,11 +36,7 @@ fn after_char(s: &str, c: char) -> Option<&str>
     ensures { option_map (λ x. chars x.now) result ≡ spec.after_char c (chars s.now) }
 {
     let (first, rest) = split_first(s)?;
-    if first == c {
-        Some(rest)
-    } else {
-        None
-    }
+    if first == c { Some(rest) } else { None }
 }
 
 /// The character that the first piece of a literal's body stands for, and what follows the piece.

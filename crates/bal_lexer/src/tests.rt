@@ -64,8 +64,14 @@ static CASES: [(&str, &str); 173] = [
     ("// a\rb", ""),
     ("#\n#é\nx", "w:x@6-7;"),
     ("a//b\n//", "w:a@0-1;"),
-    ("import as public type const final var function returns return isolated worker record map error future any anydata never readonly int string boolean byte true false if else while foreach in match break continue is check checkpanic trap panic start wait flush", "k:import@0-6;k:as@7-9;k:public@10-16;k:type@17-21;k:const@22-27;k:final@28-33;k:var@34-37;k:function@38-46;k:returns@47-54;k:return@55-61;k:isolated@62-70;k:worker@71-77;k:record@78-84;k:map@85-88;k:error@89-94;k:future@95-101;k:any@102-105;k:anydata@106-113;k:never@114-119;k:readonly@120-128;k:int@129-132;k:string@133-139;k:boolean@140-147;k:byte@148-152;k:true@153-157;k:false@158-163;k:if@164-166;k:else@167-171;k:while@172-177;k:foreach@178-185;k:in@186-188;k:match@189-194;k:break@195-200;k:continue@201-209;k:is@210-212;k:check@213-218;k:checkpanic@219-229;k:trap@230-234;k:panic@235-240;k:start@241-246;k:wait@247-251;k:flush@252-257;"),
-    ("{| |} { } ( ) [ ] ; , : . ?. ?: ? ... ..< ->> -> <- => === !== == != = <= >= < > && || & | ! + - * / % += -= *= /= _", "s:{|@0-2;s:|}@3-5;s:{@6-7;s:}@8-9;s:(@10-11;s:)@12-13;s:[@14-15;s:]@16-17;s:;@18-19;s:,@20-21;s::@22-23;s:.@24-25;s:?.@26-28;s:?:@29-31;s:?@32-33;s:...@34-37;s:..<@38-41;s:->>@42-45;s:->@46-48;s:<-@49-51;s:=>@52-54;s:===@55-58;s:!==@59-62;s:==@63-65;s:!=@66-68;s:=@69-70;s:<=@71-73;s:>=@74-76;s:<@77-78;s:>@79-80;s:&&@81-83;s:||@84-86;s:&@87-88;s:|@89-90;s:!@91-92;s:+@93-94;s:-@95-96;s:*@97-98;s:/@99-100;s:%@101-102;s:+=@103-105;s:-=@106-108;s:*=@109-111;s:/=@112-114;s:_@115-116;"),
+    (
+        "import as public type const final var function returns return isolated worker record map error future any anydata never readonly int string boolean byte true false if else while foreach in match break continue is check checkpanic trap panic start wait flush",
+        "k:import@0-6;k:as@7-9;k:public@10-16;k:type@17-21;k:const@22-27;k:final@28-33;k:var@34-37;k:function@38-46;k:returns@47-54;k:return@55-61;k:isolated@62-70;k:worker@71-77;k:record@78-84;k:map@85-88;k:error@89-94;k:future@95-101;k:any@102-105;k:anydata@106-113;k:never@114-119;k:readonly@120-128;k:int@129-132;k:string@133-139;k:boolean@140-147;k:byte@148-152;k:true@153-157;k:false@158-163;k:if@164-166;k:else@167-171;k:while@172-177;k:foreach@178-185;k:in@186-188;k:match@189-194;k:break@195-200;k:continue@201-209;k:is@210-212;k:check@213-218;k:checkpanic@219-229;k:trap@230-234;k:panic@235-240;k:start@241-246;k:wait@247-251;k:flush@252-257;",
+    ),
+    (
+        "{| |} { } ( ) [ ] ; , : . ?. ?: ? ... ..< ->> -> <- => === !== == != = <= >= < > && || & | ! + - * / % += -= *= /= _",
+        "s:{|@0-2;s:|}@3-5;s:{@6-7;s:}@8-9;s:(@10-11;s:)@12-13;s:[@14-15;s:]@16-17;s:;@18-19;s:,@20-21;s::@22-23;s:.@24-25;s:?.@26-28;s:?:@29-31;s:?@32-33;s:...@34-37;s:..<@38-41;s:->>@42-45;s:->@46-48;s:<-@49-51;s:=>@52-54;s:===@55-58;s:!==@59-62;s:==@63-65;s:!=@66-68;s:=@69-70;s:<=@71-73;s:>=@74-76;s:<@77-78;s:>@79-80;s:&&@81-83;s:||@84-86;s:&@87-88;s:|@89-90;s:!@91-92;s:+@93-94;s:-@95-96;s:*@97-98;s:/@99-100;s:%@101-102;s:+=@103-105;s:-=@106-108;s:*=@109-111;s:/=@112-114;s:_@115-116;",
+    ),
     ("float", "105 in 7@0"),
     ("decimal", "105 in 7@0"),
     ("xml", "105 in 7@0"),
@@ -139,7 +145,10 @@ static CASES: [(&str, &str); 173] = [
     ("9223372036854775807", "i:9223372036854775807@0-19;"),
     ("9223372036854775808", "102 in 7@0"),
     ("10000000000000000000000", "102 in 7@0"),
-    ("-9223372036854775807", "s:-@0-1;i:9223372036854775807@1-20;"),
+    (
+        "-9223372036854775807",
+        "s:-@0-1;i:9223372036854775807@1-20;",
+    ),
     ("09", "102 in 7@0"),
     ("00", "102 in 7@0"),
     ("0x", "102 in 7@0"),

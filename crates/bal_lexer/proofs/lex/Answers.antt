@@ -1,8 +1,8 @@
-use Rattle.std.proofs.Common.{◌≡◌, ◌+◌, ◌-◌, ◌<◌, ◌≤◌, ◌++◌, ◌∷◌, List, ℕ, [], IsUtf8, chars, length, sym, ap, ◌∙◌, refl, subst, rules, arith}
+use Rattle.std.proofs.Common.{◌≡◌, ◌+◌, ◌-◌, ◌++◌, ◌∷◌, [], IsUtf8, chars, length, sym, ap, ◌∙◌, subst, rules, arith}
 use Rattle.bal_base.specs.declared.fault.FaultCode.TheVariants as code
 use Rattle.bal_base.specs.declared.token.Token.{Token as TokenOf}
-use Rattle.bal_lexer.specs.declared.lexeme.Lexeme.TheVariants.{Gap, LeftOut, Token}
-use Rattle.bal_lexer.specs.Lexes.{byte_len, Begins, token_at, Refuses, RefusesFrom, left_out, bad_token}
+use Rattle.bal_lexer.specs.declared.lexeme.Lexeme.TheVariants.{Gap, Token}
+use Rattle.bal_lexer.specs.Lexes.{byte_len, Begins, token_at, Refuses, left_out, bad_token}
 use Rattle.bal_lexer.proofs.Readings.{HasLexed, has_lexed-none, has_lexed-gap, has_lexed-token, has_lexed-all, step, found-some, found-none, chars-some, chars-none, answer-right, answer-no_tokens, answer-only, lexes-same, lexes-no_refusal}
 use Rattle.bal_lexer.proofs.Spans.{spans, refusal-place, refusal-codes}
 use Rattle.bal_lexer.proofs.lex.Goals as goal
@@ -108,13 +108,13 @@ loop-rest-preserved c =
     let end : c.place-end.result ≡ (length text - length s) + byte_len slice = c.place-end.ensures ∙ sym moved.1 in
     let pushed : record { kind = kind; at = c.place-at.result; end = c.place-end.result } ≡ token_at (length text - length s) slice kind = λ i. record { kind = kind; at = c.place-at.ensures i; end = end i } in
     let items : c.push.new.self.items ≡ c.loop-rest.tokens.items ++ token_at (length text - length s) slice kind ∷ [] =
-        c.in_ok-push-in-Token.ensures.items ∙ ap (λ (t : TokenOf). c.loop-rest.tokens.items ++ t ∷ []) pushed in
+    c.in_ok-push-in-Token.ensures.items ∙ ap (λ (t : TokenOf). c.loop-rest.tokens.items ++ t ∷ []) pushed in
     record {
       text = back;
       within = omega (arith, moved.0, c.loop-rest.invariant.within);
       lexed = subst (λ l. HasLexed (chars text) l (length text - length after) (chars after)) (sym items)
           (subst (λ n. HasLexed (chars text) (c.loop-rest.tokens.items ++ token_at (length text - length s) slice kind ∷ []) n (chars after)) moved.1
-            (has_lexed-token (chars text) c.loop-rest.tokens.items (length text - length s) (chars s) slice (chars after) kind c.loop-rest.invariant.lexed token));
+          (has_lexed-token (chars text) c.loop-rest.tokens.items (length text - length s) (chars s) slice (chars after) kind c.loop-rest.invariant.lexed token));
     }
 
 pub returns-clause-tokens : goal.returns-clause-tokens

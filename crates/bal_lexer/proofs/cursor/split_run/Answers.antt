@@ -1,7 +1,6 @@
-use Rattle.std.proofs.Common.{◌≡◌, ◌-◌, length, false, chars, take, drop, sym, ap, ◌∙◌, subst}
-use Rattle.std.specs.Str.{IsCharBoundary}
+use Rattle.std.proofs.Common.{◌≡◌, false, chars, sym, ap, ◌∙◌}
 use Rattle.bal_lexer.specs.Lexemes.{begins_with}
-use Rattle.bal_lexer.specs.Runs.{class_test, run, after_run}
+use Rattle.bal_lexer.specs.Runs.{class_test}
 use Rattle.bal_lexer.proofs.Runs.{has_passed-none, has_passed-more, has_passed-run}
 use Rattle.bal_lexer.proofs.cursor.split_run.Goals as goal
 use Rattle.bal_lexer.proofs.cursor.split_run.Goals.{in-Some+then-not-has, in_default, Joined-split_first}

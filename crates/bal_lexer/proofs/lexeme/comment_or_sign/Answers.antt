@@ -1,8 +1,6 @@
-use Rattle.std.proofs.Common.{◌≡◌, ◌≢◌, ◌++◌, ◌∷◌, [], List, ℕ, Some, None, chars, sym, ap, ◌∙◌, refl, subst}
-use Rattle.bal_base.specs.declared.token.Sign.{Sign as SignOf}
+use Rattle.std.proofs.Common.{◌≡◌, ◌++◌, ◌∷◌, [], Some, chars, sym, ap, ◌∙◌, refl, subst}
 use Rattle.bal_lexer.specs.declared.lexeme.Lexeme.TheVariants.{Gap}
 use Rattle.bal_lexer.specs.declared.lexeme.Start.TheVariants.{Sign}
-use Rattle.bal_lexer.specs.Spellings.{sign_text}
 use Rattle.bal_lexer.specs.Firsts.{FirstAt}
 use Rattle.bal_lexer.proofs.Ascii.{chars-ascii}
 use Rattle.bal_lexer.proofs.Classes.{comment-first, sign-first, sign-none}

@@ -1,11 +1,10 @@
-use Rattle.std.proofs.Common.{◌≡◌, ◌∷◌, List, ℕ, Some, None, chars, sym, ap, ◌∙◌, refl, subst}
+use Rattle.std.proofs.Common.{◌≡◌, ◌∷◌, Some, chars, sym, ap, ◌∙◌, subst}
 use Rattle.std.specs.Prelude.{option_map}
 use Rattle.bal_lexer.specs.declared.lexeme.Lexeme.TheVariants.{Gap, LeftOut}
 use Rattle.bal_lexer.specs.declared.lexeme.Start.TheVariants.{White, LeftOutMark, Digit, Quote, Hash, Word, Sign}
 use Rattle.bal_lexer.specs.Firsts.{First, FirstAt}
 use Rattle.bal_lexer.specs.Numbers.{number_at}
 use Rattle.bal_lexer.proofs.Heads.{first-from, tells}
-use Rattle.bal_lexer.proofs.Unique.{begins-same}
 use Rattle.bal_lexer.proofs.Classes.{white-first, mark-first, hash-first, word-first}
 use Rattle.bal_lexer.proofs.NumberFirst.{number-first}
 use Rattle.bal_lexer.proofs.lexeme.first_lexeme.Goals as goal
@@ -30,7 +29,7 @@ returns-in-Digit c =
     let after = chars c.in-Some.after.now in
     subst (First text) (sym c.number.ensures)
     (first-from Digit text c.in-Some.c after (number_at text) c.in-Some.ensures.chars (sym c.in-Digit.ensures)
-      (number-first text c.in-Some.c after c.in-Some.ensures.chars (tells Digit c.in-Some.c (sym c.in-Digit.ensures))))
+    (number-first text c.in-Some.c after c.in-Some.ensures.chars (tells Digit c.in-Some.c (sym c.in-Digit.ensures))))
 
 pub returns-in_ok-literal-in-Quote : goal.returns-in_ok-literal-in-Quote
 returns-in_ok-literal-in-Quote c =
@@ -55,7 +54,7 @@ returns-in_ok-word-in-Word c =
     let lexeme = c.in_ok-word-in-Word.field-0.0 in
     first-from Word text c.in-Some.c after (Some (lexeme, chars c.in_ok-word-in-Word.field-0.1.now)) c.in-Some.ensures.chars (sym c.in-Word.ensures)
     (subst (λ l. FirstAt Word text (Some (lexeme, l))) (sym c.in_ok-word-in-Word.ensures.after)
-      (word-first text c.in-Some.c after lexeme c.in-Some.ensures.chars (tells Word c.in-Some.c (sym c.in-Word.ensures)) c.in_ok-word-in-Word.ensures.means))
+    (word-first text c.in-Some.c after lexeme c.in-Some.ensures.chars (tells Word c.in-Some.c (sym c.in-Word.ensures)) c.in_ok-word-in-Word.ensures.means))
 
 pub returns-in-Sign : goal.returns-in-Sign
 returns-in-Sign c =

@@ -1,4 +1,4 @@
-use Rattle.std.proofs.Common.{◌≡◌, ◌≤◌, pos, Some, ℤ, List, ℕ, sym, ap, ◌∙◌, refl, arith, w64, chars}
+use Rattle.std.proofs.Common.{◌≡◌, pos, Some, sym, ap, ◌∙◌, refl, w64, chars}
 use mir.Val.{to_z, of_z}
 use Rattle.std.specs.Str.Parse.{digits_value}
 use Rattle.std.proofs.lemmas.Int.{to_z-of_z}

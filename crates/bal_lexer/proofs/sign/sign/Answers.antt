@@ -1,4 +1,4 @@
-use Rattle.std.proofs.Common.{◌≡◌, ◌≤◌, ◌++◌, ℕ, List, MatchOption, chars, length, drop, None, Some, sym, ap, ◌∙◌}
+use Rattle.std.proofs.Common.{◌++◌, chars, length, drop, sym, ap, ◌∙◌}
 use Rattle.bal_lexer.specs.Spellings.{sign_text}
 use Rattle.bal_lexer.proofs.Ascii.{chars-ascii}
 use Rattle.bal_lexer.proofs.Signs.{sign_ascii}

@@ -1,4 +1,4 @@
-use Rattle.std.proofs.Common.{◌≡◌, ap, ◌∙◌, chars}
+use Rattle.std.proofs.Common.{ap, ◌∙◌, chars}
 use Rattle.std.specs.List.{list_all}
 use Rattle.std.specs.Char.{is_ascii_hexdigit}
 use Rattle.bal_lexer.proofs.Runs.{run-all}

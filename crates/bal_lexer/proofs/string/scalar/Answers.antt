@@ -1,4 +1,4 @@
-use Rattle.std.proofs.Common.{◌≡◌, ◌<◌, ◌≤◌, length, sym, ap, ◌∙◌, refl, subst, chars}
+use Rattle.std.proofs.Common.{◌<◌, ◌≤◌, length, subst, chars}
 use Rattle.std.specs.Option.{SomeIff}
 use Rattle.std.specs.Char.{IsScalar}
 use Rattle.std.specs.Str.Parse.{digits_value}

@@ -1,4 +1,4 @@
-use Rattle.std.proofs.Common.{IsUtf8, ◌≡◌, ◌++◌, ◌∷◌, [], List, ℕ, None, Some, chars, rules, sym, ap, ◌∙◌, refl, subst}
+use Rattle.std.proofs.Common.{IsUtf8, ◌≡◌, ◌++◌, ◌∷◌, [], chars, rules, sym, ap, ◌∙◌, subst}
 use Rattle.std.specs.Prelude.{encode_utf8}
 use Rattle.std.specs.String.{string_bytes}
 use Rattle.std.proofs.lemmas.Str.{chars-nil, IsUtf8-string_bytes}
@@ -21,9 +21,11 @@ loop-c-preserved c =
     let new = c.push.new.self in
     let bytes : string_bytes new ≡ string_bytes old ++ encode_utf8 c.in-Some.c = c.in_ok-push.ensures.bytes in
     let done : chars (string_bytes new) ≡ chars (string_bytes old) ++ c.in-Some.c ∷ [] =
-        ap chars bytes ∙ chars-push (string_bytes old) c.in-Some.c (IsUtf8-string_bytes old) (subst IsUtf8 bytes (IsUtf8-string_bytes new)) in
-    (search rules, subst (λ v. HasRead (chars c.args.s.now) v (chars c.in-Some.after.now)) (sym done)
-      (has_read-more (chars c.args.s.now) (chars (string_bytes old)) (chars c.loop-c.rest.now) c.in-Some.c (chars c.in-Some.after.now) c.loop-c.invariant.1 (sym c.in-Some.ensures)))
+    ap chars bytes ∙ chars-push (string_bytes old) c.in-Some.c (IsUtf8-string_bytes old) (subst IsUtf8 bytes (IsUtf8-string_bytes new)) in (
+      search rules,
+      subst (λ v. HasRead (chars c.args.s.now) v (chars c.in-Some.after.now)) (sym done)
+          (has_read-more (chars c.args.s.now) (chars (string_bytes old)) (chars c.loop-c.rest.now) c.in-Some.c (chars c.in-Some.after.now) c.loop-c.invariant.1 (sym c.in-Some.ensures)),
+    )
 
 pub returns-in-None : goal.returns-in-None
 returns-in-None c =
