@@ -18,3 +18,4 @@ pub mod NumberFirst
 pub mod Unique
 pub mod Readings
 pub mod Spans
+pub mod Total

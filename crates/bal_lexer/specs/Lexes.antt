@@ -65,6 +65,10 @@ pub data RefusesFrom : ℕ → List ℕ → FaultCode → ℕ → Type 0 where
 abbrev pub Refuses : List ℕ → FaultCode → ℕ → Type 0
 Refuses text code at = RefusesFrom 0 text code at
 
+-- the text is tokens, or is refused somewhere
+abbrev pub HasReading : List ℕ → Type 0
+HasReading text = ((tokens : List TokenOf) × Lexes text tokens) ⊎ ((code : FaultCode) × (at : ℕ) × Refuses text code at)
+
 -- the fault has this code and this place in the file, and shows nothing more
 abbrev pub IsFaultAt : ℕ → FaultCode → ℕ → Fault → Type 0
 IsFaultAt file code at fault = (fault.code ≡ code) × (fault.at ≡ Some (record { file = file; at = at })) × (fault.kept ≡ kept.Nothing)

@@ -6,7 +6,7 @@
 ghost use Rattle.std.specs.Prelude.{◌≡◌, ℕ, ◌-◌, ◌≤◌, List, IfOk, IfErr, MatchResult, length, chars};
 ghost use Rattle.bal_base.specs.declared.fault.FaultCode.{FaultCode};
 ghost use Rattle.bal_base.specs.declared.token.Token.{Token as TokenOf};
-ghost use Rattle.bal_lexer.specs.Lexes.{Lexes, AreSpans, Refuses, IsFaultAt, IsRefusal, IsTokenFault, StandsIn, IfFault};
+ghost use Rattle.bal_lexer.specs.Lexes.{Lexes, AreSpans, Refuses, HasReading, IsFaultAt, IsRefusal, IsTokenFault, StandsIn, IfFault};
 
 mod cursor;
 mod keyword;
@@ -35,7 +35,9 @@ pub fn lex(alloc: Global, file: u32, text: &str) -> Result<Vec<Token>, Stop<Faul
     ensures codes { IfErr result (λ stop. IfFault stop IsTokenFault) }
     ensures place { IfErr result (λ stop. IfFault stop (StandsIn text.now)) }
 
-    // One answer at most is right for a text, and so it is given, unless memory runs out.
+    // Every text is tokens or is refused, and in one way only, so that answer is given, unless memory runs
+    // out.
+    ensures reading { HasReading (chars text.now) }
     ensures only_tokens { (ts : List TokenOf) → Lexes (chars text.now) ts
         → MatchResult result (λ v. v.items ≡ ts) (λ stop. IfFault stop (λ _. ⊥)) }
     ensures only_refusal { (code : FaultCode) (at : ℕ) → Refuses (chars text.now) code at

@@ -5,6 +5,7 @@ use Rattle.bal_lexer.specs.declared.lexeme.Lexeme.TheVariants.{Gap, Token}
 use Rattle.bal_lexer.specs.Lexes.{byte_len, Begins, token_at, Refuses, left_out, bad_token}
 use Rattle.bal_lexer.proofs.Readings.{HasLexed, has_lexed-none, has_lexed-gap, has_lexed-token, has_lexed-all, step, found-some, found-none, chars-some, chars-none, answer-right, answer-no_tokens, answer-only, lexes-same, lexes-no_refusal}
 use Rattle.bal_lexer.proofs.Spans.{spans, refusal-place, refusal-codes}
+use Rattle.bal_lexer.proofs.Total.{reading}
 use Rattle.bal_lexer.proofs.lex.Goals as goal
 use Rattle.bal_lexer.proofs.lex.Goals.{After-refusal, After-refusal-in-LeftOut}
 
@@ -142,3 +143,18 @@ returns-in-LeftOut-clause-place c = refusal-place c.args.text.now c.args.file c.
 
 pub returns-clause-spans : goal.returns-clause-spans
 returns-clause-spans c = spans c.args.text.now c.loop-rest.tokens.items c.utf8.text (returns-clause-tokens c)
+
+pub returns-in-Err-clause-reading : goal.returns-in-Err-clause-reading
+returns-in-Err-clause-reading c = reading (chars c.args.text.now)
+
+pub returns-in-Ok-None-clause-reading : goal.returns-in-Ok-None-clause-reading
+returns-in-Ok-None-clause-reading c = reading (chars c.args.text.now)
+
+pub returns-in-LeftOut-clause-reading : goal.returns-in-LeftOut-clause-reading
+returns-in-LeftOut-clause-reading c = reading (chars c.args.text.now)
+
+pub returns-in_err-push-in-Token-clause-reading : goal.returns-in_err-push-in-Token-clause-reading
+returns-in_err-push-in-Token-clause-reading c = reading (chars c.args.text.now)
+
+pub returns-clause-reading : goal.returns-clause-reading
+returns-clause-reading c = reading (chars c.args.text.now)
