@@ -1,5 +1,5 @@
 -- Every text has a reading: tokens, or a place where it is refused.
-use Rattle.std.proofs.Common.{◌≡◌, ◌≢◌, ℕ, zero, suc, ◌+◌, ◌<◌, ◌≤◌, Bool, true, false, cond, nat_eq, List, [], ◌∷◌, ◌++◌, length, take, drop, codes, Option, Some, None, Contains, find, inl, inr, refl, sym, ap, ◌∙◌, subst, arith}
+use Rattle.std.proofs.Common.{◌≡◌, ℕ, zero, suc, ◌+◌, ◌<◌, Bool, true, false, nat_eq, List, [], ◌∷◌, ◌++◌, length, take, drop, Option, Some, None, find, inl, inr, refl, sym, ap, ◌∙◌, subst, arith}
 use Rattle.std.specs.Prelude.{◌⊎◌}
 use Rattle.std.specs.Str.{bytes_eq}
 use Rattle.std.specs.List.{list_any, starts_with}
@@ -28,7 +28,7 @@ use Rattle.bal_lexer.specs.Words.{Means}
 use Rattle.bal_lexer.specs.Runs.{run, after_run}
 use Rattle.bal_lexer.specs.Numbers.{number_at}
 use Rattle.bal_lexer.specs.Strings.{after_char, piece_at, Closes}
-use Rattle.bal_lexer.specs.Lexes.{byte_len, token_at, Begins, NothingBegins, LexesFrom, ends, passes, takes, Lexes, RefusesFrom, left_out, bad_token, past_gap, past_token, Refuses, HasReading}
+use Rattle.bal_lexer.specs.Lexes.{byte_len, token_at, Begins, LexesFrom, ends, passes, takes, RefusesFrom, left_out, bad_token, past_gap, past_token, HasReading}
 use Rattle.bal_lexer.specs.Firsts.{start_of, in_line, FirstAt, First}
 use Rattle.bal_lexer.proofs.Finds.{find-none, find-some, find-largest}
 use Rattle.bal_lexer.proofs.Keywords.{has_keyword}
@@ -60,9 +60,11 @@ word-means word = by_underscore (bytes_eq word (95 ∷ [])) refl
         refl,
       ),
     )
+
     by_left_out : (bytes_eq word (95 ∷ []) ≡ false) → (left : Bool) → list_any (λ w. bytes_eq w word) left_out_words ≡ left → (lexeme : Lexeme) × Means word lexeme
     by_left_out no_sign true e = (LeftOut, contains-any word left_out_words e)
     by_left_out no_sign false e = by_keyword no_sign e (find (λ k. bytes_eq (keyword_text k) word) KEYWORDS) refl
+
     by_underscore : (underscore : Bool) → bytes_eq word (95 ∷ []) ≡ underscore → (lexeme : Lexeme) × Means word lexeme
     by_underscore true e = (Token (kind.Sign sign.Underscore), ((bytes_eq-Decides word (95 ∷ [])).0 e, refl))
     by_underscore false e = by_left_out e (list_any (λ w. bytes_eq w word) left_out_words) refl
@@ -116,14 +118,15 @@ sign-total text = go (cases_Bool (starts_with nat_eq text (47 ∷ 47 ∷ [])))
     by_sign no_comment (Some g) e = (
       Some (Token (kind.Sign g), drop (length (sign_text g)) text),
       sign-first text g (drop (length (sign_text g)) text) (λ rest is. both_ways (starts_with nat_eq text (47 ∷ 47 ∷ [])) no_comment (starts-yes text (47 ∷ 47 ∷ []) rest is))
-      (starts-front text (sign_text g) (find-some (λ h. starts_with nat_eq text (sign_text h)) SIGNS g e))
-      (λ other rest is. find-largest (λ h. length (sign_text h)) (λ h. starts_with nat_eq text (sign_text h)) SIGNS g other signs_descend e (has_sign other) (starts-yes text (sign_text other) rest is)),
+          (starts-front text (sign_text g) (find-some (λ h. starts_with nat_eq text (sign_text h)) SIGNS g e))
+          (λ other rest is. find-largest (λ h. length (sign_text h)) (λ h. starts_with nat_eq text (sign_text h)) SIGNS g other signs_descend e (has_sign other) (starts-yes text (sign_text other) rest is)),
     )
     by_sign no_comment None e = (
       None,
       sign-none text (λ rest is. both_ways (starts_with nat_eq text (47 ∷ 47 ∷ [])) no_comment (starts-yes text (47 ∷ 47 ∷ []) rest is))
-      (λ other rest is. both_ways (starts_with nat_eq text (sign_text other)) (find-none (λ h. starts_with nat_eq text (sign_text h)) SIGNS other e (has_sign other)) (starts-yes text (sign_text other) rest is)),
+          (λ other rest is. both_ways (starts_with nat_eq text (sign_text other)) (find-none (λ h. starts_with nat_eq text (sign_text h)) SIGNS other e (has_sign other)) (starts-yes text (sign_text other) rest is)),
     )
+
     go : (starts_with nat_eq text (47 ∷ 47 ∷ []) ≡ true) ⊎ (starts_with nat_eq text (47 ∷ 47 ∷ []) ≡ false) → (found : Option (Lexeme × List ℕ)) × FirstAt Sign text found
     go (inl comment) = (Some (Gap, after_run in_line (drop 2 text)), comment-first text (drop 2 text) (starts-front text (47 ∷ 47 ∷ []) comment))
     go (inr no_comment) = by_sign no_comment (find (λ h. starts_with nat_eq text (sign_text h)) SIGNS) refl
