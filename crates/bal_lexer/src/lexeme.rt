@@ -1,7 +1,6 @@
 //! What stands at the front of a text.
 ghost use Rattle.std.specs.Prelude.{◌≡◌, ◌∷◌, IfOk, chars, option_map};
 ghost use Rattle.bal_lexer.specs.Runs.{after_run};
-ghost use Rattle.bal_lexer.specs.Strings.{Closes};
 ghost use Rattle.bal_lexer.specs.Firsts.{start_of, in_line, First, FirstAt};
 
 use crate::cursor::{Class, split_first, split_run, strip};

@@ -4,7 +4,7 @@ ghost use Rattle.std.specs.List.{list_all};
 ghost use Rattle.std.specs.Char.{is_digit};
 ghost use Rattle.bal_lexer.specs.Numbers as spec;
 
-use crate::cursor::{Class, begins_with, split_first, split_run, strip};
+use crate::cursor::{Class, begins_with, split_first, split_run};
 use crate::lexeme::Lexeme;
 use bal_base::TokenKind;
 
