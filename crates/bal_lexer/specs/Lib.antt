@@ -1,6 +1,8 @@
+-- what the tokens of a text are
 pub mod Spellings
 pub mod Lexemes
 pub mod Lexes
+-- what the parts of the crate read
 pub mod Runs
 pub mod Words
 pub mod Numbers

@@ -1,6 +1,9 @@
 //! The tokens of a source text.
 //!
 //! - [`lex`]: the tokens of a whole text, or the place where it is refused.
+//!
+//! A text is read one lexeme after another: `lexeme` finds the longest at the front, by the first
+//! character, in `word` and `keyword`, `number`, `string` or `sign`, all over the steps of `cursor`.
 #![tactic(auto)]
 
 ghost use Rattle.std.specs.Prelude.{◌≡◌, ℕ, ◌-◌, ◌≤◌, List, IfOk, IfErr, MatchResult, length, chars};
