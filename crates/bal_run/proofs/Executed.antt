@@ -1,5 +1,5 @@
 -- What is due after a run of the code that was built.
-use Rattle.std.proofs.Common.{◌≡◌, ℕ, List, [], ◌++◌, Option, Some, None, refl, sym, ap, subst, ◌∙◌, inl, inr, ⊎_elim}
+use Rattle.std.proofs.Common.{ℕ, List, [], Option, Some, None, refl, sym, subst, inr, ⊎_elim}
 use Rattle.std.specs.Prelude.{IfOk, OnErr, Result, Ok, Err, String}
 use Rattle.std.specs.Global.{Global}
 use Rattle.std.proofs.lemmas.List.{append-nil}
@@ -15,7 +15,6 @@ use Rattle.bal_run.specs.declared.machine.Ending.TheVariants.{Returned as Return
 use Rattle.bal_run.specs.declared.status.Built.{Built}
 use Rattle.bal_run.specs.declared.status.Run.{Run}
 use Rattle.bal_run.specs.declared.status.Status.{Status}
-use Rattle.bal_run.specs.declared.status.Status.TheVariants.{Done, Panicked, Memory, OutFault}
 use Rattle.bal_run.specs.Answer.{IsDue, IsStatusOfEnd, Scene}
 use Rattle.bal_run.specs.Files.{Files, CompilesTo}
 use Rattle.bal_run.specs.Lowering.{Simulates}
@@ -61,13 +60,13 @@ module _ (built : Built) (steps : ℕ) (before after : ℕ) (w v : Option (List 
 
   pub executed : (end : Result Ending (Stop Failed)) (status : Status) → Simulates built.tree built.code → CountsFaults before after end → IfOk end (λ e. Made built.code e steps w v) → MadeSteps built.code steps → OnErr end (WroteFront built.code w v) → IsStatusOfEnd end status → IsGood words → CompilesTo files built → IsDue scene (ran status) status
   executed (Ok ReturnedEnding) status s faults m made front is good comp =
-      subst (λ x. IsDue scene (ran x) x) (sym is) (good, (refl, refl, faults, (comp, m.0, m.1, s.only m.0 m.1 Returned m.2, m.2, m.3, m.4)))
+      subst (λ x. IsDue scene (ran x) x) (sym is) (good, (refl, refl, faults, (comp, (m.0, m.1, s.only m.0 m.1 Returned m.2, m.2, m.3, m.4))))
   executed (Ok Overflowed) status s faults m made front is good comp =
       ⊎_elim
-      (λ e. subst (λ x. IsDue scene (ran x) x) (sym e) (good, (refl, refl, faults, (comp, m.0, m.1, s.only m.0 m.1 (PanickedEnd number_overflow) m.2, m.2, m.3, m.4))))
-      (λ e. subst (λ x. IsDue scene (ran x) x) (sym e) (good, faults, inr (refl, refl, (comp, made, front-of-made Overflowed s m))))
+      (λ e. subst (λ x. IsDue scene (ran x) x) (sym e) (good, (refl, refl, faults, (comp, (m.0, m.1, s.only m.0 m.1 (PanickedEnd number_overflow) m.2, m.2, m.3, m.4)))))
+      (λ e. subst (λ x. IsDue scene (ran x) x) (sym e) (good, faults, inr (refl, refl, (comp, (made, front-of-made Overflowed s m)))))
       is
   executed (Err OutOfMemory) status s faults m made front is good comp =
-      subst (λ x. IsDue scene (ran x) x) (sym is) (good, faults, inr (refl, refl, (comp, made, front-of-front s front)))
+      subst (λ x. IsDue scene (ran x) x) (sym is) (good, faults, inr (refl, refl, (comp, (made, front-of-front s front))))
   executed (Err (Fault f)) status s faults m made front is good comp =
-      subst (λ x. IsDue scene (ran x) x) (sym is) (good, faults, (refl, refl, (comp, made, front-of-front s front)))
+      subst (λ x. IsDue scene (ran x) x) (sym is) (good, faults, (refl, refl, (comp, (made, front-of-front s front))))

@@ -1,3 +1,4 @@
+pub mod Causes
 pub mod Executed
 pub mod Mains
 pub mod Moves

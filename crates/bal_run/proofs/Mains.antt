@@ -14,7 +14,7 @@ use Rattle.bal_run.specs.declared.compile.LoadFault.{LoadFault}
 use Rattle.bal_run.specs.declared.compile.LoadFault.TheVariants.{Folder, NoMain, NotOfForm}
 use Rattle.bal_run.specs.declared.status.Built.{Built}
 use Rattle.bal_run.specs.Form.{FileReads}
-use Rattle.bal_run.specs.Files.{Files, Compiled, HasNoMain, IsBuiltFrom, IsFrontOfMain, IsMainAt, IsMainFile, IsSearched, main_name}
+use Rattle.bal_run.specs.Files.{Files, Compiled, HasNoMain, IsBuiltFrom, IsFrontOfMain, IsSearched, main_name}
 
 abbrev pub NoneBefore : Files → ℕ → Type 0
 NoneBefore all i = (j : ℕ) → j < i → IsNameAt all j main_name → ⊥

@@ -1,5 +1,5 @@
 -- What the diagnostics gained.
-use Rattle.std.proofs.Common.{◌≡◌, ℕ, List, [], ◌++◌, Option, Some, None, refl, sym, ap, ◌∙◌}
+use Rattle.std.proofs.Common.{ℕ, List, [], Option, Some, None, refl}
 use Rattle.bal_io.specs.Content.{Told, AppendsFront}
 use Rattle.bal_run.specs.Answer.{AppendsFronts}
 use Rattle.bal_run.specs.Status.{text_of}

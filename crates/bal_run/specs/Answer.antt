@@ -1,5 +1,5 @@
 -- What the answer of the top call says: one row for each status that comes so far.
-use Rattle.std.specs.Prelude.{◌≡◌, ◌≢◌, ◌⊎◌, ◌++◌, ◌%◌, ◌^◌, ℕ, List, [], Option, Some, None, IfSome, IsSomeAnd, Result, Ok, Err, String}
+use Rattle.std.specs.Prelude.{◌≡◌, ◌≢◌, ◌⊎◌, ◌++◌, ◌%◌, ◌^◌, ℕ, List, Option, None, IfSome, IsSomeAnd, Result, Ok, Err, String}
 use Rattle.std.specs.Global.{Global}
 use Rattle.bal_base.specs.End.{End, Returned, Panicked as PanickedEnd, number_overflow}
 use Rattle.bal_base.specs.declared.fault.Refusal.{Refusal}
@@ -53,21 +53,30 @@ abbrev pub IsRefusalOf : Option Files → Refusal → Type 0
 IsRefusalOf files r =
     ((r ≡ no_main) × IfSome files HasNoMain) ⊎ ((r ≡ not_a_definition) × IfSome files HasNoProgram)
 
--- the evaluation of the kept tree writes this output and comes to this end, the kept code has a run with the same
+-- the evaluation of the built tree writes this output and comes to this end, the built code has a run with the same
 -- output and end in so many steps, and what was written is that output
+abbrev pub EvaluatesTo : Scene → Run → End → Built → Type 0
+EvaluatesTo s run end built =
+    (n : ℕ) × (output : List ℕ) × Evaluates built.tree output end × CodeRuns built.code n output end
+    × (run.steps ≡ n % 2 ^ 64) × Told (Appends output) s.written_before s.written_after
+
+-- the folder compiled to what is kept, which was run to this end
 abbrev pub RanTo : Scene → Run → End → Type 0
 RanTo s run end =
     (run.turns ≡ 1) × FolderIsFine s × OutIsFine s
-    × IsSomeAnd run.built (λ built. CompilesTo s.files built
-    × (n : ℕ) × (output : List ℕ) × Evaluates built.tree output end × CodeRuns built.code n output end
-    × (run.steps ≡ n % 2 ^ 64) × Told (Appends output) s.written_before s.written_after)
+    × IsSomeAnd run.built (λ built. CompilesTo s.files built × EvaluatesTo s run end built)
 
--- the kept code made some steps, and what was written is a front of what the evaluation of the kept tree writes
+-- the built code made so many steps, and what was written is a front of what the evaluation of the built tree writes
+abbrev pub WroteFrontOf : Scene → Run → Built → Type 0
+WroteFrontOf s run built =
+    MadeSteps built.code run.steps
+    × ((output : List ℕ) (end : End) → Evaluates built.tree output end → Told (AppendsFront output) s.written_before s.written_after)
+
+-- the folder compiled to what is kept, whose run was cut short
 abbrev pub WasCutShort : Scene → Run → Type 0
 WasCutShort s run =
     (run.turns ≡ 1) × FolderIsFine s
-    × IsSomeAnd run.built (λ built. CompilesTo s.files built × MadeSteps built.code run.steps
-    × ((output : List ℕ) (end : End) → Evaluates built.tree output end → Told (AppendsFront output) s.written_before s.written_after))
+    × IsSomeAnd run.built (λ built. CompilesTo s.files built × WroteFrontOf s run built)
 
 -- the status is due: its cause, and what was written
 abbrev pub IsDue : Scene → Run → Status → Type 0
@@ -121,3 +130,7 @@ abbrev pub CountsDiagFaults : Status → ℕ → ℕ → Type 0
 CountsDiagFaults DiagFault old new = Rises old new
 CountsDiagFaults Memory old new = (new ≡ old) ⊎ Rises old new
 CountsDiagFaults _ old new = new ≡ old
+
+-- the due status is the answer, unless the diagnostics failed or memory ran out
+abbrev pub ComesTo : Status → Status → Type 0
+ComesTo due status = (status ≡ due) ⊎ ((status ≡ DiagFault) ⊎ (status ≡ Memory))

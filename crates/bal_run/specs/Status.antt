@@ -1,9 +1,6 @@
 -- The numbers and the texts of the statuses.
-use Rattle.std.specs.Prelude.{◌≡◌, ◌⊎◌, ◌++◌, ⊤, ℕ, List, [], ◌∷◌, Some, None, codes, encode_utf8_all}
-use Rattle.std.specs.Fmt.{decimal}
+use Rattle.std.specs.Prelude.{◌≡◌, ◌⊎◌, ◌++◌, ⊤, ℕ, List, [], ◌∷◌, Some, None, codes}
 use Rattle.bal_base.specs.End.{number_overflow}
-use Rattle.bal_base.specs.FaultCode.{number_of as code_number}
-use Rattle.bal_base.specs.declared.fault.Fault.{Fault}
 use Rattle.bal_base.specs.declared.fault.FaultCode.{FaultCode}
 use Rattle.bal_base.specs.declared.fault.FaultCode.TheVariants.{NoMain, Syntax}
 use Rattle.bal_base.specs.declared.fault.Kept.TheVariants.{Nothing}

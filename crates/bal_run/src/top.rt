@@ -1,11 +1,12 @@
 //! The top call.
-ghost use Rattle.std.specs.Prelude.{◌≡◌, ◌⊎◌, ℕ, List, Option, None, IfOk, String};
+ghost use Rattle.std.specs.Prelude.{◌≡◌, ◌<◌, ◌⊎◌, ℕ, List, Option, Some, None, IfOk, IfSome, IfNone, String};
 ghost use Rattle.std.specs.Global.{Global as HeapGlobal};
 ghost use Rattle.bal_base.specs.End.{number_overflow};
+ghost use Rattle.bal_base.specs.declared.fault.Refusal.{Refusal as Refused};
 ghost use Rattle.bal_io.specs.Content.{Told, AppendsFront};
 ghost use Rattle.bal_io.specs.Faults.{Rises};
-ghost use Rattle.bal_run.specs.Answer.{IsDue, IsRefusedOr, IsStatusOfEnd, IsStatusOfLoad, Tells, CountsDiagFaults};
-ghost use Rattle.bal_run.specs.Files.{Files, CompilesTo};
+ghost use Rattle.bal_run.specs.Answer.{ComesTo, IsDue, IsRefusalOf, IsRefusedOr, IsStatusOfEnd, IsStatusOfLoad, Tells, CountsDiagFaults};
+ghost use Rattle.bal_run.specs.Files.{Files, CompilesTo, HasNoMain, HasNoProgram};
 ghost use Rattle.bal_run.specs.Lowering.{Simulates};
 ghost use Rattle.bal_run.specs.Status.{IsTold, no_main, not_a_definition, text_of};
 ghost use Rattle.bal_run.specs.Words.{IsGood};
@@ -44,6 +45,23 @@ pub fn bal_run<F: Folder, I: Source, O: Sink, E: Sink>(
           written_after = O.written out.new;
         }) result due
         × Tells due result.status (E.written diag.old) (E.written diag.new) }
+
+    // What was built, and that nothing is written where nothing was.
+    ensures built { IfSome result.built (CompilesTo (F.files folder.old)) }
+    ensures unbuilt { IfNone result.built (O.written out.new ≡ O.written out.old) }
+
+    // Each cause, both ways. A cause comes to its status, unless the diagnostics fail or memory runs out.
+    ensures words { result.status ≡ Status.Words → IsGood words.now → ⊥ }
+    ensures words_due { (IsGood words.now → ⊥) → ComesTo Status.Words result.status }
+    ensures refused { (r : Refused) → result.status ≡ Status.Refused r → IsRefusalOf (F.files folder.old) r }
+    ensures no_main_due { IsGood words.now → (files : Files) → F.files folder.old ≡ Some files → HasNoMain files
+        → ComesTo (Status.Refused no_main) result.status ⊎ ComesTo Status.FolderFault result.status }
+    ensures no_program_due { IsGood words.now → (files : Files) → F.files folder.old ≡ Some files → HasNoProgram files
+        → ComesTo (Status.Refused not_a_definition) result.status ⊎ ComesTo Status.FolderFault result.status }
+    ensures folder_fault { result.status ≡ Status.FolderFault → Rises (F.faults folder.old) (F.faults folder.new) }
+    ensures folder_due { F.faults folder.old < F.faults folder.new → ComesTo Status.FolderFault result.status }
+    ensures out_fault { result.status ≡ Status.OutFault → Rises (O.faults out.old) (O.faults out.new) }
+    ensures out_due { O.faults out.old < O.faults out.new → ComesTo Status.OutFault result.status }
     ensures diag { CountsDiagFaults result.status (E.faults diag.old) (E.faults diag.new) }
     ensures rest { I.rest input.new ≡ I.rest input.old }
     ensures input { I.faults input.new ≡ I.faults input.old }
