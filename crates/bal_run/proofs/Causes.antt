@@ -11,7 +11,7 @@ use Rattle.bal_run.specs.Answer.{Scene, EvaluatesTo, IsDue, NothingRan, WroteFro
 use Rattle.bal_run.specs.Files.{Files, HasNoMain, HasNoProgram, CompilesTo, IsMainFile, IsProgram, IsTreeOf}
 use Rattle.bal_run.specs.Status.{no_main, not_a_definition}
 use Rattle.bal_run.specs.Words.{IsGood}
-use Rattle.bal_tree.specs.declared.file.FileTree.{FileTree}
+use Rattle.bal_tree.specs.declared.def.FileTree.{FileTree}
 
 -- ---- the answer and what was due
 

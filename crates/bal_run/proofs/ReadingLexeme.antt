@@ -1,5 +1,5 @@
 -- A token is passed over exactly where the bytes begin with it.
-use Rattle.std.proofs.Common.{◌≡◌, ◌≤◌, ◌+◌, ℕ, ◌&&◌, List, [], ◌∷◌, ◌++◌, Some, None, length, take, drop, refl, sym, ap, ◌∙◌, leb, arith}
+use Rattle.std.proofs.Common.{◌≡◌, ◌≤◌, ◌+◌, ℕ, ◌&&◌, List, [], ◌∷◌, ◌++◌, Option, Some, None, length, take, drop, refl, sym, ap, subst, ◌∙◌, leb, arith}
 use Rattle.std.specs.Prelude.{option_and_then}
 use Rattle.std.specs.List.{prefix_len}
 use Rattle.std.specs.Str.{bytes_eq}
@@ -38,6 +38,19 @@ lexemes_only [] bytes rest h = ap Some (sym h)
 lexemes_only (token ∷ tokens) bytes rest h =
     ap (option_and_then (lexemes_rest tokens)) (lexeme_only token.0 token.1 bytes h.0 h.1)
     ∙ lexemes_only tokens h.0 rest h.2
+
+-- tokens, and further ones behind them
+pub lexemes_join : (a b : List (List ℕ × ℕ)) (bytes mid rest : List ℕ) → Lexemes a bytes mid → Lexemes b mid rest → Lexemes (a ++ b) bytes rest
+lexemes_join [] b bytes mid rest h k = subst (λ (x : List ℕ). Lexemes b x rest) h k
+lexemes_join (token ∷ a) b bytes mid rest h k = (h.0, h.1, lexemes_join a b h.0 mid rest h.2 k)
+
+pub lexemes_rest-append : (a b : List (List ℕ × ℕ)) (bytes : List ℕ) → lexemes_rest (a ++ b) bytes ≡ option_and_then (lexemes_rest b) (lexemes_rest a bytes)
+lexemes_rest-append [] b bytes = refl
+lexemes_rest-append (token ∷ a) b bytes = by (lexeme_rest token.0 token.1 bytes) (lexemes_rest-append a b)
+  where
+    by : (o : Option (List ℕ)) → ((next : List ℕ) → lexemes_rest (a ++ b) next ≡ option_and_then (lexemes_rest b) (lexemes_rest a next)) → option_and_then (lexemes_rest (a ++ b)) o ≡ option_and_then (lexemes_rest b) (option_and_then (lexemes_rest a) o)
+    by (Some next) h = h next
+    by None h = refl
 
 -- ---- what is left behind is shorter
 

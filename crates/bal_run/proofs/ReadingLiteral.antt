@@ -13,8 +13,10 @@ use Rattle.std.proofs.lemmas.Str.{IsUtf8-from_ascii}
 use Rattle.std.proofs.lemmas.Str.Parse.{IsNumeralModel, numerals_by_value, tells_all_ascii_digits, parse_signed_digits}
 use Rattle.std.proofs.lemmas.Fmt.{IsAscii-from_digits, decimal-digits_value, digits_value-decimal, decimal_nonempty, first_decimal, decimal_digit}
 use Rattle.bal_base.specs.Valid.{IsInt}
-use Rattle.bal_tree.specs.declared.expr.Expr.{Expr, Literal, Name, Call', Binary'}
-use Rattle.bal_tree.specs.declared.expr.Literal.TheVariants.{Int}
+use Rattle.bal_tree.specs.declared.name.Literal.TheVariants.{Int}
+use Rattle.bal_tree.specs.declared.expr.Expr.{Expr, Postfix}
+use Rattle.bal_tree.specs.declared.expr.Postfix.{Primary}
+use Rattle.bal_tree.specs.declared.expr.Primary.{Literal}
 use Rattle.bal_run.specs.Form.{LiteralReads}
 use Rattle.bal_run.specs.Reading.{has_leading_zero, is_int_text, literal_rest}
 
@@ -76,8 +78,6 @@ int_text digits (negsuc m) int all e = absurd (both_ways _ refl (ap all_ascii_di
 
 pub literal_only : (size : ℕ) (bytes : List ℕ) (e : Expr) (rest : List ℕ) → LiteralReads size bytes e rest → literal_rest bytes ≡ Some rest
 unfolding literal_rest
-literal_only size bytes (Literal (Int n) at) rest h =
+literal_only size bytes (Postfix (Primary (Literal (Int n at)))) rest h =
     cond-true _ _ _ (int_text (take_while is_ascii_digit bytes) n h.0 (digits_at_front bytes) h.1) ∙ ap Some (sym h.2)
-literal_only size bytes (Name name at) rest h = absurd h
-literal_only size bytes (Call' _ callee _ args at) rest h = absurd h
-literal_only size bytes (Binary' _ left op _ right at) rest h = absurd h
+literal_only size bytes e rest h = absurd h

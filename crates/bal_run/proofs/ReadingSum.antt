@@ -2,15 +2,20 @@
 use Rattle.std.proofs.Common.{◌≡◌, ◌≤◌, ◌+◌, ℕ, zero, suc, List, ◌++◌, Option, Some, None, length, drop, refl, sym, ap, ◌∙◌, subst, codes, arith}
 use Rattle.std.specs.Prelude.{option_and_then}
 use Rattle.std.specs.Option.{option_map_or}
-use Rattle.bal_tree.specs.declared.expr.Expr.{Expr, Literal, Name, Call', Binary'}
+use Rattle.bal_tree.specs.declared.expr.Expr.{Expr, Postfix, Binary'}
+use Rattle.bal_tree.specs.declared.expr.Postfix.{Primary}
+use Rattle.bal_tree.specs.declared.expr.Primary.{Literal}
+use Rattle.bal_tree.specs.ExprPieces.{expr_pieces}
+use Rattle.bal_tree.specs.Places.{BeginsAt}
+use Rattle.bal_base.specs.declared.place.Place.{Place}
 use Rattle.bal_tree.specs.declared.expr.BinaryOp.TheVariants.{Add, Multiply}
-use Rattle.bal_tree.specs.declared.expr.Literal.TheVariants.{Int}
+use Rattle.bal_tree.specs.declared.name.Literal.TheVariants.{Int}
 use Rattle.std.specs.List.{prefix_len}
 use Rattle.std.specs.Char.{is_ascii_digit}
 use Rattle.std.proofs.lemmas.List.{length-drop}
 use Rattle.bal_run.specs.Form.{place_of, Lexeme, LiteralReads, ProductReads, SumReads, literals}
 use Rattle.bal_run.specs.declared.reading.sum.OpenSum.{OpenSum}
-use Rattle.bal_run.specs.Reading.{lexeme_rest, literal_rest, operator_rest, go_on, terms, first_place, IsBinary, Closes, Extends}
+use Rattle.bal_run.specs.Reading.{lexeme_rest, literal_rest, operator_rest, go_on, terms, IsBinary, Closes, Extends}
 use Rattle.std.proofs.lemmas.Option.{MatchOption-at_none, MatchOption-at_some}
 use Rattle.bal_run.proofs.ReadingLexeme.{lexeme_only, after_space-le, lexeme_shorter}
 use Rattle.bal_run.proofs.ReadingLiteral.{literal_only}
@@ -18,57 +23,45 @@ use Rattle.bal_run.proofs.ReadingLiteral.{literal_only}
 -- ---- the tree
 
 pub literals_of_literal : (size : ℕ) (bytes : List ℕ) (e : Expr) (rest : List ℕ) → LiteralReads size bytes e rest → literals e ≡ 1
-literals_of_literal size bytes (Literal literal at) rest h = refl
-literals_of_literal size bytes (Name name at) rest h = absurd h
-literals_of_literal size bytes (Call' _ callee _ args at) rest h = absurd h
-literals_of_literal size bytes (Binary' _ left op _ right at) rest h = absurd h
+literals_of_literal size bytes (Postfix e) rest h = refl
+literals_of_literal size bytes e rest h = absurd h
 
 pub product_of_literal : (size : ℕ) (bytes : List ℕ) (e : Expr) (rest : List ℕ) → LiteralReads size bytes e rest → ProductReads size bytes e rest
-product_of_literal size bytes (Literal literal at) rest h = h
-product_of_literal size bytes (Name name at) rest h = absurd h
-product_of_literal size bytes (Call' _ callee _ args at) rest h = absurd h
-product_of_literal size bytes (Binary' _ left op _ right at) rest h = absurd h
+product_of_literal size bytes (Postfix e) rest h = h
+product_of_literal size bytes e rest h = absurd h
 
 pub sum_of_product : (size : ℕ) (bytes : List ℕ) (e : Expr) (rest : List ℕ) → ProductReads size bytes e rest → SumReads size bytes e rest
-sum_of_product size bytes (Literal literal at) rest h = h
-sum_of_product size bytes (Name name at) rest h = h
-sum_of_product size bytes (Call' _ callee _ args at) rest h = h
-sum_of_product size bytes (Binary' _ left Multiply _ right at) rest h = h
 sum_of_product size bytes (Binary' _ left Add _ right at) rest h = absurd h
+sum_of_product size bytes e rest h = h
 
-product_place : (size : ℕ) (bytes : List ℕ) (e : Expr) (rest : List ℕ) → ProductReads size bytes e rest → first_place e ≡ place_of size bytes
-product_place size bytes (Literal (Int n) at) rest h = h.3
-product_place size bytes (Name name at) rest h = absurd h
-product_place size bytes (Call' _ callee _ args at) rest h = absurd h
-product_place size bytes (Binary' _ left Multiply _ right at) rest h = h.5
-product_place size bytes (Binary' _ left Add _ right at) rest h = absurd h
+literal_place : (size : ℕ) (bytes : List ℕ) (e : Expr) (rest : List ℕ) (at : Place) → LiteralReads size bytes e rest → BeginsAt (expr_pieces e) at → at ≡ place_of size bytes
+literal_place size bytes (Postfix (Primary (Literal (Int n place)))) rest at h b = sym b ∙ h.3
+literal_place size bytes e rest at h b = absurd h
 
-sum_place : (size : ℕ) (bytes : List ℕ) (e : Expr) (rest : List ℕ) → SumReads size bytes e rest → first_place e ≡ place_of size bytes
-sum_place size bytes (Literal (Int n) at) rest h = h.3
-sum_place size bytes (Name name at) rest h = absurd h
-sum_place size bytes (Call' _ callee _ args at) rest h = absurd h
-sum_place size bytes (Binary' _ left Multiply _ right at) rest h = h.5
-sum_place size bytes (Binary' _ left Add _ right at) rest h = h.5
+product_place : (size : ℕ) (bytes : List ℕ) (e : Expr) (rest : List ℕ) (at : Place) → ProductReads size bytes e rest → BeginsAt (expr_pieces e) at → at ≡ place_of size bytes
+product_place size bytes (Postfix e) rest at h b = literal_place size bytes (Postfix e) rest at h b
+product_place size bytes (Binary' _ left Multiply _ right place) rest at h b = sym b ∙ h.5
+product_place size bytes e rest at h b = absurd h
+
+sum_place : (size : ℕ) (bytes : List ℕ) (e : Expr) (rest : List ℕ) (at : Place) → SumReads size bytes e rest → BeginsAt (expr_pieces e) at → at ≡ place_of size bytes
+sum_place size bytes (Binary' _ left Add _ right place) rest at h b = sym b ∙ h.5
+sum_place size bytes e rest at h b = product_place size bytes e rest at h b
 
 pub product_times : (size : ℕ) (bytes star factor rest : List ℕ) (e left right : Expr) → IsBinary e left Multiply right → ProductReads size bytes left star → Lexeme (codes "*") 0 star factor → LiteralReads size factor right rest → ProductReads size bytes e rest × (literals e ≡ literals left + 1)
-product_times size bytes star factor rest (Literal literal at) left right h = absurd h
-product_times size bytes star factor rest (Name name at) left right h = absurd h
-product_times size bytes star factor rest (Call' _ callee _ args at) left right h = absurd h
-product_times size bytes star factor rest (Binary' _ l Add _ r at) left right h = λ p sign q. cc
 product_times size bytes star factor rest (Binary' _ l Multiply _ r at) left right h = λ p sign q. (
-  (star, factor, subst (λ (x : Expr). ProductReads size bytes x star) (sym h.0) p, sign, subst (λ (x : Expr). LiteralReads size factor x rest) (sym h.2) q, h.3 ∙ product_place size bytes left star p),
+  (star, factor, subst (λ (x : Expr). ProductReads size bytes x star) (sym h.0) p, sign, subst (λ (x : Expr). LiteralReads size factor x rest) (sym h.2) q, product_place size bytes left star at p h.3),
   omega (arith, ap literals h.0, ap literals h.2, literals_of_literal size factor right rest q),
 )
+product_times size bytes star factor rest (Binary' _ l op _ r at) left right h = λ p sign q. cc
+product_times size bytes star factor rest e left right h = absurd h
 
 pub sum_plus : (size : ℕ) (bytes plus term rest : List ℕ) (e left right : Expr) → IsBinary e left Add right → SumReads size bytes left plus → Lexeme (codes "+") 0 plus term → ProductReads size term right rest → SumReads size bytes e rest × (literals e ≡ literals left + literals right)
-sum_plus size bytes plus term rest (Literal literal at) left right h = absurd h
-sum_plus size bytes plus term rest (Name name at) left right h = absurd h
-sum_plus size bytes plus term rest (Call' _ callee _ args at) left right h = absurd h
-sum_plus size bytes plus term rest (Binary' _ l Multiply _ r at) left right h = λ p sign q. cc
 sum_plus size bytes plus term rest (Binary' _ l Add _ r at) left right h = λ p sign q. (
-  (plus, term, subst (λ (x : Expr). SumReads size bytes x plus) (sym h.0) p, sign, subst (λ (x : Expr). ProductReads size term x rest) (sym h.2) q, h.3 ∙ sum_place size bytes left plus p),
+  (plus, term, subst (λ (x : Expr). SumReads size bytes x plus) (sym h.0) p, sign, subst (λ (x : Expr). ProductReads size term x rest) (sym h.2) q, sum_place size bytes left plus at p h.3),
   omega (arith, ap literals h.0, ap literals h.2),
 )
+sum_plus size bytes plus term rest (Binary' _ l op _ r at) left right h = λ p sign q. cc
+sum_plus size bytes plus term rest e left right h = absurd h
 
 -- ---- sums that are still read
 
@@ -142,51 +135,39 @@ terms_none zero bytes h = refl
 terms_none (suc n) bytes h = ap (option_and_then (go_on (terms n))) h
 
 product_terms : (size : ℕ) (bytes : List ℕ) (e : Expr) (rest : List ℕ) (n : ℕ) → ProductReads size bytes e rest → terms (literals e + n) bytes ≡ go_on (terms n) rest
-product_terms size bytes (Literal literal at) rest n h =
+product_terms size bytes (Postfix e) rest n h =
     let one : 1 + n ≡ suc n = omega arith in
-    ap (λ k. terms k bytes) one ∙ terms_some n bytes rest (literal_only size bytes (Literal literal at) rest h)
-product_terms size bytes (Name name at) rest n h = absurd h
-product_terms size bytes (Call' _ callee _ args at) rest n h = absurd h
-product_terms size bytes (Binary' _ left Add _ right at) rest n h = absurd h
+    ap (λ k. terms k bytes) one ∙ terms_some n bytes rest (literal_only size bytes (Postfix e) rest h)
 product_terms size bytes (Binary' _ left Multiply _ right at) rest n h =
     let count : literals left + literals right + n ≡ literals left + suc n = omega (arith, literals_of_literal size h.1 right rest h.4) in
     ap (λ k. terms k bytes) count ∙ product_terms size bytes left h.0 (suc n) h.2
     ∙ go_on_some (terms (suc n)) h.0 h.1 (star_only h.0 h.1 h.3)
     ∙ terms_some n h.1 rest (literal_only size h.1 right rest h.4)
+product_terms size bytes e rest n h = absurd h
 
 pub sum_terms : (size : ℕ) (bytes : List ℕ) (e : Expr) (rest : List ℕ) (n : ℕ) → SumReads size bytes e rest → terms (literals e + n) bytes ≡ go_on (terms n) rest
-sum_terms size bytes (Literal literal at) rest n h = product_terms size bytes (Literal literal at) rest n h
-sum_terms size bytes (Name name at) rest n h = absurd h
-sum_terms size bytes (Call' _ callee _ args at) rest n h = absurd h
-sum_terms size bytes (Binary' b left Multiply b' right at) rest n h = product_terms size bytes (Binary' b left Multiply b' right at) rest n h
 sum_terms size bytes (Binary' _ left Add _ right at) rest n h =
     let count : literals left + literals right + n ≡ literals left + (literals right + n) = omega arith in
     ap (λ k. terms k bytes) count ∙ sum_terms size bytes left h.0 (literals right + n) h.2
     ∙ go_on_some (terms (literals right + n)) h.0 h.1 (plus_only h.0 h.1 h.3)
     ∙ product_terms size h.1 right rest n h.4
+sum_terms size bytes e rest n h = product_terms size bytes e rest n h
 
 -- ---- what is left behind is shorter
 
 literal_shorter : (size : ℕ) (bytes : List ℕ) (e : Expr) (rest : List ℕ) → LiteralReads size bytes e rest → length rest ≤ length bytes
-literal_shorter size bytes (Literal (Int n) at) rest h =
+literal_shorter size bytes (Postfix (Primary (Literal (Int n at)))) rest h =
     let behind = drop (prefix_len is_ascii_digit bytes) bytes in
     omega (arith, ap length h.2, after_space-le behind, length-drop (prefix_len is_ascii_digit bytes) bytes)
-literal_shorter size bytes (Name name at) rest h = absurd h
-literal_shorter size bytes (Call' _ callee _ args at) rest h = absurd h
-literal_shorter size bytes (Binary' _ left op _ right at) rest h = absurd h
+literal_shorter size bytes e rest h = absurd h
 
 product_shorter : (size : ℕ) (bytes : List ℕ) (e : Expr) (rest : List ℕ) → ProductReads size bytes e rest → length rest ≤ length bytes
-product_shorter size bytes (Literal literal at) rest h = literal_shorter size bytes (Literal literal at) rest h
-product_shorter size bytes (Name name at) rest h = absurd h
-product_shorter size bytes (Call' _ callee _ args at) rest h = absurd h
-product_shorter size bytes (Binary' _ left Add _ right at) rest h = absurd h
+product_shorter size bytes (Postfix e) rest h = literal_shorter size bytes (Postfix e) rest h
 product_shorter size bytes (Binary' _ left Multiply _ right at) rest h =
     omega (arith, product_shorter size bytes left h.0 h.2, lexeme_shorter (codes "*") 0 h.0 h.1 h.3, literal_shorter size h.1 right rest h.4)
+product_shorter size bytes e rest h = absurd h
 
 pub sum_shorter : (size : ℕ) (bytes : List ℕ) (e : Expr) (rest : List ℕ) → SumReads size bytes e rest → length rest ≤ length bytes
-sum_shorter size bytes (Literal literal at) rest h = literal_shorter size bytes (Literal literal at) rest h
-sum_shorter size bytes (Name name at) rest h = absurd h
-sum_shorter size bytes (Call' _ callee _ args at) rest h = absurd h
-sum_shorter size bytes (Binary' b left Multiply b' right at) rest h = product_shorter size bytes (Binary' b left Multiply b' right at) rest h
 sum_shorter size bytes (Binary' _ left Add _ right at) rest h =
     omega (arith, sum_shorter size bytes left h.0 h.2, lexeme_shorter (codes "+") 0 h.0 h.1 h.3, product_shorter size h.1 right rest h.4)
+sum_shorter size bytes e rest h = product_shorter size bytes e rest h

@@ -5,16 +5,17 @@ use Rattle.std.specs.Prelude.{slice_get, IsSomeAnd}
 use Rattle.std.specs.List.{AllByRecursion}
 use Rattle.std.specs.Fmt.{signed_decimal}
 use Rattle.bal_base.specs.End.{End, Returned, Panicked, number_overflow}
-use Rattle.bal_tree.specs.declared.expr.Expr.{Expr, Literal, Name, Call', Binary'}
-use Rattle.bal_tree.specs.declared.stmt.Stmt.{Stmt}
-use Rattle.bal_tree.specs.declared.stmt.Stmt.TheVariants.{Rhs}
-use Rattle.bal_tree.specs.declared.stmt.Rhs.TheVariants.{Expr as Expression}
-use Rattle.bal_tree.specs.declared.file.FileTree.{FileTree}
-use Rattle.bal_tree.specs.declared.file.Def.{Def}
-use Rattle.bal_tree.specs.declared.file.Def.TheVariants.{Function}
-use Rattle.bal_tree.specs.declared.file.Body.{Body}
-use Rattle.bal_tree.specs.declared.file.Body.TheVariants.{Block}
-use Rattle.bal_tree.specs.Evaluation.{Evaluates, Gives, Overflows, Prints, Runs, IsMain, HasStmts}
+use Rattle.bal_tree.specs.declared.expr.Expr.{Expr, Postfix}
+use Rattle.bal_tree.specs.declared.expr.Postfix.{Call}
+use Rattle.bal_tree.specs.declared.expr.Call.{Function' as FunctionCall'}
+use Rattle.bal_tree.specs.declared.action.Rhs.TheVariants.{Expr as Expression}
+use Rattle.bal_tree.specs.declared.stmt.Stmt.{Stmt, Rhs}
+use Rattle.bal_tree.specs.declared.def.FileTree.{FileTree}
+use Rattle.bal_tree.specs.declared.def.Def.{Def}
+use Rattle.bal_tree.specs.declared.def.Def.TheVariants.{Function}
+use Rattle.bal_tree.specs.declared.def.Body.{Body}
+use Rattle.bal_tree.specs.declared.def.Body.TheVariants.{Block}
+use Rattle.bal_tree.specs.Evaluation.{Evaluates, Gives, Overflows, Prints, PrintsBy, Runs, IsMain, HasStmts}
 use Rattle.bal_tree.specs.Lists.{defs_list}
 use Rattle.bal_tree.specs.Sums.{IsSum, PrintsSum}
 use Rattle.stack_code.specs.declared.value.Value.TheVariants.{Nil, Int}
@@ -31,11 +32,13 @@ use Rattle.bal_run.proofs.Sums.{state, sum-pushes, sum-panics, sum-ends}
 
 -- ---- what the statements mean is determined
 
+same-argument : (call e f : Expr) → PrintsBy call e → PrintsBy call f → e ≡ f
+same-argument (Postfix (Call (FunctionCall' _ callee _ args at))) e f h k = let both : e ∷ [] ≡ f ∷ [] = sym h.1 ∙ k.1 in cc
+same-argument call e f h k = absurd h
+
 same-sum : (s : Stmt) (e f : Expr) → Prints s e → Prints s f → e ≡ f
-same-sum (Rhs (Expression (Call' _ callee _ args at)) place) e f h k = let both : e ∷ [] ≡ f ∷ [] = sym h.1 ∙ k.1 in cc
-same-sum (Rhs (Expression (Literal n at)) place) e f h k = absurd h
-same-sum (Rhs (Expression (Name n at)) place) e f h k = absurd h
-same-sum (Rhs (Expression (Binary' _ l op _ r at)) place) e f h k = absurd h
+same-sum (Rhs (Expression call) place) e f h k = same-argument call.value e f h k
+same-sum s e f h k = absurd h
 
 pub statements-end : (ss : List Stmt) → AllByRecursion PrintsSum ss → (output : List ℕ) × (end : End) × Runs ss output end
 statements-end [] h = ([], Returned, (refl, refl))
@@ -116,7 +119,9 @@ pub same-statements : (main : Def) (ss ts : List Stmt) → IsMain ss main → Is
 same-statements (Function f) ss ts h k = by f.body h.2 k.2
   where
     by : (body : Body) → HasStmts body ss → HasStmts body ts → ss ≡ ts
-    by (Block stmts at) p q = sym p ∙ q
+    by (Block stmts workers rest close at) p q = sym p.0 ∙ q.0
+    by body p q = absurd p
+same-statements main ss ts h k = absurd h
 
 main-of : (tree : FileTree) (ss ts : List Stmt) → IsMainOf tree ss → (k : ℕ) (d : Def) → k < length (defs_list tree.defs) → get_or (defs_list tree.defs) k d ≡ d → IsMain ts d → ss ≡ ts
 main-of tree ss ts (main, one, is, all) k d lt at h =

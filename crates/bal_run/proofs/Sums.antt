@@ -4,12 +4,14 @@ use Rattle.std.specs.Prelude.{slice_get}
 use Rattle.std.proofs.lemmas.Int.{by_lt_z, ints}
 use Rattle.bal_base.specs.End.{Panicked, number_overflow}
 use Rattle.bal_base.specs.Valid.{IsInt}
-use Rattle.bal_tree.specs.declared.expr.Expr.{Expr, Literal, Name, Call', Binary'}
-use Rattle.bal_tree.specs.declared.expr.Literal.TheVariants.{Int as IntLiteral}
+use Rattle.bal_tree.specs.declared.name.Literal.TheVariants.{Int as IntLiteral}
+use Rattle.bal_tree.specs.declared.expr.Expr.{Expr, Postfix, Binary'}
+use Rattle.bal_tree.specs.declared.expr.Postfix.{Primary}
+use Rattle.bal_tree.specs.declared.expr.Primary.{Literal}
 use Rattle.bal_tree.specs.declared.expr.BinaryOp.{BinaryOp}
 use Rattle.bal_tree.specs.declared.expr.BinaryOp.TheVariants.{Add as Plus, Multiply}
-use Rattle.bal_tree.specs.Evaluation.{Gives, Overflows, combined}
-use Rattle.bal_tree.specs.Sums.{IsSum}
+use Rattle.bal_tree.specs.Evaluation.{Gives, Overflows, Combines}
+use Rattle.bal_tree.specs.Sums.{IsSum, IsSumOp}
 use Rattle.stack_code.specs.declared.value.Value.{Value}
 use Rattle.stack_code.specs.declared.value.Value.TheVariants.{Int}
 use Rattle.stack_code.specs.declared.instr.Constant.TheVariants.{Int as ConstantInt}
@@ -24,13 +26,21 @@ state place stack output = record { place = place; stack = stack; output = outpu
 
 -- ---- one operator
 
-operator-on : (code : Code) (op : BinaryOp) (x y : ℤ) (place : ℕ) (rest : List Value) (out : List ℕ) → IsInt (combined op x y) → Does code (operator op) (state place (Int y ∷ Int x ∷ rest) out) (On (state (place + 1) (Int (combined op x y) ∷ rest) out))
-operator-on code Plus x y place rest out i = inl (i, refl)
-operator-on code Multiply x y place rest out i = inl (i, refl)
+operator-on : (code : Code) (op : BinaryOp) (x y z : ℤ) (place : ℕ) (rest : List Value) (out : List ℕ) → Combines op x y z → IsInt z → Does code (operator op) (state place (Int y ∷ Int x ∷ rest) out) (On (state (place + 1) (Int z ∷ rest) out))
+operator-on code Plus x y z place rest out e i = inl (subst IsInt e i, ap (λ v. On (state (place + 1) (Int v ∷ rest) out)) e)
+operator-on code Multiply x y z place rest out e i = inl (subst IsInt e i, ap (λ v. On (state (place + 1) (Int v ∷ rest) out)) e)
+operator-on code op x y z place rest out e i = absurd e
 
-operator-stops : (code : Code) (op : BinaryOp) (x y : ℤ) (place : ℕ) (rest : List Value) (out : List ℕ) → (¬ (IsInt (combined op x y))) → Does code (operator op) (state place (Int y ∷ Int x ∷ rest) out) (Ends (Panicked number_overflow))
-operator-stops code Plus x y place rest out n = inr (n, refl)
-operator-stops code Multiply x y place rest out n = inr (n, refl)
+operator-stops : (code : Code) (op : BinaryOp) (x y z : ℤ) (place : ℕ) (rest : List Value) (out : List ℕ) → Combines op x y z → (¬ (IsInt z)) → Does code (operator op) (state place (Int y ∷ Int x ∷ rest) out) (Ends (Panicked number_overflow))
+operator-stops code Plus x y z place rest out e n = inr (subst (λ v. ¬ (IsInt v)) e n, refl)
+operator-stops code Multiply x y z place rest out e n = inr (subst (λ v. ¬ (IsInt v)) e n, refl)
+operator-stops code op x y z place rest out e n = absurd e
+
+-- an operator of sums takes any operands to a number
+combine : (op : BinaryOp) (x y : ℤ) → IsSumOp op → (z : ℤ) × Combines op x y z
+combine Plus x y h = (_, refl)
+combine Multiply x y h = (_, refl)
+combine op x y h = absurd h
 
 -- ---- sums
 
@@ -59,7 +69,7 @@ module _ (code : Code) where
 
   -- where the sum gives an int, its code pushes it
   pub sum-pushes : (e : Expr) (first place : ℕ) (stack : List Value) (out : List ℕ) (z : ℤ) → Gives e z → Has first place e → Reaches code (state place stack out) (state (after first place e) (Int z ∷ stack) out)
-  sum-pushes (Literal (IntLiteral n) at) first place stack out z g h =
+  sum-pushes (Postfix (Primary (Literal (IntLiteral n at)))) first place stack out z g h =
       let s = state place stack out in
       let t = state (place + 1) (Int z ∷ stack) out in
       let pushed : value_of (ConstantInt n) ≡ Int z = ap Int (sym g) in
@@ -71,13 +81,11 @@ module _ (code : Code) where
       let pl = sum-pushes l first place stack out x gl (left-of first place l r op h.0 h.1) in
       let pr = sum-pushes r k m (Int x ∷ stack) out y gr (right-of first place l r op h.0 h.1) in
       let s = state n (Int y ∷ Int x ∷ stack) out in
-      let t = state (n + 1) (Int (combined op x y) ∷ stack) out in
-      let step : Step code s (On t) = at_some _ _ (λ j. Does code j s (On t)) (operator-of first place l r op h.0) (operator-on code op x y n stack out (subst IsInt e i)) in
+      let t = state (n + 1) (Int z ∷ stack) out in
+      let step : Step code s (On t) = at_some _ _ (λ j. Does code j s (On t)) (operator-of first place l r op h.0) (operator-on code op x y z n stack out e i) in
       let all = joined code pl.0 _ _ _ pl.1 (joined code pr.0 _ _ _ pr.1 (one_step code s t step)) in
-      subst (λ p. Reaches code (state place stack out) (state p (Int z ∷ stack) out)) (whole first place l r op)
-      (subst (λ v. Reaches code (state place stack out) (state (n + 1) (Int v ∷ stack) out)) (sym e) all)
-  sum-pushes (Name name at) first place stack out z g h = absurd g
-  sum-pushes (Call' _ callee _ args at) first place stack out z g h = absurd g
+      subst (λ p. Reaches code (state place stack out) (state p (Int z ∷ stack) out)) (whole first place l r op) all
+  sum-pushes e first place stack out z g h = absurd g
 
   -- where it overflows, its code panics, having written nothing
   pub sum-panics : (e : Expr) (first place : ℕ) (stack : List Value) (out : List ℕ) → Overflows e → Has first place e → (n : ℕ) × RunsFrom code n (state place stack out) out (Panicked number_overflow)
@@ -85,7 +93,7 @@ module _ (code : Code) where
   sum-panics (Binary' _ l op _ r at) first place stack out (inr (inl (x, gl, o))) h =
       let p = sum-pushes l first place stack out x gl (left-of first place l r op h.0 h.1) in
       then_run code p.0 _ _ out _ p.1 (sum-panics r (first + length (constants_of l)) (after first place l) (Int x ∷ stack) out o (right-of first place l r op h.0 h.1))
-  sum-panics (Binary' _ l op _ r at) first place stack out (inr (inr (x, y, gl, gr, large))) h =
+  sum-panics (Binary' _ l op _ r at) first place stack out (inr (inr (x, y, z, gl, gr, is, large))) h =
       let m = after first place l in
       let k = first + length (constants_of l) in
       let n = after k m r in
@@ -93,11 +101,9 @@ module _ (code : Code) where
       let pr = sum-pushes r k m (Int x ∷ stack) out y gr (right-of first place l r op h.0 h.1) in
       let s = state n (Int y ∷ Int x ∷ stack) out in
       let end : Next = Ends (Panicked number_overflow) in
-      let step : Step code s end = at_some _ _ (λ j. Does code j s end) (operator-of first place l r op h.0) (operator-stops code op x y n stack out large) in
+      let step : Step code s end = at_some _ _ (λ j. Does code j s end) (operator-of first place l r op h.0) (operator-stops code op x y z n stack out is large) in
       then_run code pl.0 _ _ out _ pl.1 (then_run code pr.0 _ _ out _ pr.1 (1, (end, step, (refl, refl, refl))))
-  sum-panics (Literal n at) first place stack out o h = absurd o
-  sum-panics (Name name at) first place stack out o h = absurd o
-  sum-panics (Call' _ callee _ args at) first place stack out o h = absurd o
+  sum-panics e first place stack out o h = absurd o
 
 -- ---- each sum has an outcome
 
@@ -108,17 +114,17 @@ IsInt-cases z =
     (λ from. by_lt_z (pos 9223372036854775807) z (λ above. inr (λ h. let high = h.1 in omega (arith, ints))) (λ to. inl (from, to)))
 
 pub sum-ends : (e : Expr) → IsSum e → ((z : ℤ) × Gives e z) ⊎ Overflows e
-sum-ends (Literal (IntLiteral n) at) h = inl (n, refl)
+sum-ends (Postfix (Primary (Literal (IntLiteral n at)))) h = inl (n, refl)
 sum-ends (Binary' _ l op _ r at) h =
     ⊎_elim
     (λ gl. ⊎_elim
-    (λ gr. ⊎_elim
-    (λ i. inl (combined op gl.0 gr.0, (gl.0, gr.0, gl.1, gr.1, refl, i)))
-    (λ n. inr (inr (inr (gl.0, gr.0, gl.1, gr.1, n))))
-    (IsInt-cases (combined op gl.0 gr.0)))
+    (λ gr. let c = combine op gl.0 gr.0 h.0 in
+    ⊎_elim
+    (λ i. inl (c.0, (gl.0, gr.0, gl.1, gr.1, c.1, i)))
+    (λ n. inr (inr (inr (gl.0, gr.0, c.0, gl.1, gr.1, c.1, n))))
+    (IsInt-cases c.0))
     (λ o. inr (inr (inl (gl.0, gl.1, o))))
-    (sum-ends r h.1))
+    (sum-ends r h.2))
     (λ o. inr (inl o))
-    (sum-ends l h.0)
-sum-ends (Name name at) h = absurd h
-sum-ends (Call' _ callee _ args at) h = absurd h
+    (sum-ends l h.1)
+sum-ends e h = absurd h

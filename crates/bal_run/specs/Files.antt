@@ -5,7 +5,7 @@ use Rattle.bal_base.specs.declared.stop.Stop.{Stop}
 use Rattle.bal_base.specs.declared.stop.Stop.TheVariants.{Memory, Fault}
 use Rattle.bal_io.specs.Content.{IsNameAt, IsFrontAt}
 use Rattle.bal_io.specs.Faults.{Rises}
-use Rattle.bal_tree.specs.declared.file.FileTree.{FileTree}
+use Rattle.bal_tree.specs.declared.def.FileTree.{FileTree}
 use Rattle.bal_run.specs.declared.compile.LoadFault.{LoadFault}
 use Rattle.bal_run.specs.declared.compile.LoadFault.TheVariants.{Folder, NoMain, NotOfForm}
 use Rattle.bal_run.specs.declared.status.Built.{Built}

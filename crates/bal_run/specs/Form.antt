@@ -1,25 +1,32 @@
 -- The form of a source file: which bytes are read as which tree. It is a grammar on bytes; `rest` is always
 -- what is left behind, and each token takes all the white space behind it.
-use Rattle.std.specs.Prelude.{◌≡◌, ◌≤◌, ◌-◌, ◌+◌, ◌==◌, ◌++◌, ◌||◌, ℕ, Bool, true, List, [], ◌∷◌, Some, None, length, drop, codes}
+use Rattle.std.specs.Prelude.{◌≡◌, ◌≤◌, ◌-◌, ◌+◌, ◌==◌, ◌++◌, ◌||◌, ℕ, Bool, true, false, List, [], ◌∷◌, Some, None, length, drop, codes}
 use Rattle.std.specs.List.{prefix_len, take_while}
 use Rattle.std.specs.Char.{is_ascii_digit}
 use Rattle.std.specs.Fmt.{signed_decimal}
 use Rattle.bal_base.specs.Valid.{IsInt}
 use Rattle.bal_base.specs.declared.place.Place.{Place}
-use Rattle.bal_tree.specs.declared.expr.Expr.{Expr, Literal, Name, Call', Binary', items-the_row-Expr as exprs_in}
-use Rattle.bal_tree.specs.declared.expr.Literal.TheVariants.{Int}
-use Rattle.bal_tree.specs.declared.expr.Prefix.TheVariants.{Word}
+use Rattle.bal_tree.specs.declared.name.Word.{Word}
+use Rattle.bal_tree.specs.declared.name.Prefix.TheVariants.{Word as WordPrefix}
+use Rattle.bal_tree.specs.declared.name.QualifiedName.{QualifiedName}
+use Rattle.bal_tree.specs.declared.name.Literal.TheVariants.{Int}
+use Rattle.bal_tree.specs.declared.params.Params.{Params}
 use Rattle.bal_tree.specs.declared.expr.BinaryOp.TheVariants.{Add, Multiply}
-use Rattle.bal_tree.specs.declared.stmt.Stmt.{Stmt}
-use Rattle.bal_tree.specs.declared.stmt.Stmt.TheVariants.{Rhs}
+use Rattle.bal_tree.specs.declared.expr.Expr.{Expr, Postfix, Binary'}
+use Rattle.bal_tree.specs.declared.expr.Postfix.{Primary, Call}
+use Rattle.bal_tree.specs.declared.expr.Call.{Function' as FunctionCall', items-the_row-Expr as exprs_in}
+use Rattle.bal_tree.specs.declared.expr.Primary.{Literal, Name}
+use Rattle.bal_tree.specs.declared.action.Rhs.TheVariants.{Expr as Expression}
+use Rattle.bal_tree.specs.declared.stmt.Stmt.{Stmt, Rhs}
 use Rattle.bal_tree.specs.declared.stmt.Stmts.{Stmts}
-use Rattle.bal_tree.specs.declared.stmt.Rhs.TheVariants.{Expr as Expression}
-use Rattle.bal_tree.specs.declared.file.FileTree.{FileTree}
-use Rattle.bal_tree.specs.declared.file.Import.{Import}
-use Rattle.bal_tree.specs.declared.file.Def.{Def}
-use Rattle.bal_tree.specs.declared.file.Def.TheVariants.{Function}
-use Rattle.bal_tree.specs.declared.file.Body.TheVariants.{Block}
-use Rattle.bal_tree.specs.Lists.{stmts_list, imports_list, defs_list}
+use Rattle.bal_tree.specs.declared.def.FileTree.{FileTree}
+use Rattle.bal_tree.specs.declared.def.Import.{Import}
+use Rattle.bal_tree.specs.declared.def.Def.{Def}
+use Rattle.bal_tree.specs.declared.def.Def.TheVariants.{Function}
+use Rattle.bal_tree.specs.declared.def.FunctionDef.{FunctionDef}
+use Rattle.bal_tree.specs.declared.def.Body.{Body}
+use Rattle.bal_tree.specs.declared.def.Body.TheVariants.{Block}
+use Rattle.bal_tree.specs.Lists.{words_list, params_list, stmts_list, workers_list, imports_list, defs_list}
 
 -- ---- tokens
 
@@ -42,16 +49,29 @@ Lexemes [] bytes rest = rest ≡ bytes
 Lexemes (token ∷ tokens) bytes rest =
     (next : List ℕ) × Lexeme token.0 token.1 bytes next × Lexemes tokens next rest
 
-abbrev pub import_line : List (List ℕ × ℕ)
-import_line =
-    (codes "import", 1) ∷ (codes "ballerina", 0) ∷ (codes "/", 0) ∷ (codes "io", 0) ∷ (codes ";", 0) ∷ []
+-- `import ballerina/io;` up to each word, and from the last one on
+abbrev pub import_word : List (List ℕ × ℕ)
+import_word = (codes "import", 1) ∷ []
 
-abbrev pub main_header : List (List ℕ × ℕ)
-main_header =
-    (codes "public", 1) ∷ (codes "function", 1) ∷ (codes "main", 0) ∷ (codes "(", 0) ∷ (codes ")", 0) ∷ []
+abbrev pub import_first : List (List ℕ × ℕ)
+import_first = (codes "ballerina", 0) ∷ (codes "/", 0) ∷ []
 
-abbrev pub println_opening : List (List ℕ × ℕ)
-println_opening = (codes "io", 0) ∷ (codes ":", 0) ∷ (codes "println", 0) ∷ (codes "(", 0) ∷ []
+abbrev pub import_second : List (List ℕ × ℕ)
+import_second = (codes "io", 0) ∷ (codes ";", 0) ∷ []
+
+-- `public function main()` up to the name, and from it on
+abbrev pub main_opening : List (List ℕ × ℕ)
+main_opening = (codes "public", 1) ∷ (codes "function", 1) ∷ []
+
+abbrev pub main_name_line : List (List ℕ × ℕ)
+main_name_line = (codes "main", 0) ∷ (codes "(", 0) ∷ (codes ")", 0) ∷ []
+
+-- `io:println(` up to the name behind the prefix, and from it on
+abbrev pub println_prefix : List (List ℕ × ℕ)
+println_prefix = (codes "io", 0) ∷ (codes ":", 0) ∷ []
+
+abbrev pub println_word : List (List ℕ × ℕ)
+println_word = (codes "println", 0) ∷ (codes "(", 0) ∷ []
 
 abbrev pub println_closing : List (List ℕ × ℕ)
 println_closing = (codes ")", 0) ∷ (codes ";", 0) ∷ []
@@ -64,14 +84,14 @@ place_of size bytes = record { file = 0; at = size - length bytes }
 
 -- an int literal: all the digits at the front, as its value is written, and the white space behind them
 abbrev pub LiteralReads : ℕ → List ℕ → Expr → List ℕ → Type 0
-LiteralReads size bytes (Literal (Int n) at) rest =
+LiteralReads size bytes (Postfix (Primary (Literal (Int n at)))) rest =
     IsInt n × (take_while is_ascii_digit bytes ≡ signed_decimal n)
     × (rest ≡ after_space (drop (prefix_len is_ascii_digit bytes) bytes)) × (at ≡ place_of size bytes)
 LiteralReads size bytes _ rest = ⊥
 
 -- literals joined by `*`, grouped to the left
 abbrev pub ProductReads : ℕ → List ℕ → Expr → List ℕ → Type 0
-ProductReads size bytes (Literal literal at) rest = LiteralReads size bytes (Literal literal at) rest
+ProductReads size bytes (Postfix e) rest = LiteralReads size bytes (Postfix e) rest
 ProductReads size bytes (Binary' _ left Multiply _ right at) rest =
     (star factor : List ℕ) × ProductReads size bytes left star × Lexeme (codes "*") 0 star factor
     × LiteralReads size factor right rest × (at ≡ place_of size bytes)
@@ -90,21 +110,31 @@ literals _ = 1
 
 -- ---- statements
 
-abbrev pub println_name : Place → Expr
-println_name at = Name record { prefix = Some (Word (codes "io")); word = codes "println" } at
+abbrev pub println_name : Place → Place → QualifiedName
+println_name here behind = record {
+  prefix = Some (WordPrefix (record { name = codes "io"; at = here }));
+  word = record { name = codes "println"; at = behind };
+  at = here;
+}
 
--- the statement at this place prints the value of the sum
-abbrev pub PrintsAt : Place → Stmt → Expr → Type 0
-PrintsAt here (Rhs (Expression (Call' _ callee _ args at)) place) sum =
-    (callee ≡ println_name here) × (exprs_in _ args ≡ sum ∷ []) × (at ≡ here) × (place ≡ here)
-PrintsAt here _ sum = ⊥
+-- the call at this place, whose word `println` is at the other one, prints the value of the sum
+abbrev pub CallAt : Place → Place → Expr → Expr → Type 0
+CallAt here behind (Postfix (Call (FunctionCall' _ callee _ args at))) sum =
+    (callee ≡ Primary (Name (println_name here behind))) × (exprs_in _ args ≡ sum ∷ []) × (at ≡ here)
+CallAt here behind _ sum = ⊥
+
+-- the statement at this place is that call
+abbrev pub PrintsAt : Place → Place → Stmt → Expr → Type 0
+PrintsAt here behind (Rhs (Expression call) place) sum = CallAt here behind call.value sum × (place ≡ here)
+PrintsAt here behind _ sum = ⊥
 
 -- `io:println(SUM);` with at most 100 literals
 abbrev pub StmtReads : ℕ → List ℕ → Stmt → List ℕ → Type 0
 StmtReads size bytes stmt rest =
-    (inside after : List ℕ) × (sum : Expr)
-    × Lexemes println_opening bytes inside × SumReads size inside sum after × Lexemes println_closing after rest
-    × (literals sum ≤ 100) × PrintsAt (place_of size bytes) stmt sum
+    (word inside after : List ℕ) × (sum : Expr)
+    × Lexemes println_prefix bytes word × Lexemes println_word word inside
+    × SumReads size inside sum after × Lexemes println_closing after rest
+    × (literals sum ≤ 100) × PrintsAt (place_of size bytes) (place_of size word) stmt sum
 
 -- one statement after another
 abbrev pub StmtsRead : ℕ → List ℕ → List Stmt → List ℕ → Type 0
@@ -112,25 +142,54 @@ StmtsRead size bytes [] rest = rest ≡ bytes
 StmtsRead size bytes (stmt ∷ stmts) rest = (next : List ℕ) × StmtReads size bytes stmt next × StmtsRead size next stmts rest
 
 -- statements, and the brace that ends them
-abbrev pub BlockReads : ℕ → List ℕ → List Stmt → List ℕ → Type 0
-BlockReads size bytes stmts rest = (brace : List ℕ) × StmtsRead size bytes stmts brace × Lexeme (codes "}") 0 brace rest
+abbrev pub BlockReads : ℕ → List ℕ → List Stmt → List ℕ → List ℕ → Type 0
+BlockReads size bytes stmts brace rest = StmtsRead size bytes stmts brace × Lexeme (codes "}") 0 brace rest
 
 -- ---- files
 
-abbrev pub io_import : Place → Import
-io_import at = record { first = codes "ballerina"; second = Some (codes "io"); more = []; prefix = None; at = at }
+-- `import ballerina/io;` at this place, with the places of its words
+abbrev pub IsIoImport : Place → Place → Place → Import → Type 0
+IsIoImport at first second i =
+    (i.first ≡ record { name = codes "ballerina"; at = first }) × (i.second ≡ Some (record { name = codes "io"; at = second }))
+    × (words_list i.more ≡ []) × (i.prefix ≡ None) × (i.at ≡ at)
 
-abbrev pub main_function : Stmts → Place → Place → Def
-main_function stmts body at = Function record { public = true; name = codes "main"; body = Block stmts body; at = at }
+abbrev pub HasNoParams : Params → Type 0
+HasNoParams p = (params_list p.params ≡ []) × (p.rest ≡ None)
 
--- white space, `import ballerina/io;`, `public function main() {`, statements, and `}` at the end
+-- a body of these statements alone, with the places of its braces
+abbrev pub IsBodyOf : Stmts → Place → Place → Body → Type 0
+IsBodyOf stmts start end (Block initial workers rest close at) =
+    (initial ≡ stmts) × (workers_list workers ≡ []) × (stmts_list rest ≡ []) × (close ≡ end) × (at ≡ start)
+IsBodyOf stmts start end _ = ⊥
+
+-- `public function main()` at this place, with the places of its name and of its braces
+abbrev pub IsMainFunction : Stmts → Place → Place → Place → Place → Def → Type 0
+IsMainFunction stmts at name start end (Function f) =
+    (f.public ≡ true) × (f.isolated ≡ false) × (f.name ≡ record { name = codes "main"; at = name }) × HasNoParams f.params
+    × (f.result ≡ None) × IsBodyOf stmts start end f.body × (f.at ≡ at)
+IsMainFunction stmts at name start end _ = ⊥
+
+-- `import ballerina/io;`
+abbrev pub ImportReads : ℕ → List ℕ → Import → List ℕ → Type 0
+ImportReads size bytes i rest =
+    (first second : List ℕ)
+    × Lexemes import_word bytes first × Lexemes import_first first second × Lexemes import_second second rest
+    × IsIoImport (place_of size bytes) (place_of size first) (place_of size second) i
+
+-- `public function main() {`, statements, and `}` at the end
+abbrev pub MainReads : ℕ → List ℕ → Def → Type 0
+MainReads size bytes main =
+    (name brace inside close : List ℕ) × (stmts : Stmts)
+    × Lexemes main_opening bytes name × Lexemes main_name_line name brace × Lexeme (codes "{") 0 brace inside
+    × BlockReads size inside (stmts_list stmts) close []
+    × IsMainFunction stmts (place_of size bytes) (place_of size name) (place_of size brace) (place_of size close) main
+
+-- white space, the import, and `main`
 abbrev pub FileReads : List ℕ → FileTree → Type 0
 FileReads bytes tree =
     let size = length bytes in
     let start = after_space bytes in
-    (header brace inside : List ℕ) × (stmts : Stmts)
-    × Lexemes import_line start header × Lexemes main_header header brace × Lexeme (codes "{") 0 brace inside
-    × BlockReads size inside (stmts_list stmts) []
-    × (imports_list tree.imports ≡ io_import (place_of size start) ∷ [])
-    × (defs_list tree.defs ≡ main_function stmts (place_of size brace) (place_of size header) ∷ [])
+    (header : List ℕ) × (import : Import) × (main : Def)
+    × ImportReads size start import header × MainReads size header main
+    × (imports_list tree.imports ≡ import ∷ []) × (defs_list tree.defs ≡ main ∷ [])
     × (tree.at ≡ place_of size start)

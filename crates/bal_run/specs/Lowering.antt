@@ -2,13 +2,14 @@
 use Rattle.std.specs.Prelude.{◌≡◌, ⊤, ℕ, ◌+◌, ◌++◌, List, [], ◌∷◌, length}
 use Rattle.std.specs.List.{AllByRecursion}
 use Rattle.bal_base.specs.End.{End}
-use Rattle.bal_tree.specs.declared.expr.Expr.{Expr, Literal, Binary'}
-use Rattle.bal_tree.specs.declared.expr.Literal.{Literal as LiteralTree}
-use Rattle.bal_tree.specs.declared.expr.Literal.TheVariants.{Int}
+use Rattle.bal_tree.specs.declared.name.Literal.TheVariants.{Int}
+use Rattle.bal_tree.specs.declared.expr.Expr.{Expr, Postfix, Binary'}
+use Rattle.bal_tree.specs.declared.expr.Postfix.{Primary}
+use Rattle.bal_tree.specs.declared.expr.Primary.{Literal}
 use Rattle.bal_tree.specs.declared.expr.BinaryOp.{BinaryOp}
-use Rattle.bal_tree.specs.declared.expr.BinaryOp.TheVariants.{Add, Multiply}
-use Rattle.bal_tree.specs.declared.file.FileTree.{FileTree}
-use Rattle.bal_tree.specs.declared.file.Def.{Def}
+use Rattle.bal_tree.specs.declared.expr.BinaryOp.TheVariants.{Multiply}
+use Rattle.bal_tree.specs.declared.def.FileTree.{FileTree}
+use Rattle.bal_tree.specs.declared.def.Def.{Def}
 use Rattle.bal_tree.specs.declared.stmt.Stmt.{Stmt}
 use Rattle.bal_tree.specs.Evaluation.{Evaluates, IsMain, Prints}
 use Rattle.bal_tree.specs.Lists.{defs_list}
@@ -39,20 +40,18 @@ StartsAtZero code = (u : CodeUnit) × (u.first ≡ 0) × (code.start ≡ 0) × (
 -- ---- sums
 
 abbrev pub constants_of : Expr → List Constant
-constants_of (Literal (Int n) at) = ConstantInt n ∷ []
+constants_of (Postfix (Primary (Literal (Int n at)))) = ConstantInt n ∷ []
 constants_of (Binary' _ left op _ right at) = constants_of left ++ constants_of right
 constants_of _ = []
 
-abbrev pub literal_constant : LiteralTree → Constant
-literal_constant (Int n) = ConstantInt n
-
+-- the instruction of an operator of sums
 abbrev pub operator : BinaryOp → Instr
-operator Add = AddInstr
 operator Multiply = Mul
+operator op = AddInstr
 
 -- the instructions of a sum whose constants have the numbers from `first` on
 abbrev pub sum_code : ℕ → Expr → List Instr
-sum_code first (Literal (Int n) at) = Const first ∷ []
+sum_code first (Postfix (Primary (Literal (Int n at)))) = Const first ∷ []
 sum_code first (Binary' _ left op _ right at) =
     sum_code first left ++ (sum_code (first + length (constants_of left)) right ++ operator op ∷ [])
 sum_code first _ = []

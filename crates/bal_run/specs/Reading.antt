@@ -1,5 +1,5 @@
 -- What the readers leave behind, as functions on lists, where the bytes begin as they should.
-use Rattle.std.specs.Prelude.{◌≡◌, ◌+◌, ◌^◌, ◌==◌, ◌&&◌, ℕ, zero, suc, Bool, not, List, [], ◌∷◌, Option, Some, None, length, drop, take, codes, nat_lt, nat_le, option_and_then, MatchOption, slice_index, if◌then◌else◌}
+use Rattle.std.specs.Prelude.{◌≡◌, ◌+◌, ◌^◌, ◌==◌, ◌&&◌, ◌++◌, ℕ, zero, suc, Bool, not, List, [], ◌∷◌, Option, Some, None, length, drop, take, codes, nat_lt, nat_le, option_and_then, MatchOption, slice_index, if◌then◌else◌}
 use Rattle.std.specs.List.{prefix_len, take_while}
 use Rattle.std.specs.Str.{bytes_eq}
 use Rattle.std.specs.Option.{option_map_or}
@@ -8,9 +8,13 @@ use Rattle.std.specs.Str.Parse.{digits_value}
 use Rattle.bal_tree.specs.declared.expr.BinaryOp.{BinaryOp}
 use Rattle.bal_tree.specs.declared.expr.BinaryOp.TheVariants.{Add, Multiply}
 use Rattle.bal_base.specs.declared.place.Place.{Place}
-use Rattle.bal_tree.specs.declared.expr.Expr.{Expr, Literal, Name, Call', Binary'}
+use Rattle.bal_tree.specs.declared.expr.Expr.{Expr, Binary'}
+use Rattle.bal_tree.specs.ExprPieces.{expr_pieces}
+use Rattle.bal_tree.specs.Places.{BeginsAt}
 use Rattle.bal_run.specs.declared.reading.sum.OpenSum.{OpenSum}
-use Rattle.bal_run.specs.Form.{is_space, after_space, println_opening, println_closing, Lexeme, LiteralReads, ProductReads, SumReads, literals}
+use Rattle.bal_run.specs.declared.reading.sum.SumOp.{SumOp}
+use Rattle.bal_run.specs.declared.reading.sum.SumOp.TheVariants.{Plus, Times}
+use Rattle.bal_run.specs.Form.{is_space, after_space, println_prefix, println_word, println_closing, Lexeme, LiteralReads, ProductReads, SumReads, literals}
 
 unfoldable pub lexeme_rest : List ℕ → ℕ → List ℕ → Option (List ℕ)
 lexeme_rest token least bytes =
@@ -33,9 +37,14 @@ literal_rest bytes =
     if is_int_text (take_while is_ascii_digit bytes)
     then Some (after_space (drop (prefix_len is_ascii_digit bytes) bytes)) else None
 
+abbrev pub binary_op : SumOp → BinaryOp
+binary_op Plus = Add
+binary_op Times = Multiply
+
+-- the sign of an operator of sums
 abbrev pub sign_of : BinaryOp → List ℕ
-sign_of Add = codes "+"
 sign_of Multiply = codes "*"
+sign_of op = codes "+"
 
 unfoldable pub operator_rest : List ℕ → Option (List ℕ)
 operator_rest bytes = option_map_or Some (lexeme_rest (codes "*") 0 bytes) (lexeme_rest (codes "+") 0 bytes)
@@ -51,18 +60,13 @@ terms (suc n) bytes = option_and_then (go_on (terms n)) (literal_rest bytes)
 
 unfoldable pub statement_rest : List ℕ → Option (List ℕ)
 statement_rest bytes =
-    option_and_then (λ inside. option_and_then (lexemes_rest println_closing) (terms 100 inside)) (lexemes_rest println_opening bytes)
+    option_and_then (λ inside. option_and_then (lexemes_rest println_closing) (terms 100 inside))
+    (lexemes_rest (println_prefix ++ println_word) bytes)
 
 -- ---- sums that are still read
 
-abbrev pub first_place : Expr → Place
-first_place (Literal literal at) = at
-first_place (Name name at) = at
-first_place (Call' _ callee _ args at) = at
-first_place (Binary' _ left op _ right at) = at
-
 abbrev pub IsBinary : Expr → Expr → BinaryOp → Expr → Type 0
-IsBinary (Binary' _ l o _ r at) left op right = (l ≡ left) × (o ≡ op) × (r ≡ right) × (at ≡ first_place left)
+IsBinary (Binary' _ l o _ r at) left op right = (l ≡ left) × (o ≡ op) × (r ≡ right) × BeginsAt (expr_pieces left) at
 IsBinary e left op right = ⊥
 
 -- what stands before the last `+`, if there is one, and the product behind it

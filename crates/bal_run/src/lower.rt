@@ -1,13 +1,18 @@
 //! Lowering: from the tree of a program of sums to its code.
-ghost use Rattle.std.specs.Prelude.{◌≡◌, ◌++◌, [], ◌∷◌, Ok, IfOk, OnOk, length};
+ghost use Rattle.std.specs.Prelude.{◌≡◌, ◌++◌, ℕ, List, [], ◌∷◌, Ok, IfOk, OnOk, length};
+ghost use Rattle.bal_tree.specs.declared.stmt.Stmt.{Stmt};
 ghost use Rattle.std.specs.List.{AllByRecursion};
-ghost use Rattle.bal_run.specs.Lowering.{Simulates, constants_of, sum_code, operator, literal_constant, IsMainOf, StartsAtZero};
-ghost use Rattle.bal_tree.specs.Evaluation.{HasStmts, Prints};
-ghost use Rattle.bal_tree.specs.Sums.{IsSum, PrintsSum, IsSumProgram};
+ghost use Rattle.bal_run.specs.Lowering.{Simulates, constants_of, sum_code, operator, IsMainOf, StartsAtZero};
+ghost use Rattle.bal_tree.specs.declared.expr.Expr.{Postfix as PostfixExpr};
+ghost use Rattle.bal_tree.specs.Evaluation.{IsMain, HasStmts, Prints, PrintsBy};
+ghost use Rattle.bal_tree.specs.Sums.{IsSum, IsSumOp, PrintsSum, PrintsSumBy, IsSumProgram};
+ghost use Rattle.stack_code.specs.declared.instr.Constant.TheVariants.{Int as ConstantInt};
 ghost use Rattle.stack_code.specs.declared.instr.Instr.TheVariants.{Const, Native, Pop};
 
 use bal_base::Memory;
-use bal_tree::{BinaryOp, Body, Def, Expr, FileTree, FunctionDef, Literal, Rhs, Stmt};
+use bal_tree::{
+    BinaryOp, Body, Call, Def, Expr, FileTree, FunctionDef, Literal, Postfix, Primary, Rhs, Stmt,
+};
 use stack_code::{Code, Constant, Constants, Instr, Instrs, Unit, Units};
 use std::alloc::Global;
 
@@ -66,7 +71,7 @@ impl Draft {
             ++ sum_code (length self.old.constants.items) sum.now) }
     {
         match sum {
-            Expr::Literal { literal, .. } => self.literal(literal),
+            Expr::Postfix(e) => self.int(int_of(e)),
             Expr::Binary {
                 left,
                 op,
@@ -78,18 +83,18 @@ impl Draft {
                 self.instrs.push(instr_of(*op))?;
                 Ok(())
             }
-            Expr::Name { .. } | Expr::Call { .. } => unreachable!(),
+            Expr::Prefix { .. } | Expr::Cast { .. } | Expr::TypeTest { .. } => unreachable!(),
+            Expr::Conditional { .. } | Expr::Trap { .. } | Expr::Function { .. } => unreachable!(),
         }
     }
 
     /// Adds a constant, and the instruction that pushes it.
-    fn literal(&mut self, literal: &Literal) -> Result<(), Memory>
-        ensures constants { OnOk result (self.new.constants.items ≡ self.old.constants.items ++ literal_constant literal.now ∷ []) }
+    fn int(&mut self, value: i64) -> Result<(), Memory>
+        ensures constants { OnOk result (self.new.constants.items ≡ self.old.constants.items ++ ConstantInt value ∷ []) }
         ensures instrs { OnOk result (self.new.instrs.items ≡ self.old.instrs.items ++ Const (length self.old.constants.items) ∷ []) }
     {
-        let Literal::Int(value) = literal;
         let number = number_of(self.constants.len())?;
-        self.constants.push(Constant::Int(*value))?;
+        self.constants.push(Constant::Int(value))?;
         self.instrs.push(Instr::Const(number))?;
         Ok(())
     }
@@ -119,12 +124,27 @@ fn number_of(count: usize) -> Result<u32, Memory>
     u32::try_from(count).map_err(|_| Memory)
 }
 
+/// The int of a literal.
+fn int_of(e: &Postfix) -> i64
+    requires { IsSum (PostfixExpr e.now) }
+    ensures constant { constants_of (PostfixExpr e.now) ≡ ConstantInt result ∷ [] }
+    ensures code { (first : ℕ) → sum_code first (PostfixExpr e.now) ≡ Const first ∷ [] }
+{
+    match e {
+        Postfix::Primary(Primary::Literal(Literal::Int { value, .. })) => *value,
+        _ => unreachable!(),
+    }
+}
+
+/// The instruction of an operator of sums.
 fn instr_of(op: BinaryOp) -> Instr
+    requires { IsSumOp op }
     ensures { result ≡ operator op }
 {
     match op {
         BinaryOp::Add => Instr::Add,
         BinaryOp::Multiply => Instr::Mul,
+        _ => unreachable!(),
     }
 }
 
@@ -140,17 +160,23 @@ fn main_stmts(tree: &FileTree) -> &[Stmt]
 }
 
 fn function_of(def: &Def) -> &FunctionDef
+    requires { (stmts : List Stmt) × IsMain stmts def.now }
     ensures { def.now ≡ Def.Function result.now }
 {
-    let Def::Function(function) = def;
-    function
+    match def {
+        Def::Function(function) => function,
+        Def::Type(_) | Def::Const(_) | Def::Variable(_) => unreachable!(),
+    }
 }
 
 fn stmts_of(body: &Body) -> &[Stmt]
+    requires { (stmts : List Stmt) × HasStmts body.now stmts }
     ensures { HasStmts body.now result.now }
 {
-    let Body::Block { stmts, .. } = body;
-    stmts.as_slice()
+    match body {
+        Body::Block { stmts, .. } => stmts.as_slice(),
+        Body::Expr { .. } => unreachable!(),
+    }
 }
 
 /// The sum that a statement prints.
@@ -159,13 +185,26 @@ fn printed(stmt: &Stmt) -> &Expr
     ensures prints { Prints stmt.now result.now }
     ensures sum { IsSum result.now }
 {
-    let Stmt::Rhs { rhs, .. } = stmt;
-    let Rhs::Expr(expr) = rhs;
-    match expr {
-        Expr::Call { args, .. } => match args.as_slice() {
+    match stmt {
+        Stmt::Rhs {
+            rhs: Rhs::Expr(call),
+            ..
+        } => argument(call),
+        _ => unreachable!(),
+    }
+}
+
+/// The one argument of the call that prints a sum.
+fn argument(call: &Expr) -> &Expr
+    requires { PrintsSumBy call.now }
+    ensures prints { PrintsBy call.now result.now }
+    ensures sum { IsSum result.now }
+{
+    match call {
+        Expr::Postfix(Postfix::Call(Call::Function { args, .. })) => match args.as_slice() {
             [sum] => sum,
             _ => unreachable!(),
         },
-        Expr::Literal { .. } | Expr::Name { .. } | Expr::Binary { .. } => unreachable!(),
+        _ => unreachable!(),
     }
 }

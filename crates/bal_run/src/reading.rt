@@ -1,41 +1,80 @@
 //! The reading of a source file.
-ghost use Rattle.std.specs.Prelude.{◌≡◌, ◌≤◌, length, IfOk, IfSome, IfNone};
-ghost use Rattle.bal_tree.specs.declared.file.FileTree.{FileTree};
+ghost use Rattle.std.specs.Prelude.{◌≡◌, ◌≤◌, length, List, ℕ, Some, IfOk, IfSome, IfNone, option_map};
+ghost use Rattle.bal_tree.specs.declared.def.FileTree.{FileTree};
 ghost use Rattle.bal_tree.specs.Sums.{IsSumProgram};
-ghost use Rattle.bal_run.specs.Form.{io_import, main_function, FileReads};
+ghost use Rattle.bal_tree.specs.declared.def.Def.{Def};
+ghost use Rattle.bal_tree.specs.declared.def.Import.{Import};
+ghost use Rattle.bal_run.specs.Form.{IsIoImport, IsMainFunction, ImportReads, MainReads, FileReads};
 
 mod lexeme;
 mod literal;
 mod statement;
 mod sum;
 
-use bal_base::{Memory, Name, NameList, Place};
-use bal_tree::{Body, Def, Defs, FileTree, FunctionDef, Import, Imports, Stmts};
-use lexeme::{import_line, lexeme, main_header, place, skip_space};
+use bal_base::{Memory, Name, Place};
+use bal_tree::{
+    Body, Def, Defs, FileTree, FunctionDef, Import, Imports, ParamList, Params, Stmts, Word, Words,
+    Workers,
+};
+use lexeme::{
+    import_first, import_second, import_word, lexeme, main_name_line, main_opening, place,
+    skip_space,
+};
 use statement::block;
 use std::alloc::Global;
 
-/// `import ballerina/io;`
-fn io_import(alloc: Global, at: Place) -> Result<Import, Memory>
-    ensures { IfOk result (λ import. import ≡ io_import at) }
+/// `import ballerina/io;`, with the places of its two words.
+fn io_import(alloc: Global, at: Place, first: Place, second: Place) -> Result<Import, Memory>
+    ensures { IfOk result (IsIoImport at first second) }
 {
+    let org = Name::new(alloc, "ballerina")?;
+    let module = Name::new(alloc, "io")?;
     Ok(Import {
-        first: Name::new(alloc, "ballerina")?,
-        second: Some(Name::new(alloc, "io")?),
-        more: NameList::of(Vec::new(alloc)),
+        first: Word {
+            name: org,
+            at: first,
+        },
+        second: Some(Word {
+            name: module,
+            at: second,
+        }),
+        more: Words::of(Vec::new(alloc)),
         prefix: None,
         at,
     })
 }
 
-/// The function `main` with these statements between braces at `brace`.
-fn main_function(alloc: Global, stmts: Stmts, brace: Place, at: Place) -> Result<Def, Memory>
-    ensures { IfOk result (λ main. main ≡ main_function stmts brace at) }
+/// The function `main` with these statements, and the places of its name and of its braces.
+fn main_function(
+    alloc: Global,
+    stmts: Stmts,
+    at: Place,
+    name: Place,
+    start: Place,
+    end: Place,
+) -> Result<Def, Memory>
+    ensures { IfOk result (IsMainFunction stmts at name start end) }
 {
+    let main = Name::new(alloc, "main")?;
     Ok(Def::Function(FunctionDef {
         public: true,
-        name: Name::new(alloc, "main")?,
-        body: Body::Block { stmts, at: brace },
+        isolated: false,
+        name: Word {
+            name: main,
+            at: name,
+        },
+        params: Params {
+            params: ParamList::of(Vec::new(alloc)),
+            rest: None,
+        },
+        result: None,
+        body: Body::Block {
+            stmts,
+            workers: Workers::of(Vec::new(alloc)),
+            rest: Stmts::of(Vec::new(alloc)),
+            close: end,
+            at: start,
+        },
         at,
     }))
 }
@@ -52,29 +91,74 @@ pub fn read_file(alloc: Global, bytes: &[u8]) -> Result<Option<FileTree>, Memory
 {
     let size = bytes.len() as u32;
     let start = skip_space(bytes);
-    let Some(header) = import_line(start) else {
+    let Some((import, header)) = import(alloc, size, start)? else {
         return Ok(None);
     };
-    let Some(brace) = main_header(header) else {
+    let Some(main) = main(alloc, size, header)? else {
         return Ok(None);
     };
-    let Some(inside) = lexeme(brace, b"{", 0) else {
-        return Ok(None);
-    };
-    let Some((stmts, rest)) = block(alloc, size, inside)? else {
-        return Ok(None);
-    };
-    if !rest.is_empty() {
-        return Ok(None);
-    }
-    let import = io_import(alloc, place(size, start))?;
-    let stmts = Stmts::of(stmts);
-    let main = main_function(alloc, stmts, place(size, brace), place(size, header))?;
     Ok(Some(FileTree {
         imports: Imports::of(vec![in alloc; import]?),
         defs: Defs::of(vec![in alloc; main]?),
         at: place(size, start),
     }))
+}
+
+/// The import at the front and what stands behind it, or `None` where there is none.
+fn import(alloc: Global, size: u32, bytes: &[u8]) -> Result<Option<(Import, &[u8])>, Memory>
+    ensures found { IfOk result (λ o. IfSome o (λ x. ImportReads size bytes.now x.0 x.1.now)) }
+    ensures only { IfOk result (λ o. (i : Import) (rest : List ℕ) → ImportReads size bytes.now i rest
+        → option_map (λ x. x.1.now) o ≡ Some rest) }
+{
+    let Some(first) = import_word(bytes) else {
+        return Ok(None);
+    };
+    let Some(second) = import_first(first) else {
+        return Ok(None);
+    };
+    let Some(rest) = import_second(second) else {
+        return Ok(None);
+    };
+    let import = io_import(
+        alloc,
+        place(size, bytes),
+        place(size, first),
+        place(size, second),
+    )?;
+    Ok(Some((import, rest)))
+}
+
+/// The function that all the bytes are, or `None` where they are none.
+fn main(alloc: Global, size: u32, bytes: &[u8]) -> Result<Option<Def>, Memory>
+    ensures found { IfOk result (λ o. IfSome o (MainReads size bytes.now)) }
+    ensures none { IfOk result (λ o. IfNone o ((d : Def) → MainReads size bytes.now d → ⊥)) }
+{
+    let Some(name) = main_opening(bytes) else {
+        return Ok(None);
+    };
+    let Some(brace) = main_name_line(name) else {
+        return Ok(None);
+    };
+    let Some(inside) = lexeme(brace, b"{", 0) else {
+        return Ok(None);
+    };
+    let Some(body) = block(alloc, size, inside)? else {
+        return Ok(None);
+    };
+    if !body.rest.is_empty() {
+        return Ok(None);
+    }
+    let (start, end) = (place(size, brace), place(size, body.brace));
+    let stmts = Stmts::of(body.stmts);
+    let main = main_function(
+        alloc,
+        stmts,
+        place(size, bytes),
+        place(size, name),
+        start,
+        end,
+    )?;
+    Ok(Some(main))
 }
 
 #[cfg(test)]

@@ -7,7 +7,7 @@ use bal_tree::FileTree;
 use stack_code::Code;
 
 /// What a call of the top came to.
-#[derive(Debug, Drop)]
+#[derive(Drop)]
 pub struct Run {
     /// How it ended.
     pub status: Status,
@@ -20,7 +20,7 @@ pub struct Run {
 }
 
 /// A compiled program.
-#[derive(Debug, Drop)]
+#[derive(Drop)]
 pub struct Built {
     /// The tree of its source file.
     pub tree: FileTree,

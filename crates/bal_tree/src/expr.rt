@@ -1,41 +1,294 @@
-//! Expressions.
+//! Expressions: operators over suffixed primary expressions.
 ghost use Rattle.std.specs.Prelude.{◌≡◌};
-ghost use Rattle.bal_tree.specs.Lists.{exprs_list};
+ghost use Rattle.bal_tree.specs.Lists.{exprs_list, members_list, details_list};
+ghost use Rattle.bal_tree.specs.Places.{BeginsAt};
+ghost use Rattle.bal_tree.specs.ExprPieces.{expr_pieces, postfix_pieces, call_pieces, primary_pieces, key_pieces};
 
-use bal_base::{Name, Place};
+use crate::name::{Literal, QualifiedName, Word};
+use crate::params::Params;
+use crate::types::TypeTree;
+use bal_base::{Place, Text};
 
 /// An expression.
 #[cycle(expr)]
-#[derive(Debug, Drop)]
+#[derive(Drop)]
 pub enum Expr {
-    /// A literal, as `1`.
-    Literal {
-        literal: Literal,
+    /// Without an operator outside brackets, but for suffixes.
+    Postfix(Postfix),
+    /// An operator before its operand, as `-e`.
+    Prefix {
+        op: PrefixOp,
+        operand: Box<Expr>,
         at: Place,
     },
-    /// A name, as `io:println`.
-    Name {
-        name: QualifiedName,
+    /// `<T>e`
+    Cast {
+        ty: Box<TypeTree>,
+        operand: Box<Expr>,
         at: Place,
     },
-    /// A call, as `f(1)`.
-    Call {
-        callee: Box<Expr>,
-        args: Exprs,
-        at: Place,
-    },
-    /// Two operands and the operator between them, as `1 + 2`.
+    /// Two operands and the operator between them, as `a + b`.
     Binary {
         left: Box<Expr>,
         op: BinaryOp,
         right: Box<Expr>,
         at: Place,
     },
+    /// `e is T`
+    TypeTest {
+        operand: Box<Expr>,
+        ty: Box<TypeTree>,
+        at: Place,
+    },
+    /// `c ? a : b`
+    Conditional {
+        condition: Box<Expr>,
+        middle: Box<Expr>,
+        last: Box<Expr>,
+        at: Place,
+    },
+    /// `trap e`
+    Trap {
+        operand: Box<Expr>,
+        at: Place,
+    },
+    /// `function (T a) returns R => e`, where `isolated` may stand before it.
+    Function {
+        isolated: bool,
+        params: Params,
+        result: Box<TypeTree>,
+        value: Box<Expr>,
+        at: Place,
+    },
+}
+
+impl Expr {
+    /// The place of the expression's first token.
+    pub fn place(&self) -> Place
+        ensures { BeginsAt (expr_pieces self.now) result }
+    {
+        match self {
+            Expr::Postfix(e) => e.place(),
+            Expr::Prefix { at, .. } | Expr::Cast { at, .. } | Expr::Binary { at, .. } => *at,
+            Expr::TypeTest { at, .. } | Expr::Conditional { at, .. } => *at,
+            Expr::Trap { at, .. } | Expr::Function { at, .. } => *at,
+        }
+    }
+}
+
+/// An operator before its operand.
+#[derive(Clone, Copy, Debug, PartialEq, Eq)]
+pub enum PrefixOp {
+    /// `-`
+    Negate,
+    /// `!`
+    Not,
+    /// `check`
+    Check,
+    /// `checkpanic`
+    CheckPanic,
+}
+
+/// An operator between two operands.
+#[derive(Clone, Copy, Debug, PartialEq, Eq)]
+pub enum BinaryOp {
+    /// `*`
+    Multiply,
+    /// `/`
+    Divide,
+    /// `%`
+    Remainder,
+    /// `+`
+    Add,
+    /// `-`
+    Subtract,
+    /// `<`
+    Less,
+    /// `<=`
+    LessEqual,
+    /// `>`
+    Greater,
+    /// `>=`
+    GreaterEqual,
+    /// `==`
+    Equal,
+    /// `!=`
+    NotEqual,
+    /// `===`
+    Same,
+    /// `!==`
+    NotSame,
+    /// `&&`
+    And,
+    /// `||`
+    Or,
+    /// `?:`
+    Elvis,
+}
+
+/// A primary expression with its suffixes.
+#[cycle(expr)]
+#[derive(Drop)]
+pub enum Postfix {
+    /// Without a suffix.
+    Primary(Primary),
+    /// A call, which ends in arguments.
+    Call(Call),
+    /// `e.a`
+    Field {
+        base: Box<Postfix>,
+        field: Word,
+        at: Place,
+    },
+    /// `e?.a`
+    OptionalField {
+        base: Box<Postfix>,
+        field: Word,
+        at: Place,
+    },
+    /// `e[i]`
+    Index {
+        base: Box<Postfix>,
+        index: Box<Expr>,
+        at: Place,
+    },
+}
+
+impl Postfix {
+    /// The place of the expression's first token.
+    pub fn place(&self) -> Place
+        ensures { BeginsAt (postfix_pieces self.now) result }
+    {
+        match self {
+            Postfix::Primary(e) => e.place(),
+            Postfix::Call(e) => e.place(),
+            Postfix::Field { at, .. } | Postfix::OptionalField { at, .. } => *at,
+            Postfix::Index { at, .. } => *at,
+        }
+    }
+}
+
+/// A suffixed expression that ends in arguments.
+#[cycle(expr)]
+#[derive(Drop)]
+pub enum Call {
+    /// `f(a, b)`
+    Function {
+        callee: Box<Postfix>,
+        args: Exprs,
+        at: Place,
+    },
+    /// `e.f(a, b)`
+    Method {
+        receiver: Box<Postfix>,
+        method: Word,
+        args: Exprs,
+        at: Place,
+    },
+}
+
+impl Call {
+    /// The place of the expression's first token.
+    pub fn place(&self) -> Place
+        ensures { BeginsAt (call_pieces self.now) result }
+    {
+        match self {
+            Call::Function { at, .. } | Call::Method { at, .. } => *at,
+        }
+    }
+}
+
+/// An expression that is one word, or that begins or stands between brackets.
+#[cycle(expr)]
+#[derive(Drop)]
+pub enum Primary {
+    /// A literal, as `1`.
+    Literal(Literal),
+    /// A name, as `io:println`.
+    Name(QualifiedName),
+    /// `(e)`
+    Parens {
+        inner: Box<Expr>,
+        at: Place,
+    },
+    /// `[a, b]`
+    List {
+        items: Exprs,
+        at: Place,
+    },
+    /// `{a: x, "b": y, [c]: z}`
+    Mapping {
+        members: Members,
+        at: Place,
+    },
+    /// `error(message, cause, a = x)`, where the cause and the details may be absent.
+    Error {
+        message: Box<Expr>,
+        cause: Option<Box<Expr>>,
+        details: Details,
+        at: Place,
+    },
+}
+
+impl Primary {
+    /// The place of the expression's first token.
+    pub fn place(&self) -> Place
+        ensures { BeginsAt (primary_pieces self.now) result }
+    {
+        match self {
+            Primary::Literal(l) => l.place(),
+            Primary::Name(n) => n.at,
+            Primary::Parens { at, .. } | Primary::List { at, .. } => *at,
+            Primary::Mapping { at, .. } | Primary::Error { at, .. } => *at,
+        }
+    }
+}
+
+/// A member of a mapping constructor, as `a: x`.
+#[cycle(expr)]
+#[derive(Drop)]
+pub struct Member {
+    pub key: Key,
+    pub value: Expr,
+    pub at: Place,
+}
+
+/// The key of a member of a mapping constructor.
+#[cycle(expr)]
+#[derive(Drop)]
+pub enum Key {
+    /// `a`
+    Word(Word),
+    /// `"a"`
+    Str { text: Text, at: Place },
+    /// `[e]`
+    Computed { value: Box<Expr>, at: Place },
+}
+
+impl Key {
+    /// The place of the key's first token.
+    pub fn place(&self) -> Place
+        ensures { BeginsAt (key_pieces self.now) result }
+    {
+        match self {
+            Key::Word(w) => w.at,
+            Key::Str { at, .. } | Key::Computed { at, .. } => *at,
+        }
+    }
+}
+
+/// A detail of an error constructor, as `a = x`.
+#[cycle(expr)]
+#[derive(Drop)]
+pub struct Detail {
+    pub name: Word,
+    pub value: Expr,
+    pub at: Place,
 }
 
 /// Expressions, as the arguments of a call.
 #[cycle(expr)]
-#[derive(Debug, Drop)]
+#[derive(Drop)]
 pub struct Exprs {
     items: Vec<Expr>,
 }
@@ -56,34 +309,48 @@ impl Exprs {
     }
 }
 
-/// A literal.
-#[derive(Debug, Drop)]
-pub enum Literal {
-    /// An int, as `1`.
-    Int(i64),
+/// Members of a mapping constructor.
+#[cycle(expr)]
+#[derive(Drop)]
+pub struct Members {
+    items: Vec<Member>,
 }
 
-/// A name with its prefix, if it has one.
-#[derive(Debug, Drop)]
-pub struct QualifiedName {
-    /// What stands before the colon.
-    pub prefix: Option<Prefix>,
-    /// The name itself.
-    pub word: Name,
+impl Members {
+    /// The list of the vector's members.
+    pub fn of(items: Vec<Member>) -> Members
+        ensures { members_list result ≡ items.items }
+    {
+        Members { items }
+    }
+
+    /// The members, in order.
+    pub fn as_slice(&self) -> &[Member]
+        ensures { result.now ≡ members_list self.now }
+    {
+        self.items.as_slice()
+    }
 }
 
-/// What stands before the colon of a name.
-#[derive(Debug, Drop)]
-pub enum Prefix {
-    /// The prefix of an import, as `io`.
-    Word(Name),
+/// Details of an error constructor.
+#[cycle(expr)]
+#[derive(Drop)]
+pub struct Details {
+    items: Vec<Detail>,
 }
 
-/// An operator between two operands.
-#[derive(Clone, Copy, Debug, PartialEq, Eq)]
-pub enum BinaryOp {
-    /// `+`
-    Add,
-    /// `*`
-    Multiply,
+impl Details {
+    /// The list of the vector's members.
+    pub fn of(items: Vec<Detail>) -> Details
+        ensures { details_list result ≡ items.items }
+    {
+        Details { items }
+    }
+
+    /// The members, in order.
+    pub fn as_slice(&self) -> &[Detail]
+        ensures { result.now ≡ details_list self.now }
+    {
+        self.items.as_slice()
+    }
 }

@@ -1,7 +1,7 @@
 //! White space, tokens and places. A token takes all the white space behind it.
-ghost use Rattle.std.specs.Prelude.{◌≡◌, ◌≤◌, length, option_map};
+ghost use Rattle.std.specs.Prelude.{◌≡◌, ◌≤◌, length, option_map, IfSome, Some};
 ghost use Rattle.std.specs.List.{prefix_len};
-ghost use Rattle.bal_run.specs.Form.{place_of, is_space, after_space, import_line, main_header, println_opening, println_closing};
+ghost use Rattle.bal_run.specs.Form.{place_of, is_space, after_space, import_word, import_first, import_second, main_opening, main_name_line, println_prefix, println_word, println_closing};
 ghost use Rattle.bal_run.specs.Reading.{lexeme_rest, lexemes_rest};
 
 use bal_base::Place;
@@ -52,35 +52,59 @@ pub fn lexeme<'a>(bytes: &'a [u8], token: &[u8], least: usize) -> Option<&'a [u8
     Some(&after[space..])
 }
 
-/// What stands behind `import ballerina/io;`.
-pub fn import_line(bytes: &[u8]) -> Option<&[u8]>
-    ensures { option_map (λ rest. rest.now) result ≡ lexemes_rest import_line bytes.now }
+/// What stands behind `import`.
+pub fn import_word(bytes: &[u8]) -> Option<&[u8]>
+    ensures { option_map (λ rest. rest.now) result ≡ lexemes_rest import_word bytes.now }
 {
-    let rest = lexeme(bytes, b"import", 1)?;
-    let rest = lexeme(rest, b"ballerina", 0)?;
-    let rest = lexeme(rest, b"/", 0)?;
-    let rest = lexeme(rest, b"io", 0)?;
+    lexeme(bytes, b"import", 1)
+}
+
+/// What stands behind `ballerina/`.
+pub fn import_first(bytes: &[u8]) -> Option<&[u8]>
+    ensures { option_map (λ rest. rest.now) result ≡ lexemes_rest import_first bytes.now }
+{
+    let rest = lexeme(bytes, b"ballerina", 0)?;
+    lexeme(rest, b"/", 0)
+}
+
+/// What stands behind `io;`.
+pub fn import_second(bytes: &[u8]) -> Option<&[u8]>
+    ensures { option_map (λ rest. rest.now) result ≡ lexemes_rest import_second bytes.now }
+{
+    let rest = lexeme(bytes, b"io", 0)?;
     lexeme(rest, b";", 0)
 }
 
-/// What stands behind `public function main()`.
-pub fn main_header(bytes: &[u8]) -> Option<&[u8]>
-    ensures { option_map (λ rest. rest.now) result ≡ lexemes_rest main_header bytes.now }
+/// What stands behind `public function`.
+pub fn main_opening(bytes: &[u8]) -> Option<&[u8]>
+    ensures { option_map (λ rest. rest.now) result ≡ lexemes_rest main_opening bytes.now }
 {
     let rest = lexeme(bytes, b"public", 1)?;
-    let rest = lexeme(rest, b"function", 1)?;
-    let rest = lexeme(rest, b"main", 0)?;
+    lexeme(rest, b"function", 1)
+}
+
+/// What stands behind `main()`.
+pub fn main_name_line(bytes: &[u8]) -> Option<&[u8]>
+    ensures { option_map (λ rest. rest.now) result ≡ lexemes_rest main_name_line bytes.now }
+{
+    let rest = lexeme(bytes, b"main", 0)?;
     let rest = lexeme(rest, b"(", 0)?;
     lexeme(rest, b")", 0)
 }
 
-/// What stands behind `io:println(`.
-pub fn println_opening(bytes: &[u8]) -> Option<&[u8]>
-    ensures { option_map (λ rest. rest.now) result ≡ lexemes_rest println_opening bytes.now }
+/// What stands behind `io:`.
+pub fn println_prefix(bytes: &[u8]) -> Option<&[u8]>
+    ensures { option_map (λ rest. rest.now) result ≡ lexemes_rest println_prefix bytes.now }
 {
     let rest = lexeme(bytes, b"io", 0)?;
-    let rest = lexeme(rest, b":", 0)?;
-    let rest = lexeme(rest, b"println", 0)?;
+    lexeme(rest, b":", 0)
+}
+
+/// What stands behind `println(`.
+pub fn println_word(bytes: &[u8]) -> Option<&[u8]>
+    ensures { option_map (λ rest. rest.now) result ≡ lexemes_rest println_word bytes.now }
+{
+    let rest = lexeme(bytes, b"println", 0)?;
     lexeme(rest, b"(", 0)
 }
 

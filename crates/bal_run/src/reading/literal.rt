@@ -8,7 +8,7 @@ ghost use Rattle.bal_run.specs.Form.{LiteralReads};
 ghost use Rattle.bal_run.specs.Reading.{has_leading_zero, is_int_text, literal_rest};
 
 use super::lexeme::{place, skip_space};
-use bal_tree::{Expr, Literal};
+use bal_tree::{Expr, Literal, Postfix, Primary};
 
 /// How many digits stand at the front.
 fn leading_digits(bytes: &[u8]) -> usize
@@ -58,9 +58,10 @@ pub fn literal(size: u32, bytes: &[u8]) -> Option<(Expr, &[u8])>
 {
     let count = leading_digits(bytes);
     let value = int_value(&bytes[..count])?;
-    let literal = Expr::Literal {
-        literal: Literal::Int(value),
+    let literal = Literal::Int {
+        value,
         at: place(size, bytes),
     };
-    Some((literal, skip_space(&bytes[count..])))
+    let expr = Expr::Postfix(Postfix::Primary(Primary::Literal(literal)));
+    Some((expr, skip_space(&bytes[count..])))
 }

@@ -2,40 +2,35 @@
 ghost use Rattle.std.specs.Prelude.{◌≡◌, ◌≤◌, IfOk, IfSome, option_map};
 ghost use Rattle.bal_tree.specs.declared.expr.BinaryOp.TheVariants.{Add, Multiply};
 ghost use Rattle.bal_run.specs.Form.{SumReads, literals};
-ghost use Rattle.bal_run.specs.Reading.{lexeme_rest, sign_of, operator_rest, terms, first_place, IsBinary, Extends, Closes};
+ghost use Rattle.bal_run.specs.Reading.{lexeme_rest, binary_op, sign_of, operator_rest, terms, IsBinary, Extends, Closes};
 
 use super::lexeme::lexeme;
 use super::literal::literal;
-use bal_base::{Memory, Place};
+use bal_base::Memory;
 use bal_tree::{BinaryOp, Expr};
 use std::alloc::Global;
 
 /// How many literals a sum may have.
 const MAX_LITERALS: u32 = 100;
 
+/// An operator of sums.
+#[derive(Clone, Copy)]
+enum SumOp {
+    Plus,
+    Times,
+}
+
 /// The operator at the front and what stands behind it.
-fn operator(bytes: &[u8]) -> Option<(BinaryOp, &[u8])>
-    ensures found { IfSome result (λ x. lexeme_rest (sign_of x.0) 0 bytes.now ≡ Some x.1.now) }
+fn operator(bytes: &[u8]) -> Option<(SumOp, &[u8])>
+    ensures found { IfSome result (λ x. lexeme_rest (sign_of (binary_op x.0)) 0 bytes.now ≡ Some x.1.now) }
     ensures rest { option_map (λ x. x.1.now) result ≡ operator_rest bytes.now }
 {
     match lexeme(bytes, b"*", 0) {
-        Some(rest) => Some((BinaryOp::Multiply, rest)),
+        Some(rest) => Some((SumOp::Times, rest)),
         None => {
             let rest = lexeme(bytes, b"+", 0)?;
-            Some((BinaryOp::Add, rest))
+            Some((SumOp::Plus, rest))
         }
-    }
-}
-
-/// The place where the expression begins.
-fn first_place(expr: &Expr) -> Place
-    ensures { result ≡ first_place expr.now }
-{
-    match expr {
-        Expr::Literal { at, .. } => *at,
-        Expr::Name { at, .. } => *at,
-        Expr::Call { at, .. } => *at,
-        Expr::Binary { at, .. } => *at,
     }
 }
 
@@ -43,7 +38,7 @@ fn first_place(expr: &Expr) -> Place
 fn binary(alloc: Global, left: Expr, op: BinaryOp, right: Expr) -> Result<Expr, Memory>
     ensures { IfOk result (λ e. IsBinary e left op right) }
 {
-    let at = first_place(&left);
+    let at = left.place();
     let left = Box::new(alloc, left)?;
     let right = Box::new(alloc, right)?;
     Ok(Expr::Binary {
@@ -63,12 +58,12 @@ struct OpenSum {
 
 impl OpenSum {
     /// The sum with one more operator and literal.
-    fn then(self, alloc: Global, op: BinaryOp, right: Expr) -> Result<OpenSum, Memory>
-        ensures { IfOk result (Extends self op right) }
+    fn then(self, alloc: Global, op: SumOp, right: Expr) -> Result<OpenSum, Memory>
+        ensures { IfOk result (Extends self (binary_op op) right) }
     {
         match op {
-            BinaryOp::Multiply => self.times(alloc, right),
-            BinaryOp::Add => self.plus(alloc, right),
+            SumOp::Times => self.times(alloc, right),
+            SumOp::Plus => self.plus(alloc, right),
         }
     }
 

@@ -1,6 +1,6 @@
 use Rattle.std.proofs.Common.{subst}
 use Rattle.std.specs.Prelude.{IfNone}
-use Rattle.bal_tree.specs.declared.file.FileTree.{FileTree}
+use Rattle.bal_tree.specs.declared.def.FileTree.{FileTree}
 use Rattle.bal_run.specs.Form.{FileReads}
 use Rattle.bal_run.proofs.compile.program.Goals as goal
 

@@ -4,4 +4,4 @@ use Rattle.bal_run.proofs.reading.statement.println_name.Goals as goal
 
 pub returns : goal.returns
 unfolding chars
-returns c = rw (c.in_ok-new.ensures, c.in_ok-new-2.ensures) refl
+returns c = rw (c.in_ok-io.ensures, c.in_ok-println.ensures) refl

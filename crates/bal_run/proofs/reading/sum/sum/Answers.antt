@@ -1,5 +1,5 @@
 use Rattle.std.proofs.Common.{◌≡◌, ◌-◌, ap, sym, ◌∙◌, suc, arith}
-use Rattle.bal_run.specs.Reading.{sign_of, terms}
+use Rattle.bal_run.specs.Reading.{binary_op, sign_of, terms}
 use Rattle.bal_run.proofs.ReadingLexeme.{lexeme_found}
 use Rattle.bal_run.proofs.ReadingSum.{product_of_literal, literals_of_literal, go_on_some, go_on_none, terms_zero, terms_some, terms_none}
 use Rattle.bal_run.proofs.reading.sum.sum.Goals as goal
@@ -28,7 +28,7 @@ returns-in_default-literal-clause-rest c =
 
 pub loop-op-preserved : goal.loop-op-preserved
 loop-op-preserved c =
-    let sign = lexeme_found (sign_of c.in-Some-operator.op) 0 _ _ c.in-Some-operator.ensures.found in
+    let sign = lexeme_found (sign_of (binary_op c.in-Some-operator.op)) 0 _ _ c.in-Some-operator.ensures.found in
     let more = c.in_ok-sum.ensures c.args.size c.args.bytes.now _ _ _ c.loop-op.invariant.reads sign c.in-Some-literal.ensures.found in
     let one : suc (c.loop-op.room - 1) ≡ c.loop-op.room = omega arith in
     record {

@@ -1,0 +1,154 @@
+//! Actions: what workers do to one another, and what may stand at the right of an assignment.
+ghost use Rattle.std.specs.Prelude.{◌≡◌};
+ghost use Rattle.bal_tree.specs.Lists.{wait_members_list};
+ghost use Rattle.bal_tree.specs.Places.{BeginsAt};
+ghost use Rattle.bal_tree.specs.ActionPieces.{rhs_pieces, action_pieces, peer_pieces};
+
+use crate::expr::{Call, Expr};
+use crate::name::{QualifiedName, QualifiedNames, Word};
+use bal_base::Place;
+
+/// What may stand at the right of an assignment.
+#[derive(Drop)]
+pub enum Rhs {
+    /// An expression.
+    Expr(Box<Expr>),
+    /// An action.
+    Action(Box<Action>),
+}
+
+impl Rhs {
+    /// The place of the expression or action's first token.
+    pub fn place(&self) -> Place
+        ensures { BeginsAt (rhs_pieces self.now) result }
+    {
+        match self {
+            Rhs::Expr(e) => e.place(),
+            Rhs::Action(a) => a.place(),
+        }
+    }
+}
+
+/// An action.
+#[derive(Drop)]
+pub enum Action {
+    /// A word before an action, as `check wait f`.
+    Prefix {
+        op: ActionOp,
+        action: Box<Action>,
+        at: Place,
+    },
+    /// `start f(a)`
+    Start {
+        call: Call,
+        at: Place,
+    },
+    /// `wait f`, or an alternate wait, `wait f|g`.
+    WaitAny {
+        names: QualifiedNames,
+        at: Place,
+    },
+    /// `wait {a: f, b: g}`
+    WaitAll {
+        members: WaitMembers,
+        at: Place,
+    },
+    /// `flush A`
+    Flush {
+        peer: Peer,
+        at: Place,
+    },
+    /// `<- A`
+    Receive {
+        peer: Peer,
+        at: Place,
+    },
+    /// `e -> A`
+    Send {
+        value: Box<Expr>,
+        peer: Peer,
+        at: Place,
+    },
+    /// `e ->> A`
+    SyncSend {
+        value: Box<Expr>,
+        peer: Peer,
+        at: Place,
+    },
+}
+
+impl Action {
+    /// The place of the action's first token.
+    pub fn place(&self) -> Place
+        ensures { BeginsAt (action_pieces self.now) result }
+    {
+        match self {
+            Action::Prefix { at, .. } | Action::Start { at, .. } => *at,
+            Action::WaitAny { at, .. } | Action::WaitAll { at, .. } => *at,
+            Action::Flush { at, .. } | Action::Receive { at, .. } => *at,
+            Action::Send { at, .. } | Action::SyncSend { at, .. } => *at,
+        }
+    }
+}
+
+/// A word before an action.
+#[derive(Clone, Copy, Debug, PartialEq, Eq)]
+pub enum ActionOp {
+    /// `check`
+    Check,
+    /// `checkpanic`
+    CheckPanic,
+    /// `trap`
+    Trap,
+}
+
+/// The worker at the other end of a message.
+#[derive(Drop)]
+pub enum Peer {
+    /// A named worker, as `A`.
+    Word(Word),
+    /// The default worker, `function`.
+    Function { at: Place },
+}
+
+impl Peer {
+    /// The place of the worker's first token.
+    pub fn place(&self) -> Place
+        ensures { BeginsAt (peer_pieces self.now) result }
+    {
+        match self {
+            Peer::Word(w) => w.at,
+            Peer::Function { at, .. } => *at,
+        }
+    }
+}
+
+/// A member of a multiple wait, as `a: f`.
+#[derive(Drop)]
+pub struct WaitMember {
+    pub key: Word,
+    pub name: QualifiedName,
+    pub at: Place,
+}
+
+/// Members of a multiple wait.
+#[derive(Drop)]
+pub struct WaitMembers {
+    items: Vec<WaitMember>,
+}
+
+impl WaitMembers {
+    /// The list of the vector's members.
+    pub fn of(items: Vec<WaitMember>) -> WaitMembers
+        ensures { wait_members_list result ≡ items.items }
+    {
+        WaitMembers { items }
+    }
+
+    /// The members, in order.
+    pub fn as_slice(&self) -> &[WaitMember]
+        ensures { result.now ≡ wait_members_list self.now }
+    {
+        self.items.as_slice()
+    }
+}

@@ -1,0 +1,148 @@
+//! Actions, and what may stand at the right of an assignment.
+#![tactic(auto, using(crate::proofs::Adding::adding))]
+
+ghost use Rattle.std.specs.Prelude.{◌≡◌, ◌∷◌, OnOk, map};
+ghost use Rattle.bal_base.specs.declared.token.Sign.TheVariants.{Bar, Comma};
+ghost use Rattle.bal_tree.specs.Pieces.{Adds, sign as sign_piece, separated};
+ghost use Rattle.bal_tree.specs.NamePieces.{name_pieces};
+ghost use Rattle.bal_tree.specs.ActionPieces.{action_key as key_of_op, peer_pieces, wait_member_pieces, action_pieces, rhs_pieces};
+
+use super::exprs::{call, expr};
+use super::names::{name, word};
+use super::signs::{key, sign};
+use crate::action::{Action, ActionOp, Peer, Rhs, WaitMember};
+use crate::name::QualifiedName;
+use bal_base::{Keyword, Memory, Sign, TokenKind};
+
+pub fn rhs(out: &mut Vec<TokenKind>, r: &Rhs) -> Result<(), Memory>
+    ensures { OnOk result (Adds out.old.items (rhs_pieces r.now) out.new.items) }
+{
+    match r {
+        Rhs::Expr(e) => expr(out, e),
+        Rhs::Action(a) => action(out, a),
+    }
+}
+
+fn action(out: &mut Vec<TokenKind>, a: &Action) -> Result<(), Memory>
+    ensures { OnOk result (Adds out.old.items (action_pieces a.now) out.new.items) }
+{
+    match a {
+        Action::Prefix {
+            op,
+            action: behind,
+            ..
+        } => {
+            key(out, action_key(*op))?;
+            action(out, behind)
+        }
+        Action::Start { call: started, .. } => {
+            key(out, Keyword::Start)?;
+            call(out, started)
+        }
+        Action::WaitAny { names, .. } => {
+            key(out, Keyword::Wait)?;
+            alternatives(out, names.as_slice())
+        }
+        Action::WaitAll { members, .. } => {
+            key(out, Keyword::Wait)?;
+            sign(out, Sign::OpenBrace)?;
+            wait_members(out, members.as_slice())?;
+            sign(out, Sign::CloseBrace)
+        }
+        Action::Flush { peer: with, .. } => {
+            key(out, Keyword::Flush)?;
+            peer(out, with)
+        }
+        Action::Receive { peer: from, .. } => {
+            sign(out, Sign::LeftArrow)?;
+            peer(out, from)
+        }
+        Action::Send {
+            value,
+            peer: to,
+            ..
+        } => {
+            expr(out, value)?;
+            sign(out, Sign::Arrow)?;
+            peer(out, to)
+        }
+        Action::SyncSend {
+            value,
+            peer: to,
+            ..
+        } => {
+            expr(out, value)?;
+            sign(out, Sign::DoubleArrow)?;
+            peer(out, to)
+        }
+    }
+}
+
+fn action_key(op: ActionOp) -> Keyword
+    ensures { result ≡ key_of_op op }
+{
+    match op {
+        ActionOp::Check => Keyword::Check,
+        ActionOp::CheckPanic => Keyword::CheckPanic,
+        ActionOp::Trap => Keyword::Trap,
+    }
+}
+
+fn peer(out: &mut Vec<TokenKind>, p: &Peer) -> Result<(), Memory>
+    ensures { OnOk result (Adds out.old.items (peer_pieces p.now) out.new.items) }
+{
+    match p {
+        Peer::Word(w) => word(out, w),
+        Peer::Function { .. } => key(out, Keyword::Function),
+    }
+}
+
+/// The names of an alternate wait, with `|` between each two.
+fn alternatives(out: &mut Vec<TokenKind>, names: &[QualifiedName]) -> Result<(), Memory>
+    ensures { OnOk result (Adds out.old.items (separated Bar (map name_pieces names.now)) out.new.items) }
+{
+    let Some((first, rest)) = names.split_first() else {
+        return Ok(());
+    };
+    name(out, first)?;
+    for n in rest {
+        alternative(out, n)?;
+    }
+    Ok(())
+}
+
+fn alternative(out: &mut Vec<TokenKind>, n: &QualifiedName) -> Result<(), Memory>
+    ensures { OnOk result (Adds out.old.items (sign_piece Bar ∷ name_pieces n.now) out.new.items) }
+{
+    sign(out, Sign::Bar)?;
+    name(out, n)
+}
+
+/// The members of a multiple wait, with a comma between each two.
+fn wait_members(out: &mut Vec<TokenKind>, members: &[WaitMember]) -> Result<(), Memory>
+    ensures { OnOk result (Adds out.old.items (separated Comma (map wait_member_pieces members.now)) out.new.items) }
+{
+    let Some((first, rest)) = members.split_first() else {
+        return Ok(());
+    };
+    wait_member(out, first)?;
+    for m in rest {
+        next_wait_member(out, m)?;
+    }
+    Ok(())
+}
+
+fn next_wait_member(out: &mut Vec<TokenKind>, m: &WaitMember) -> Result<(), Memory>
+    ensures { OnOk result (Adds out.old.items (sign_piece Comma ∷ wait_member_pieces m.now) out.new.items) }
+{
+    sign(out, Sign::Comma)?;
+    wait_member(out, m)
+}
+
+fn wait_member(out: &mut Vec<TokenKind>, m: &WaitMember) -> Result<(), Memory>
+    ensures { OnOk result (Adds out.old.items (wait_member_pieces m.now) out.new.items) }
+{
+    word(out, &m.key)?;
+    sign(out, Sign::Colon)?;
+    name(out, &m.name)
+}

@@ -1,0 +1,342 @@
+//! Expressions.
+#![tactic(auto, using(crate::proofs::Adding::adding))]
+
+ghost use Rattle.std.specs.Prelude.{[], ◌∷◌, ◌++◌, ◌≡◌, OnOk, map};
+ghost use Rattle.bal_base.specs.declared.token.Sign.TheVariants.{Comma, OpenParen, CloseParen, Less, Greater};
+ghost use Rattle.bal_base.specs.declared.token.Keyword.TheVariants.{Is};
+ghost use Rattle.bal_tree.specs.Pieces.{Adds, behind, separated, key as key_piece, sign as sign_piece};
+ghost use Rattle.bal_tree.specs.TypePieces.{type_pieces};
+ghost use Rattle.bal_tree.specs.ExprPieces.{expr_pieces, postfix_pieces, call_pieces, primary_pieces, key_pieces, prefix_op as prefix_piece, binary_sign as sign_of};
+ghost use Rattle.bal_tree.specs.ExprParts.{function_head_pieces, optional_cause, member_pieces, detail_pieces};
+
+use super::names::{literal, name, word};
+use super::signs::{key, key_if, sign};
+use super::types::{self, type_tree};
+use crate::expr::{BinaryOp, Call, Detail, Expr, Key, Member, Postfix, PrefixOp, Primary};
+use crate::params::Params;
+use crate::types::TypeTree;
+use bal_base::{Keyword, Memory, Sign, TokenKind};
+
+#[cycle(exprs)]
+pub fn expr(out: &mut Vec<TokenKind>, e: &Expr) -> Result<(), Memory>
+    ensures { OnOk result (Adds out.old.items (expr_pieces e.now) out.new.items) }
+{
+    match e {
+        Expr::Postfix(e) => postfix(out, e),
+        Expr::Prefix { op, operand, .. } => {
+            prefix_op(out, *op)?;
+            expr(out, operand)
+        }
+        Expr::Cast { ty, operand, .. } => {
+            cast(out, ty)?;
+            expr(out, operand)
+        }
+        Expr::Binary {
+            left,
+            op,
+            right,
+            ..
+        } => {
+            expr(out, left)?;
+            expr_behind(out, binary_sign(*op), right)
+        }
+        Expr::TypeTest { operand, ty, .. } => {
+            expr(out, operand)?;
+            type_test(out, ty)
+        }
+        Expr::Conditional {
+            condition,
+            middle,
+            last,
+            ..
+        } => {
+            expr(out, condition)?;
+            expr_behind(out, Sign::Question, middle)?;
+            expr_behind(out, Sign::Colon, last)
+        }
+        Expr::Trap { operand, .. } => {
+            key(out, Keyword::Trap)?;
+            expr(out, operand)
+        }
+        Expr::Function {
+            isolated,
+            params,
+            result,
+            value,
+            ..
+        } => {
+            function_head(out, *isolated, params, result)?;
+            expr_behind(out, Sign::FatArrow, value)
+        }
+    }
+}
+
+/// The expression behind a sign, as `, e`.
+#[cycle(exprs)]
+fn expr_behind(out: &mut Vec<TokenKind>, s: Sign, e: &Expr) -> Result<(), Memory>
+    ensures { OnOk result (Adds out.old.items (sign_piece s ∷ expr_pieces e.now) out.new.items) }
+{
+    sign(out, s)?;
+    expr(out, e)
+}
+
+/// `<T>`
+fn cast(out: &mut Vec<TokenKind>, ty: &TypeTree) -> Result<(), Memory>
+    ensures { OnOk result (Adds out.old.items (sign_piece Less ∷ type_pieces ty.now ++ sign_piece Greater ∷ []) out.new.items) }
+{
+    sign(out, Sign::Less)?;
+    type_tree(out, ty)?;
+    sign(out, Sign::Greater)
+}
+
+/// `is T`
+fn type_test(out: &mut Vec<TokenKind>, ty: &TypeTree) -> Result<(), Memory>
+    ensures { OnOk result (Adds out.old.items (key_piece Is ∷ type_pieces ty.now) out.new.items) }
+{
+    key(out, Keyword::Is)?;
+    type_tree(out, ty)
+}
+
+/// `function (T a) returns R`, where `isolated` may stand before it.
+fn function_head(
+    out: &mut Vec<TokenKind>,
+    isolated: bool,
+    params: &Params,
+    returns: &TypeTree,
+) -> Result<(), Memory>
+    ensures { OnOk result (Adds out.old.items (function_head_pieces isolated params.now returns.now) out.new.items) }
+{
+    key_if(out, isolated, Keyword::Isolated)?;
+    key(out, Keyword::Function)?;
+    types::params(out, params)?;
+    key(out, Keyword::Returns)?;
+    type_tree(out, returns)
+}
+
+fn prefix_op(out: &mut Vec<TokenKind>, op: PrefixOp) -> Result<(), Memory>
+    ensures { OnOk result (Adds out.old.items (prefix_piece op ∷ []) out.new.items) }
+{
+    match op {
+        PrefixOp::Negate => sign(out, Sign::Minus),
+        PrefixOp::Not => sign(out, Sign::Not),
+        PrefixOp::Check => key(out, Keyword::Check),
+        PrefixOp::CheckPanic => key(out, Keyword::CheckPanic),
+    }
+}
+
+fn binary_sign(op: BinaryOp) -> Sign
+    ensures { result ≡ sign_of op }
+{
+    match op {
+        BinaryOp::Multiply => Sign::Star,
+        BinaryOp::Divide => Sign::Slash,
+        BinaryOp::Remainder => Sign::Percent,
+        BinaryOp::Add => Sign::Plus,
+        BinaryOp::Subtract => Sign::Minus,
+        BinaryOp::Less => Sign::Less,
+        BinaryOp::LessEqual => Sign::LessEqual,
+        BinaryOp::Greater => Sign::Greater,
+        BinaryOp::GreaterEqual => Sign::GreaterEqual,
+        BinaryOp::Equal => Sign::DoubleEqual,
+        BinaryOp::NotEqual => Sign::NotEqual,
+        BinaryOp::Same => Sign::TripleEqual,
+        BinaryOp::NotSame => Sign::NotTripleEqual,
+        BinaryOp::And => Sign::DoubleAmpersand,
+        BinaryOp::Or => Sign::DoubleBar,
+        BinaryOp::Elvis => Sign::Elvis,
+    }
+}
+
+#[cycle(exprs)]
+pub fn postfix(out: &mut Vec<TokenKind>, e: &Postfix) -> Result<(), Memory>
+    ensures { OnOk result (Adds out.old.items (postfix_pieces e.now) out.new.items) }
+{
+    match e {
+        Postfix::Primary(e) => primary(out, e),
+        Postfix::Call(e) => call(out, e),
+        Postfix::Field { base, field, .. } => {
+            postfix(out, base)?;
+            sign(out, Sign::Dot)?;
+            word(out, field)
+        }
+        Postfix::OptionalField { base, field, .. } => {
+            postfix(out, base)?;
+            sign(out, Sign::QuestionDot)?;
+            word(out, field)
+        }
+        Postfix::Index { base, index, .. } => {
+            postfix(out, base)?;
+            sign(out, Sign::OpenBracket)?;
+            expr(out, index)?;
+            sign(out, Sign::CloseBracket)
+        }
+    }
+}
+
+#[cycle(exprs)]
+pub fn call(out: &mut Vec<TokenKind>, e: &Call) -> Result<(), Memory>
+    ensures { OnOk result (Adds out.old.items (call_pieces e.now) out.new.items) }
+{
+    match e {
+        Call::Function { callee, args, .. } => {
+            postfix(out, callee)?;
+            arguments(out, args.as_slice())
+        }
+        Call::Method {
+            receiver,
+            method,
+            args,
+            ..
+        } => {
+            postfix(out, receiver)?;
+            sign(out, Sign::Dot)?;
+            word(out, method)?;
+            arguments(out, args.as_slice())
+        }
+    }
+}
+
+/// `(a, b)`
+#[cycle(exprs)]
+fn arguments(out: &mut Vec<TokenKind>, args: &[Expr]) -> Result<(), Memory>
+    ensures { OnOk result (Adds out.old.items (sign_piece OpenParen ∷ separated Comma (map expr_pieces args.now) ++ sign_piece CloseParen ∷ []) out.new.items) }
+{
+    sign(out, Sign::OpenParen)?;
+    exprs(out, args)?;
+    sign(out, Sign::CloseParen)
+}
+
+/// `a, b`
+#[cycle(exprs)]
+fn exprs(out: &mut Vec<TokenKind>, es: &[Expr]) -> Result<(), Memory>
+    ensures { OnOk result (Adds out.old.items (separated Comma (map expr_pieces es.now)) out.new.items) }
+{
+    let Some((first, rest)) = es.split_first() else {
+        return Ok(());
+    };
+    expr(out, first)?;
+    for e in rest {
+        expr_behind(out, Sign::Comma, e)?;
+    }
+    Ok(())
+}
+
+#[cycle(exprs)]
+fn primary(out: &mut Vec<TokenKind>, e: &Primary) -> Result<(), Memory>
+    ensures { OnOk result (Adds out.old.items (primary_pieces e.now) out.new.items) }
+{
+    match e {
+        Primary::Literal(l) => literal(out, l),
+        Primary::Name(n) => name(out, n),
+        Primary::Parens { inner, .. } => {
+            sign(out, Sign::OpenParen)?;
+            expr(out, inner)?;
+            sign(out, Sign::CloseParen)
+        }
+        Primary::List { items, .. } => {
+            sign(out, Sign::OpenBracket)?;
+            exprs(out, items.as_slice())?;
+            sign(out, Sign::CloseBracket)
+        }
+        Primary::Mapping { members, .. } => {
+            sign(out, Sign::OpenBrace)?;
+            member_list(out, members.as_slice())?;
+            sign(out, Sign::CloseBrace)
+        }
+        Primary::Error {
+            message,
+            cause,
+            details,
+            ..
+        } => {
+            key(out, Keyword::Error)?;
+            sign(out, Sign::OpenParen)?;
+            expr(out, message)?;
+            cause_if_there(out, cause)?;
+            detail_list(out, details.as_slice())?;
+            sign(out, Sign::CloseParen)
+        }
+    }
+}
+
+/// `a: x, "b": y`
+#[cycle(exprs)]
+fn member_list(out: &mut Vec<TokenKind>, ms: &[Member]) -> Result<(), Memory>
+    ensures { OnOk result (Adds out.old.items (separated Comma (map member_pieces ms.now)) out.new.items) }
+{
+    let Some((first, rest)) = ms.split_first() else {
+        return Ok(());
+    };
+    member(out, first)?;
+    for m in rest {
+        next_member(out, m)?;
+    }
+    Ok(())
+}
+
+/// `, a: x`
+#[cycle(exprs)]
+fn next_member(out: &mut Vec<TokenKind>, m: &Member) -> Result<(), Memory>
+    ensures { OnOk result (Adds out.old.items (sign_piece Comma ∷ member_pieces m.now) out.new.items) }
+{
+    sign(out, Sign::Comma)?;
+    member(out, m)
+}
+
+#[cycle(exprs)]
+fn member(out: &mut Vec<TokenKind>, m: &Member) -> Result<(), Memory>
+    ensures { OnOk result (Adds out.old.items (member_pieces m.now) out.new.items) }
+{
+    member_key(out, &m.key)?;
+    expr_behind(out, Sign::Colon, &m.value)
+}
+
+#[cycle(exprs)]
+fn member_key(out: &mut Vec<TokenKind>, k: &Key) -> Result<(), Memory>
+    ensures { OnOk result (Adds out.old.items (key_pieces k.now) out.new.items) }
+{
+    match k {
+        Key::Word(w) => word(out, w),
+        Key::Str { text, .. } => {
+            out.push(TokenKind::Str(text.share()))?;
+            Ok(())
+        }
+        Key::Computed { value, .. } => {
+            sign(out, Sign::OpenBracket)?;
+            expr(out, value)?;
+            sign(out, Sign::CloseBracket)
+        }
+    }
+}
+
+/// `, e`, where there is a cause.
+#[cycle(exprs)]
+fn cause_if_there(out: &mut Vec<TokenKind>, e: &Option<Box<Expr>>) -> Result<(), Memory>
+    ensures { OnOk result (Adds out.old.items (optional_cause e.now) out.new.items) }
+{
+    match e {
+        Some(e) => expr_behind(out, Sign::Comma, e),
+        None => Ok(()),
+    }
+}
+
+/// `, a = x, b = y`
+#[cycle(exprs)]
+fn detail_list(out: &mut Vec<TokenKind>, ds: &[Detail]) -> Result<(), Memory>
+    ensures { OnOk result (Adds out.old.items (behind Comma (map detail_pieces ds.now)) out.new.items) }
+{
+    for d in ds {
+        next_detail(out, d)?;
+    }
+    Ok(())
+}
+
+/// `, a = x`
+#[cycle(exprs)]
+fn next_detail(out: &mut Vec<TokenKind>, d: &Detail) -> Result<(), Memory>
+    ensures { OnOk result (Adds out.old.items (sign_piece Comma ∷ detail_pieces d.now) out.new.items) }
+{
+    sign(out, Sign::Comma)?;
+    word(out, &d.name)?;
+    expr_behind(out, Sign::Equal, &d.value)
+}

@@ -1,0 +1,347 @@
+//! Statements.
+#![tactic(auto, using(crate::proofs::Adding::adding))]
+
+ghost use Rattle.std.specs.Prelude.{◌≡◌, [], ◌∷◌, ◌++◌, OnOk, map};
+ghost use Rattle.bal_base.specs.declared.token.Keyword.TheVariants.{Final, Return, Panic};
+ghost use Rattle.bal_base.specs.declared.token.Sign.TheVariants.{Equal, Underscore, Semicolon, Bar};
+ghost use Rattle.bal_tree.specs.Pieces.{Adds, key as key_piece, key_if as key_if_pieces, sign as sign_piece, joined, separated};
+ghost use Rattle.bal_tree.specs.NamePieces.{word_pieces};
+ghost use Rattle.bal_tree.specs.ExprPieces.{expr_pieces};
+ghost use Rattle.bal_tree.specs.ActionPieces.{rhs_pieces};
+ghost use Rattle.bal_tree.specs.StmtPieces.{local_type_pieces, target_pieces, assign_sign as sign_of_op, range_sign as sign_of_range, range_pieces, pattern_pieces, optional_rhs, stmt_pieces, else_pieces, block_pieces};
+ghost use Rattle.bal_tree.specs.StmtParts.{if_pieces, else_part, clause_pieces, foreach_part, clauses_part};
+
+use super::actions::rhs;
+use super::exprs::{expr, postfix};
+use super::names::{const_value, name, word};
+use super::signs::{key, key_if, sign};
+use super::types::type_tree;
+use crate::action::Rhs;
+use crate::expr::Expr;
+use crate::name::Word;
+use crate::stmt::{
+    AssignOp, Block, Clause, Else, IfStmt, LocalType, Pattern, Range, RangeOp, Stmt, Target,
+};
+use bal_base::{Keyword, Memory, Sign, TokenKind};
+
+#[cycle(stmt)]
+pub fn stmts(out: &mut Vec<TokenKind>, stmts: &[Stmt]) -> Result<(), Memory>
+    ensures { OnOk result (Adds out.old.items (joined (map stmt_pieces stmts.now)) out.new.items) }
+{
+    for s in stmts {
+        stmt(out, s)?;
+    }
+    Ok(())
+}
+
+#[cycle(stmt)]
+pub fn block(out: &mut Vec<TokenKind>, b: &Block) -> Result<(), Memory>
+    ensures { OnOk result (Adds out.old.items (block_pieces b.now) out.new.items) }
+{
+    sign(out, Sign::OpenBrace)?;
+    stmts(out, b.stmts.as_slice())?;
+    sign(out, Sign::CloseBrace)
+}
+
+#[cycle(stmt)]
+fn stmt(out: &mut Vec<TokenKind>, s: &Stmt) -> Result<(), Memory>
+    ensures { OnOk result (Adds out.old.items (stmt_pieces s.now) out.new.items) }
+{
+    match s {
+        Stmt::Local {
+            is_final,
+            ty,
+            name,
+            value,
+            ..
+        } => local(out, *is_final, ty, name, value),
+        Stmt::Assign {
+            target,
+            op,
+            value,
+            ..
+        } => assign(out, target, *op, value),
+        Stmt::Ignore { value, .. } => ignore(out, value),
+        Stmt::Rhs { rhs, .. } => ended(out, rhs),
+        Stmt::If(s) => if_stmt(out, s),
+        Stmt::While {
+            condition,
+            body,
+            ..
+        } => {
+            key(out, Keyword::While)?;
+            expr(out, condition)?;
+            block(out, body)
+        }
+        Stmt::Foreach {
+            ty,
+            name,
+            from,
+            range,
+            body,
+            ..
+        } => {
+            foreach_head(out, ty, name, from, range)?;
+            block(out, body)
+        }
+        Stmt::Match {
+            value,
+            clauses: rows,
+            ..
+        } => {
+            key(out, Keyword::Match)?;
+            expr(out, value)?;
+            clauses(out, rows.as_slice())
+        }
+        Stmt::Return { value, .. } => return_stmt(out, value),
+        Stmt::Panic { value, .. } => panic_stmt(out, value),
+        Stmt::Break { .. } => key_alone(out, Keyword::Break),
+        Stmt::Continue { .. } => key_alone(out, Keyword::Continue),
+        Stmt::Block(b) => block(out, b),
+    }
+}
+
+fn local(
+    out: &mut Vec<TokenKind>,
+    is_final: bool,
+    ty: &LocalType,
+    name: &Word,
+    value: &Rhs,
+) -> Result<(), Memory>
+    ensures { OnOk result (Adds out.old.items (key_if_pieces is_final Final ++ local_type_pieces ty.now ++ word_pieces name.now ++ sign_piece Equal ∷ rhs_pieces value.now ++ sign_piece Semicolon ∷ []) out.new.items) }
+{
+    key_if(out, is_final, Keyword::Final)?;
+    local_type(out, ty)?;
+    word(out, name)?;
+    sign(out, Sign::Equal)?;
+    ended(out, value)
+}
+
+fn local_type(out: &mut Vec<TokenKind>, ty: &LocalType) -> Result<(), Memory>
+    ensures { OnOk result (Adds out.old.items (local_type_pieces ty.now) out.new.items) }
+{
+    match ty {
+        LocalType::Type(t) => type_tree(out, t),
+        LocalType::Var { .. } => key(out, Keyword::Var),
+    }
+}
+
+fn assign(out: &mut Vec<TokenKind>, to: &Target, op: AssignOp, value: &Rhs) -> Result<(), Memory>
+    ensures { OnOk result (Adds out.old.items (target_pieces to.now ++ sign_piece (sign_of_op op) ∷ rhs_pieces value.now ++ sign_piece Semicolon ∷ []) out.new.items) }
+{
+    target(out, to)?;
+    sign(out, assign_sign(op))?;
+    ended(out, value)
+}
+
+fn target(out: &mut Vec<TokenKind>, t: &Target) -> Result<(), Memory>
+    ensures { OnOk result (Adds out.old.items (target_pieces t.now) out.new.items) }
+{
+    match t {
+        Target::Name(n) => name(out, n),
+        Target::Index { base, index, .. } => {
+            postfix(out, base)?;
+            sign(out, Sign::OpenBracket)?;
+            expr(out, index)?;
+            sign(out, Sign::CloseBracket)
+        }
+        Target::Field { base, field, .. } => {
+            postfix(out, base)?;
+            sign(out, Sign::Dot)?;
+            word(out, field)
+        }
+    }
+}
+
+fn assign_sign(op: AssignOp) -> Sign
+    ensures { result ≡ sign_of_op op }
+{
+    match op {
+        AssignOp::Set => Sign::Equal,
+        AssignOp::Add => Sign::PlusEqual,
+        AssignOp::Subtract => Sign::MinusEqual,
+        AssignOp::Multiply => Sign::StarEqual,
+        AssignOp::Divide => Sign::SlashEqual,
+    }
+}
+
+/// An expression or an action, and the semicolon behind it.
+fn ended(out: &mut Vec<TokenKind>, r: &Rhs) -> Result<(), Memory>
+    ensures { OnOk result (Adds out.old.items (rhs_pieces r.now ++ sign_piece Semicolon ∷ []) out.new.items) }
+{
+    rhs(out, r)?;
+    sign(out, Sign::Semicolon)
+}
+
+fn rhs_if_there(out: &mut Vec<TokenKind>, r: &Option<Rhs>) -> Result<(), Memory>
+    ensures { OnOk result (Adds out.old.items (optional_rhs r.now) out.new.items) }
+{
+    match r {
+        Some(r) => rhs(out, r),
+        None => Ok(()),
+    }
+}
+
+fn ignore(out: &mut Vec<TokenKind>, value: &Rhs) -> Result<(), Memory>
+    ensures { OnOk result (Adds out.old.items (sign_piece Underscore ∷ sign_piece Equal ∷ rhs_pieces value.now ++ sign_piece Semicolon ∷ []) out.new.items) }
+{
+    sign(out, Sign::Underscore)?;
+    sign(out, Sign::Equal)?;
+    ended(out, value)
+}
+
+fn return_stmt(out: &mut Vec<TokenKind>, value: &Option<Rhs>) -> Result<(), Memory>
+    ensures { OnOk result (Adds out.old.items (key_piece Return ∷ optional_rhs value.now ++ sign_piece Semicolon ∷ []) out.new.items) }
+{
+    key(out, Keyword::Return)?;
+    rhs_if_there(out, value)?;
+    sign(out, Sign::Semicolon)
+}
+
+fn panic_stmt(out: &mut Vec<TokenKind>, value: &Expr) -> Result<(), Memory>
+    ensures { OnOk result (Adds out.old.items (key_piece Panic ∷ expr_pieces value.now ++ sign_piece Semicolon ∷ []) out.new.items) }
+{
+    key(out, Keyword::Panic)?;
+    expr(out, value)?;
+    sign(out, Sign::Semicolon)
+}
+
+/// A keyword, and the semicolon behind it.
+fn key_alone(out: &mut Vec<TokenKind>, k: Keyword) -> Result<(), Memory>
+    ensures { OnOk result (Adds out.old.items (key_piece k ∷ sign_piece Semicolon ∷ []) out.new.items) }
+{
+    key(out, k)?;
+    sign(out, Sign::Semicolon)
+}
+
+#[cycle(stmt)]
+fn if_stmt(out: &mut Vec<TokenKind>, s: &IfStmt) -> Result<(), Memory>
+    ensures { OnOk result (Adds out.old.items (if_pieces s.now) out.new.items) }
+{
+    key(out, Keyword::If)?;
+    expr(out, &s.condition)?;
+    block(out, &s.then)?;
+    else_if_there(out, &s.otherwise)
+}
+
+#[cycle(stmt)]
+fn else_if_there(out: &mut Vec<TokenKind>, e: &Option<Box<Else>>) -> Result<(), Memory>
+    ensures { OnOk result (Adds out.old.items (else_part e.now) out.new.items) }
+{
+    match e {
+        Some(e) => {
+            key(out, Keyword::Else)?;
+            behind_else(out, e)
+        }
+        None => Ok(()),
+    }
+}
+
+#[cycle(stmt)]
+fn behind_else(out: &mut Vec<TokenKind>, e: &Else) -> Result<(), Memory>
+    ensures { OnOk result (Adds out.old.items (else_pieces e.now) out.new.items) }
+{
+    match e {
+        Else::If(s) => if_stmt(out, s),
+        Else::Block(b) => block(out, b),
+    }
+}
+
+/// What stands before the block of a loop over values.
+fn foreach_head(
+    out: &mut Vec<TokenKind>,
+    ty: &LocalType,
+    name: &Word,
+    from: &Expr,
+    range: &Option<Range>,
+) -> Result<(), Memory>
+    ensures { OnOk result (Adds out.old.items (foreach_part ty.now name.now from.now range.now) out.new.items) }
+{
+    key(out, Keyword::Foreach)?;
+    local_type(out, ty)?;
+    word(out, name)?;
+    key(out, Keyword::In)?;
+    expr(out, from)?;
+    range_if_there(out, range)
+}
+
+fn range_if_there(out: &mut Vec<TokenKind>, range: &Option<Range>) -> Result<(), Memory>
+    ensures { OnOk result (Adds out.old.items (range_pieces range.now) out.new.items) }
+{
+    match range {
+        Some(range) => {
+            sign(out, range_sign(range.op))?;
+            expr(out, &range.end)
+        }
+        None => Ok(()),
+    }
+}
+
+fn range_sign(op: RangeOp) -> Sign
+    ensures { result ≡ sign_of_range op }
+{
+    match op {
+        RangeOp::Through => Sign::Ellipsis,
+        RangeOp::Below => Sign::DotDotLess,
+    }
+}
+
+/// The clauses of a match statement, between braces.
+#[cycle(stmt)]
+fn clauses(out: &mut Vec<TokenKind>, clauses: &[Clause]) -> Result<(), Memory>
+    ensures { OnOk result (Adds out.old.items (clauses_part clauses.now) out.new.items) }
+{
+    sign(out, Sign::OpenBrace)?;
+    each_clause(out, clauses)?;
+    sign(out, Sign::CloseBrace)
+}
+
+#[cycle(stmt)]
+fn each_clause(out: &mut Vec<TokenKind>, clauses: &[Clause]) -> Result<(), Memory>
+    ensures { OnOk result (Adds out.old.items (joined (map clause_pieces clauses.now)) out.new.items) }
+{
+    for c in clauses {
+        clause(out, c)?;
+    }
+    Ok(())
+}
+
+#[cycle(stmt)]
+fn clause(out: &mut Vec<TokenKind>, c: &Clause) -> Result<(), Memory>
+    ensures { OnOk result (Adds out.old.items (clause_pieces c.now) out.new.items) }
+{
+    patterns(out, c.patterns.as_slice())?;
+    sign(out, Sign::FatArrow)?;
+    block(out, &c.body)
+}
+
+/// The patterns of a clause, with `|` between each two.
+fn patterns(out: &mut Vec<TokenKind>, patterns: &[Pattern]) -> Result<(), Memory>
+    ensures { OnOk result (Adds out.old.items (separated Bar (map pattern_pieces patterns.now)) out.new.items) }
+{
+    let Some((first, rest)) = patterns.split_first() else {
+        return Ok(());
+    };
+    pattern(out, first)?;
+    for p in rest {
+        next_pattern(out, p)?;
+    }
+    Ok(())
+}
+
+fn next_pattern(out: &mut Vec<TokenKind>, p: &Pattern) -> Result<(), Memory>
+    ensures { OnOk result (Adds out.old.items (sign_piece Bar ∷ pattern_pieces p.now) out.new.items) }
+{
+    sign(out, Sign::Bar)?;
+    pattern(out, p)
+}
+
+fn pattern(out: &mut Vec<TokenKind>, p: &Pattern) -> Result<(), Memory>
+    ensures { OnOk result (Adds out.old.items (pattern_pieces p.now) out.new.items) }
+{
+    match p {
+        Pattern::Any { .. } => sign(out, Sign::Underscore),
+        Pattern::Value(v) => const_value(out, v),
+        Pattern::Name(n) => name(out, n),
+    }
+}
