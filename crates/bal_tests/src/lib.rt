@@ -1,5 +1,4 @@
-//! Tests that cross crates: trees built by hand beside the tokens of their texts, and trees that are refused
-//! beside the nearest ones that are accepted.
+//! Tests that cross crates: trees built by hand beside the tokens of their texts.
 #![tactic(auto)]
 
 #[cfg(test)]
@@ -7,8 +6,4 @@ mod build;
 #[cfg(test)]
 mod compare;
 #[cfg(test)]
-mod every_production;
-#[cfg(test)]
 mod first_example;
-#[cfg(test)]
-mod ill_formed;

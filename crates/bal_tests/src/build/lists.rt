@@ -13,10 +13,6 @@ pub fn one<T: Drop>(a: Global, x: Option<T>) -> Option<Vec<T>> {
     and(none(a), x)
 }
 
-pub fn two<T: Drop>(a: Global, x: Option<T>, y: Option<T>) -> Option<Vec<T>> {
-    and(one(a, x), y)
-}
-
 pub fn and<T: Drop>(list: Option<Vec<T>>, x: Option<T>) -> Option<Vec<T>> {
     let mut list = list?;
     list.push(x?).ok()?;
