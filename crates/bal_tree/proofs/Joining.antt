@@ -3,7 +3,7 @@ use Rattle.std.proofs.Common.{◌≡◌, Result, OnOk, ℕ, ◌+◌, ◌<◌, �
 use Rattle.std.proofs.lemmas.List.{append-nil, take_all, map_more}
 use Rattle.bal_base.specs.declared.token.TokenKind.{TokenKind}
 use Rattle.bal_base.specs.declared.token.Sign.{Sign}
-use Rattle.bal_tree.specs.Pieces.{Piece, kinds, sign, joined, behind, separated, Adds}
+use Rattle.bal_tree.specs.Pieces.{Piece, kinds, sign, joined, behind, Adds}
 use Rattle.bal_tree.proofs.Adding.{kinds-append}
 
 pub joined-push : (ps : List (List Piece)) (q : List Piece) → joined (ps ++ q ∷ []) ≡ joined ps ++ q
@@ -44,8 +44,3 @@ behind-more f xs i old new s mid x lt is before next =
 
 pub behind-all : {X : Type 0} (f : X → List Piece) (xs : List X) (i : ℕ) (old new : List TokenKind) (s : Sign) → length xs ≤ i → Adds old (behind s (map f (take i xs))) new → Adds old (behind s (map f xs)) new
 behind-all f xs i old new s le = subst (λ ys. Adds old (behind s (map f ys)) new) (take_all i xs le)
-
--- the first part, and a loop that added the others
-pub separated-all : {X : Type 0} (f : X → List Piece) (s : Sign) (xs : List X) (x : X) (rest : List X) (i : ℕ) (old mid new : List TokenKind) → xs ≡ x ∷ rest → length rest ≤ i → Adds old (f x) mid → Adds mid (behind s (map f (take i rest))) new → Adds old (separated s (map f xs)) new
-separated-all f s xs x rest i old mid new is le first others =
-    subst (λ ys. Adds old (separated s (map f ys)) new) (sym is) (adds-both old mid new (f x) (behind s (map f rest)) first (behind-all f rest i mid new s le others))

@@ -1,4 +1,4 @@
--- Lists with commas: what one more part adds, and what stands behind a list.
+-- Lists with a sign between each two parts: what one more part adds, and what stands behind a list.
 use Rattle.std.proofs.Common.{◌≡◌, ℕ, zero, suc, ◌+◌, ◌<◌, List, [], ◌∷◌, ◌++◌, length, get_or, take, map, refl, sym, ap, subst, ◌∙◌, append_assoc, arith, Bool, true, false, Option, None, Some, OnOk}
 use Rattle.std.proofs.Math.Bool.{not}
 use Rattle.std.proofs.Math.Dec.{eqb, ltb, eqb-suc-zero}
@@ -11,9 +11,9 @@ use Rattle.bal_base.specs.declared.token.Sign.{Sign}
 use Rattle.bal_base.specs.declared.token.Sign.TheVariants.{Comma}
 use Rattle.bal_tree.specs.declared.types.PrimaryType.{Held-PrimaryType-Error-0 as HeldType, None' as NoType, Some' as SomeType}
 use Rattle.bal_tree.specs.declared.params.Param.{Param}
-use Rattle.bal_tree.specs.Pieces.{Piece, sign, kinds, behind, separated, Adds}
+use Rattle.bal_tree.specs.Pieces.{Piece, sign, sign_if, kinds, behind, separated, Adds}
 use Rattle.bal_tree.specs.TypePieces.{listed_types, listed_params}
-use Rattle.bal_tree.specs.TypeParts.{comma_if, rest_type_pieces, last_param_pieces}
+use Rattle.bal_tree.specs.TypeParts.{rest_type_pieces, last_param_pieces}
 use Rattle.bal_tree.proofs.Joining.{behind-push, adds-both}
 
 -- a list and what stands behind it, between two signs
@@ -29,9 +29,9 @@ abbrev is_some_part : List (List Piece) → Bool
 is_some_part [] = false
 is_some_part (p ∷ ps) = true
 
-separated-more : (ps : List (List Piece)) (p : List Piece) → separated Comma (ps ++ p ∷ []) ≡ separated Comma ps ++ (comma_if (is_some_part ps) ++ p)
-separated-more [] p = append-nil p
-separated-more (q ∷ ps) p = ap (λ r. q ++ r) (behind-push Comma ps p) ∙ sym (append_assoc q (behind Comma ps) (sign Comma ∷ p))
+separated-more : (s : Sign) (ps : List (List Piece)) (p : List Piece) → separated s (ps ++ p ∷ []) ≡ separated s ps ++ (sign_if (is_some_part ps) s ++ p)
+separated-more s [] p = append-nil p
+separated-more s (q ∷ ps) p = ap (λ r. q ++ r) (behind-push s ps p) ∙ sym (append_assoc q (behind s ps) (sign s ∷ p))
 
 module _ {X : Type 0} (f : X → List Piece) where
   map-more : (xs : List X) (i : ℕ) (x : X) → i < length xs → x ≡ get_or xs i x → map f (take (i + 1) xs) ≡ map f (take i xs) ++ f x ∷ []
@@ -43,12 +43,12 @@ module _ {X : Type 0} (f : X → List Piece) where
   some_before (y ∷ ys) zero lt = refl
   some_before (y ∷ ys) (suc i) lt = sym (lt-ltb 0 (suc i) (omega arith))
 
-  -- a step of a loop that adds a comma and each part, and no comma before the first
-  pub adds-next_listed : (xs : List X) (i : ℕ) (x : X) (a b c d : List TokenKind) → i < length xs → x ≡ get_or xs i x → Adds a (separated Comma (map f (take i xs))) b → Adds b (comma_if (ltb 0 i)) c → Adds c (f x) d → Adds a (separated Comma (map f (take (i + 1) xs))) d
-  adds-next_listed xs i x a b c d lt is before comma here =
+  -- a step of a loop that adds the sign and each part, and no sign before the first
+  pub adds-next_listed : (s : Sign) (xs : List X) (i : ℕ) (x : X) (a b c d : List TokenKind) → i < length xs → x ≡ get_or xs i x → Adds a (separated s (map f (take i xs))) b → Adds b (sign_if (ltb 0 i) s) c → Adds c (f x) d → Adds a (separated s (map f (take (i + 1) xs))) d
+  adds-next_listed s xs i x a b c d lt is before between here =
       let ps = map f (take i xs) in
-      let same = ap (separated Comma) (map-more xs i x lt is) ∙ separated-more ps (f x) ∙ ap (λ s. separated Comma ps ++ (comma_if s ++ f x)) (some_before xs i lt) in
-      subst (λ r. Adds a r d) (sym same) (adds-both a b d (separated Comma ps) (comma_if (ltb 0 i) ++ f x) before (adds-both b c d (comma_if (ltb 0 i)) (f x) comma here))
+      let same = ap (separated s) (map-more xs i x lt is) ∙ separated-more s ps (f x) ∙ ap (λ some. separated s ps ++ (sign_if some s ++ f x)) (some_before xs i lt) in
+      subst (λ r. Adds a r d) (sym same) (adds-both a b d (separated s ps) (sign_if (ltb 0 i) s ++ f x) before (adds-both b c d (sign_if (ltb 0 i) s) (f x) between here))
 
 -- ---- what stands behind a list
 

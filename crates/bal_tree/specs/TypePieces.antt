@@ -1,5 +1,5 @@
 -- Type descriptors and parameters, written out.
-use Rattle.std.specs.Prelude.{List, [], ◌∷◌, ◌++◌, Option, None, Some, Bool, true, false, map}
+use Rattle.std.specs.Prelude.{List, [], ◌∷◌, ◌++◌, Option, None, Some, map}
 use Rattle.bal_base.specs.declared.token.TokenKind.TheVariants.{Int as IntKind}
 use Rattle.bal_base.specs.declared.token.Keyword.{Keyword}
 use Rattle.bal_base.specs.declared.token.Keyword.TheVariants.{Int as IntKey, String as StringKey, Boolean as BooleanKey, Byte as ByteKey, Any as AnyKey, AnyData as AnyDataKey, Never as NeverKey, ReadOnly as ReadOnlyKey, Map as MapKey, Future as FutureKey, Error as ErrorKey, Record as RecordKey, Function as FunctionKey, Isolated as IsolatedKey, Returns as ReturnsKey}
@@ -17,7 +17,7 @@ use Rattle.bal_tree.specs.declared.types.ParamTypes.{ParamTypes, ParamTypes'}
 use Rattle.bal_tree.specs.declared.params.Param.{Param}
 use Rattle.bal_tree.specs.declared.params.Params.{Params}
 use Rattle.bal_tree.specs.Lists.{params_list}
-use Rattle.bal_tree.specs.Pieces.{Piece, token, starts, key, key_if, sign, joined, separated, with_rest}
+use Rattle.bal_tree.specs.Pieces.{Piece, token, starts, key, key_if, sign, sign_if, joined, separated, with_rest}
 use Rattle.bal_tree.specs.NamePieces.{word_pieces, name_pieces, literal_pieces}
 
 abbrev pub builtin_key : BuiltinType → Keyword
@@ -33,10 +33,6 @@ builtin_key ReadOnly = ReadOnlyKey
 abbrev pub optional_word : Option Word → List Piece
 optional_word None = []
 optional_word (Some w) = word_pieces w
-
-abbrev pub question_if : Bool → List Piece
-question_if true = sign Question ∷ []
-question_if false = []
 
 abbrev mutual
   pub type_pieces : TypeTree → List Piece
@@ -103,7 +99,7 @@ abbrev mutual
   pub each_field : {n : _} → Row_of-FieldTree n → List (List Piece)
   each_field end_of-FieldTree = []
   each_field (more_of-FieldTree t name optional at rest) =
-      (starts at ∷ type_pieces t ++ word_pieces name ++ question_if optional ++ sign Semicolon ∷ []) ∷ each_field rest
+      (starts at ∷ type_pieces t ++ word_pieces name ++ sign_if optional Question ++ sign Semicolon ∷ []) ∷ each_field rest
 
   pub param_types_pieces : ParamTypes → List Piece
   param_types_pieces (ParamTypes' (ParamTypeList' _ params) rest) =

@@ -1,16 +1,18 @@
 //! Actions, and what may stand at the right of an assignment.
 #![tactic(auto, using(crate::proofs::Adding::adding))]
 
-ghost use Rattle.std.specs.Prelude.{◌≡◌, ◌∷◌, OnOk, map};
+ghost use Rattle.std.specs.Prelude.{◌≡◌, ◌∷◌, ◌++◌, OnOk, map};
 ghost use Rattle.bal_base.specs.declared.token.Sign.TheVariants.{Bar, Comma};
 ghost use Rattle.bal_tree.specs.Pieces.{Adds, sign as sign_piece, separated};
 ghost use Rattle.bal_tree.specs.NamePieces.{name_pieces};
+ghost use Rattle.bal_tree.specs.ExprPieces.{expr_pieces};
 ghost use Rattle.bal_tree.specs.ActionPieces.{action_key as key_of_op, peer_pieces, wait_member_pieces, action_pieces, rhs_pieces};
 
 use super::exprs::{call, expr};
 use super::names::{name, word};
-use super::signs::{key, sign};
+use super::signs::{key, sign, sign_if};
 use crate::action::{Action, ActionOp, Peer, Rhs, WaitMember};
+use crate::expr::Expr;
 use crate::name::QualifiedName;
 use bal_base::{Keyword, Memory, Sign, TokenKind};
 
@@ -61,21 +63,22 @@ fn action(out: &mut Vec<TokenKind>, a: &Action) -> Result<(), Memory>
             value,
             peer: to,
             ..
-        } => {
-            expr(out, value)?;
-            sign(out, Sign::Arrow)?;
-            peer(out, to)
-        }
+        } => send(out, value, Sign::Arrow, to),
         Action::SyncSend {
             value,
             peer: to,
             ..
-        } => {
-            expr(out, value)?;
-            sign(out, Sign::DoubleArrow)?;
-            peer(out, to)
-        }
+        } => send(out, value, Sign::DoubleArrow, to),
     }
+}
+
+/// The sent expression, the arrow, and the worker that it goes to.
+fn send(out: &mut Vec<TokenKind>, value: &Expr, arrow: Sign, to: &Peer) -> Result<(), Memory>
+    ensures { OnOk result (Adds out.old.items (expr_pieces value.now ++ sign_piece arrow ∷ peer_pieces to.now) out.new.items) }
+{
+    expr(out, value)?;
+    sign(out, arrow)?;
+    peer(out, to)
 }
 
 fn action_key(op: ActionOp) -> Keyword
@@ -101,42 +104,22 @@ fn peer(out: &mut Vec<TokenKind>, p: &Peer) -> Result<(), Memory>
 fn alternatives(out: &mut Vec<TokenKind>, names: &[QualifiedName]) -> Result<(), Memory>
     ensures { OnOk result (Adds out.old.items (separated Bar (map name_pieces names.now)) out.new.items) }
 {
-    let Some((first, rest)) = names.split_first() else {
-        return Ok(());
-    };
-    name(out, first)?;
-    for n in rest {
-        alternative(out, n)?;
+    for (i, n) in names.iter().enumerate() {
+        sign_if(out, i > 0, Sign::Bar)?;
+        name(out, n)?;
     }
     Ok(())
-}
-
-fn alternative(out: &mut Vec<TokenKind>, n: &QualifiedName) -> Result<(), Memory>
-    ensures { OnOk result (Adds out.old.items (sign_piece Bar ∷ name_pieces n.now) out.new.items) }
-{
-    sign(out, Sign::Bar)?;
-    name(out, n)
 }
 
 /// The members of a multiple wait, with a comma between each two.
 fn wait_members(out: &mut Vec<TokenKind>, members: &[WaitMember]) -> Result<(), Memory>
     ensures { OnOk result (Adds out.old.items (separated Comma (map wait_member_pieces members.now)) out.new.items) }
 {
-    let Some((first, rest)) = members.split_first() else {
-        return Ok(());
-    };
-    wait_member(out, first)?;
-    for m in rest {
-        next_wait_member(out, m)?;
+    for (i, m) in members.iter().enumerate() {
+        sign_if(out, i > 0, Sign::Comma)?;
+        wait_member(out, m)?;
     }
     Ok(())
-}
-
-fn next_wait_member(out: &mut Vec<TokenKind>, m: &WaitMember) -> Result<(), Memory>
-    ensures { OnOk result (Adds out.old.items (sign_piece Comma ∷ wait_member_pieces m.now) out.new.items) }
-{
-    sign(out, Sign::Comma)?;
-    wait_member(out, m)
 }
 
 fn wait_member(out: &mut Vec<TokenKind>, m: &WaitMember) -> Result<(), Memory>

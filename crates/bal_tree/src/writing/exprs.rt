@@ -2,15 +2,15 @@
 #![tactic(auto, using(crate::proofs::Adding::adding))]
 
 ghost use Rattle.std.specs.Prelude.{[], ◌∷◌, ◌++◌, ◌≡◌, OnOk, map};
-ghost use Rattle.bal_base.specs.declared.token.Sign.TheVariants.{Comma, OpenParen, CloseParen, Less, Greater};
+ghost use Rattle.bal_base.specs.declared.token.Sign.TheVariants.{Comma, OpenParen, CloseParen};
 ghost use Rattle.bal_base.specs.declared.token.Keyword.TheVariants.{Is};
 ghost use Rattle.bal_tree.specs.Pieces.{Adds, behind, separated, key as key_piece, sign as sign_piece};
 ghost use Rattle.bal_tree.specs.TypePieces.{type_pieces};
 ghost use Rattle.bal_tree.specs.ExprPieces.{expr_pieces, postfix_pieces, call_pieces, primary_pieces, key_pieces, prefix_op as prefix_piece, binary_sign as sign_of};
 ghost use Rattle.bal_tree.specs.ExprParts.{function_head_pieces, optional_cause, member_pieces, detail_pieces};
 
-use super::names::{literal, name, word};
-use super::signs::{key, key_if, sign};
+use super::names::{literal, name, string, word};
+use super::signs::{key, key_if, sign, sign_if};
 use super::types::{self, type_tree};
 use crate::expr::{BinaryOp, Call, Detail, Expr, Key, Member, Postfix, PrefixOp, Primary};
 use crate::params::Params;
@@ -28,7 +28,7 @@ pub fn expr(out: &mut Vec<TokenKind>, e: &Expr) -> Result<(), Memory>
             expr(out, operand)
         }
         Expr::Cast { ty, operand, .. } => {
-            cast(out, ty)?;
+            types::in_angles(out, ty)?;
             expr(out, operand)
         }
         Expr::Binary {
@@ -78,15 +78,6 @@ fn expr_behind(out: &mut Vec<TokenKind>, s: Sign, e: &Expr) -> Result<(), Memory
 {
     sign(out, s)?;
     expr(out, e)
-}
-
-/// `<T>`
-fn cast(out: &mut Vec<TokenKind>, ty: &TypeTree) -> Result<(), Memory>
-    ensures { OnOk result (Adds out.old.items (sign_piece Less ∷ type_pieces ty.now ++ sign_piece Greater ∷ []) out.new.items) }
-{
-    sign(out, Sign::Less)?;
-    type_tree(out, ty)?;
-    sign(out, Sign::Greater)
 }
 
 /// `is T`
@@ -211,12 +202,9 @@ fn arguments(out: &mut Vec<TokenKind>, args: &[Expr]) -> Result<(), Memory>
 fn exprs(out: &mut Vec<TokenKind>, es: &[Expr]) -> Result<(), Memory>
     ensures { OnOk result (Adds out.old.items (separated Comma (map expr_pieces es.now)) out.new.items) }
 {
-    let Some((first, rest)) = es.split_first() else {
-        return Ok(());
-    };
-    expr(out, first)?;
-    for e in rest {
-        expr_behind(out, Sign::Comma, e)?;
+    for (i, e) in es.iter().enumerate() {
+        sign_if(out, i > 0, Sign::Comma)?;
+        expr(out, e)?;
     }
     Ok(())
 }
@@ -264,23 +252,11 @@ fn primary(out: &mut Vec<TokenKind>, e: &Primary) -> Result<(), Memory>
 fn member_list(out: &mut Vec<TokenKind>, ms: &[Member]) -> Result<(), Memory>
     ensures { OnOk result (Adds out.old.items (separated Comma (map member_pieces ms.now)) out.new.items) }
 {
-    let Some((first, rest)) = ms.split_first() else {
-        return Ok(());
-    };
-    member(out, first)?;
-    for m in rest {
-        next_member(out, m)?;
+    for (i, m) in ms.iter().enumerate() {
+        sign_if(out, i > 0, Sign::Comma)?;
+        member(out, m)?;
     }
     Ok(())
-}
-
-/// `, a: x`
-#[cycle(exprs)]
-fn next_member(out: &mut Vec<TokenKind>, m: &Member) -> Result<(), Memory>
-    ensures { OnOk result (Adds out.old.items (sign_piece Comma ∷ member_pieces m.now) out.new.items) }
-{
-    sign(out, Sign::Comma)?;
-    member(out, m)
 }
 
 #[cycle(exprs)]
@@ -297,10 +273,7 @@ fn member_key(out: &mut Vec<TokenKind>, k: &Key) -> Result<(), Memory>
 {
     match k {
         Key::Word(w) => word(out, w),
-        Key::Str { text, .. } => {
-            out.push(TokenKind::Str(text.share()))?;
-            Ok(())
-        }
+        Key::Str { text, .. } => string(out, text),
         Key::Computed { value, .. } => {
             sign(out, Sign::OpenBracket)?;
             expr(out, value)?;

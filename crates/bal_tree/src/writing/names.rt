@@ -1,13 +1,13 @@
 //! Words, names and literals.
 ghost use Rattle.std.specs.Prelude.{[], ◌∷◌, OnOk};
-ghost use Rattle.bal_base.specs.declared.token.TokenKind.TheVariants.{Int as IntKind};
+ghost use Rattle.bal_base.specs.declared.token.TokenKind.TheVariants.{Int as IntKind, Str as StrKind};
 ghost use Rattle.bal_tree.specs.Pieces.{Adds, token as token_piece, sign as sign_piece};
 ghost use Rattle.bal_base.specs.declared.token.Sign.TheVariants.{Minus};
 ghost use Rattle.bal_tree.specs.NamePieces.{word_pieces, prefix_pieces, prefix_part, name_pieces, literal_pieces, const_pieces};
 
 use super::signs::{key, sign};
 use crate::name::{ConstValue, Literal, Prefix, QualifiedName, Word};
-use bal_base::{Keyword, Memory, Sign, TokenKind};
+use bal_base::{Keyword, Memory, Sign, Text, TokenKind};
 
 pub fn word(out: &mut Vec<TokenKind>, w: &Word) -> Result<(), Memory>
     ensures { OnOk result (Adds out.old.items (word_pieces w.now) out.new.items) }
@@ -20,6 +20,13 @@ pub fn int(out: &mut Vec<TokenKind>, value: i64) -> Result<(), Memory>
     ensures { OnOk result (Adds out.old.items (token_piece (IntKind value) ∷ []) out.new.items) }
 {
     out.push(TokenKind::Int(value))?;
+    Ok(())
+}
+
+pub fn string(out: &mut Vec<TokenKind>, text: &Text) -> Result<(), Memory>
+    ensures { OnOk result (Adds out.old.items (token_piece (StrKind text.now) ∷ []) out.new.items) }
+{
+    out.push(TokenKind::Str(text.share()))?;
     Ok(())
 }
 
@@ -54,10 +61,7 @@ pub fn literal(out: &mut Vec<TokenKind>, l: &Literal) -> Result<(), Memory>
 {
     match l {
         Literal::Int { value, .. } => int(out, *value),
-        Literal::Str { text, .. } => {
-            out.push(TokenKind::Str(text.share()))?;
-            Ok(())
-        }
+        Literal::Str { text, .. } => string(out, text),
         Literal::True { .. } => key(out, Keyword::True),
         Literal::False { .. } => key(out, Keyword::False),
         Literal::Nil { .. } => {

@@ -1,6 +1,6 @@
 //! Single tokens.
 ghost use Rattle.std.specs.Prelude.{[], ◌∷◌, OnOk};
-ghost use Rattle.bal_tree.specs.Pieces.{Adds, key as key_piece, sign as sign_piece, key_if as key_if_pieces};
+ghost use Rattle.bal_tree.specs.Pieces.{Adds, key as key_piece, sign as sign_piece, key_if as key_if_pieces, sign_if as sign_if_pieces};
 
 use bal_base::{Keyword, Memory, Sign, TokenKind};
 
@@ -23,4 +23,11 @@ pub fn sign(out: &mut Vec<TokenKind>, s: Sign) -> Result<(), Memory>
 {
     out.push(TokenKind::Sign(s))?;
     Ok(())
+}
+
+/// The sign, if it is there.
+pub fn sign_if(out: &mut Vec<TokenKind>, there: bool, s: Sign) -> Result<(), Memory>
+    ensures { OnOk result (Adds out.old.items (sign_if_pieces there s) out.new.items) }
+{
+    if there { sign(out, s) } else { Ok(()) }
 }

@@ -14,7 +14,7 @@ ghost use Rattle.bal_tree.specs.StmtParts.{if_pieces, else_part, clause_pieces, 
 use super::actions::rhs;
 use super::exprs::{expr, postfix};
 use super::names::{const_value, name, word};
-use super::signs::{key, key_if, sign};
+use super::signs::{key, key_if, sign, sign_if};
 use super::types::type_tree;
 use crate::action::Rhs;
 use crate::expr::Expr;
@@ -319,21 +319,11 @@ fn clause(out: &mut Vec<TokenKind>, c: &Clause) -> Result<(), Memory>
 fn patterns(out: &mut Vec<TokenKind>, patterns: &[Pattern]) -> Result<(), Memory>
     ensures { OnOk result (Adds out.old.items (separated Bar (map pattern_pieces patterns.now)) out.new.items) }
 {
-    let Some((first, rest)) = patterns.split_first() else {
-        return Ok(());
-    };
-    pattern(out, first)?;
-    for p in rest {
-        next_pattern(out, p)?;
+    for (i, p) in patterns.iter().enumerate() {
+        sign_if(out, i > 0, Sign::Bar)?;
+        pattern(out, p)?;
     }
     Ok(())
-}
-
-fn next_pattern(out: &mut Vec<TokenKind>, p: &Pattern) -> Result<(), Memory>
-    ensures { OnOk result (Adds out.old.items (sign_piece Bar ∷ pattern_pieces p.now) out.new.items) }
-{
-    sign(out, Sign::Bar)?;
-    pattern(out, p)
 }
 
 fn pattern(out: &mut Vec<TokenKind>, p: &Pattern) -> Result<(), Memory>

@@ -5,11 +5,11 @@ ghost use Rattle.std.specs.Prelude.{◌≡◌, [], ◌∷◌, ◌++◌, OnOk, ma
 ghost use Rattle.bal_base.specs.declared.token.Keyword.TheVariants.{Map as MapKey, Future as FutureKey, Error as ErrorKey, Returns as ReturnsKey};
 ghost use Rattle.bal_base.specs.declared.token.Sign.TheVariants.{Comma, OpenParen, CloseParen};
 ghost use Rattle.bal_tree.specs.Pieces.{Adds, key as key_piece, sign as sign_piece, separated};
-ghost use Rattle.bal_tree.specs.TypePieces.{type_pieces, intersection_pieces, postfix_type_pieces, primary_type_pieces, builtin_key as builtin_word, detail_type_pieces, fields_pieces, rest_field_pieces, param_types_pieces, result_pieces, optional_word, question_if as question_pieces, param_pieces, rest_param_pieces, params_pieces};
-ghost use Rattle.bal_tree.specs.TypeParts.{held, in_angles as angle_pieces, open_record_pieces, function_word, field_pieces, param_type_pieces, comma_if as comma_pieces, rest_type_pieces, last_param_pieces};
+ghost use Rattle.bal_tree.specs.TypePieces.{type_pieces, intersection_pieces, postfix_type_pieces, primary_type_pieces, builtin_key as builtin_word, detail_type_pieces, fields_pieces, rest_field_pieces, param_types_pieces, result_pieces, optional_word, param_pieces, rest_param_pieces, params_pieces};
+ghost use Rattle.bal_tree.specs.TypeParts.{held, in_angles as angle_pieces, open_record_pieces, function_word, field_pieces, param_type_pieces, rest_type_pieces, last_param_pieces};
 
 use super::names::{int, literal, name, negative, word};
-use super::signs::{key, key_if, sign};
+use super::signs::{key, key_if, sign, sign_if};
 use crate::name::Word;
 use crate::params::{Param, Params};
 use crate::types::{
@@ -165,7 +165,7 @@ fn error_type(out: &mut Vec<TokenKind>, detail: &Option<Box<TypeTree>>) -> Resul
 
 /// `<T>`
 #[cycle(types)]
-fn in_angles(out: &mut Vec<TokenKind>, t: &TypeTree) -> Result<(), Memory>
+pub fn in_angles(out: &mut Vec<TokenKind>, t: &TypeTree) -> Result<(), Memory>
     ensures { OnOk result (Adds out.old.items (angle_pieces t.now) out.new.items) }
 {
     sign(out, Sign::Less)?;
@@ -179,7 +179,7 @@ fn type_list(out: &mut Vec<TokenKind>, types: &[TypeTree]) -> Result<(), Memory>
     ensures { OnOk result (Adds out.old.items (separated Comma (map type_pieces types.now)) out.new.items) }
 {
     for (i, t) in types.iter().enumerate() {
-        comma_if(out, i > 0)?;
+        sign_if(out, i > 0, Sign::Comma)?;
         type_tree(out, t)?;
     }
     Ok(())
@@ -196,21 +196,11 @@ fn rest_type(
 {
     match rest {
         Some(t) => {
-            comma_if(out, comma)?;
+            sign_if(out, comma, Sign::Comma)?;
             type_tree(out, t)?;
             sign(out, Sign::Ellipsis)
         }
         None => Ok(()),
-    }
-}
-
-fn comma_if(out: &mut Vec<TokenKind>, there: bool) -> Result<(), Memory>
-    ensures { OnOk result (Adds out.old.items (comma_pieces there) out.new.items) }
-{
-    if there {
-        sign(out, Sign::Comma)
-    } else {
-        Ok(())
     }
 }
 
@@ -240,18 +230,8 @@ fn field(out: &mut Vec<TokenKind>, f: &FieldTree) -> Result<(), Memory>
 {
     type_tree(out, &f.ty)?;
     word(out, &f.name)?;
-    question_if(out, f.optional)?;
+    sign_if(out, f.optional, Sign::Question)?;
     sign(out, Sign::Semicolon)
-}
-
-fn question_if(out: &mut Vec<TokenKind>, there: bool) -> Result<(), Memory>
-    ensures { OnOk result (Adds out.old.items (question_pieces there) out.new.items) }
-{
-    if there {
-        sign(out, Sign::Question)
-    } else {
-        Ok(())
-    }
 }
 
 /// `T...;`, where there is a type.
@@ -292,7 +272,7 @@ fn param_type_list(out: &mut Vec<TokenKind>, params: &[ParamType]) -> Result<(),
     ensures { OnOk result (Adds out.old.items (separated Comma (map param_type_pieces params.now)) out.new.items) }
 {
     for (i, p) in params.iter().enumerate() {
-        comma_if(out, i > 0)?;
+        sign_if(out, i > 0, Sign::Comma)?;
         param_type(out, p)?;
     }
     Ok(())
@@ -349,7 +329,7 @@ fn param_list(out: &mut Vec<TokenKind>, params: &[Param]) -> Result<(), Memory>
     ensures { OnOk result (Adds out.old.items (separated Comma (map param_pieces params.now)) out.new.items) }
 {
     for (i, p) in params.iter().enumerate() {
-        comma_if(out, i > 0)?;
+        sign_if(out, i > 0, Sign::Comma)?;
         param(out, p)?;
     }
     Ok(())
@@ -368,7 +348,7 @@ fn last_param(out: &mut Vec<TokenKind>, comma: bool, rest: &Option<Param>) -> Re
 {
     match rest {
         Some(p) => {
-            comma_if(out, comma)?;
+            sign_if(out, comma, Sign::Comma)?;
             rest_param(out, p)
         }
         None => Ok(()),

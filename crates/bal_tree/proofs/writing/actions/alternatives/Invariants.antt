@@ -1,8 +1,8 @@
 use Rattle.std.proofs.Common.{map, take}
 use Rattle.bal_base.specs.declared.token.Sign.TheVariants.{Bar}
-use Rattle.bal_tree.specs.Pieces.{Adds, behind}
+use Rattle.bal_tree.specs.Pieces.{Adds, separated}
 use Rattle.bal_tree.specs.NamePieces.{name_pieces}
 use Rattle.bal_tree.proofs.writing.actions.alternatives.Given as goal
 
-abbrev pub invariant-loop-n : goal.invariant-loop-n
-invariant-loop-n l = Adds l.initial.out.items (behind Bar (map name_pieces (take l.n-index l.rest))) l.out.items
+abbrev pub invariant-loop-i : goal.invariant-loop-i
+invariant-loop-i l = Adds l.initial.out.items (separated Bar (map name_pieces (take l.i l.names))) l.out.items

@@ -1,8 +1,8 @@
 use Rattle.std.proofs.Common.{map, take}
 use Rattle.bal_base.specs.declared.token.Sign.TheVariants.{Comma}
-use Rattle.bal_tree.specs.Pieces.{Adds, behind}
+use Rattle.bal_tree.specs.Pieces.{Adds, separated}
 use Rattle.bal_tree.specs.ActionPieces.{wait_member_pieces}
 use Rattle.bal_tree.proofs.writing.actions.wait_members.Given as goal
 
-abbrev pub invariant-loop-m : goal.invariant-loop-m
-invariant-loop-m l = Adds l.initial.out.items (behind Comma (map wait_member_pieces (take l.m-index l.rest))) l.out.items
+abbrev pub invariant-loop-i : goal.invariant-loop-i
+invariant-loop-i l = Adds l.initial.out.items (separated Comma (map wait_member_pieces (take l.i l.members))) l.out.items

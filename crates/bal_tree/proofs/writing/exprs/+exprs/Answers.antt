@@ -3,7 +3,8 @@ use Rattle.bal_base.specs.declared.token.Sign.TheVariants.{Comma}
 use Rattle.bal_tree.specs.ExprPieces.{expr_pieces, call_pieces, primary_pieces}
 use Rattle.bal_tree.specs.ExprParts.{member_pieces, detail_pieces}
 use Rattle.bal_tree.proofs.Adding.{adding}
-use Rattle.bal_tree.proofs.Joining.{adds-same, adds-nothing, behind-more, behind-all, separated-all}
+use Rattle.bal_tree.proofs.Joining.{adds-same, adds-nothing, behind-more, behind-all}
+use Rattle.bal_tree.proofs.Listing.{adds-next_listed}
 use Rattle.bal_tree.proofs.ExprRows.{pieces-Function, pieces-Method, pieces-List, pieces-Mapping, pieces-Error}
 use Rattle.bal_tree.proofs.writing.exprs.+exprs.Goals as goal
 
@@ -31,27 +32,13 @@ primary-returns-in_ok-detail_list-in-Error t c =
 
 -- ---- the loops
 
-pub exprs-loop-e-init : goal.exprs-loop-e-init
-exprs-loop-e-init t c = adds-nothing c.expr.new.out.items
+pub exprs-loop-i-preserved : goal.exprs-loop-i-preserved
+exprs-loop-i-preserved t c =
+    adds-next_listed expr_pieces Comma c.args.es.now c.loop-i.i c.index-es-i.result c.args.out.now.items c.loop-i.out.items c.sign_if.new.out.items c.expr.new.out.items c.loop-i-test.true c.index-es-i.is c.loop-i.invariant c.in_ok-sign_if.ensures c.in_ok-expr.ensures
 
-pub exprs-loop-e-preserved : goal.exprs-loop-e-preserved
-exprs-loop-e-preserved t c =
-    behind-more expr_pieces c.in-Some.rest.now c.loop-e.e-index c.expr.new.out.items c.expr_behind.new.out.items Comma c.loop-e.out.items c.e-item.result (grind (arith, c.loop-e-test.true)) c.e-item.is c.loop-e.invariant c.in_ok-expr_behind.ensures
-
-pub exprs-returns : goal.exprs-returns
-exprs-returns t c =
-    separated-all expr_pieces Comma c.args.es.now c.in-Some.first.now c.in-Some.rest.now c.loop-e.e-index c.args.out.now.items c.expr.new.out.items c.loop-e.out.items c.in-Some.ensures.cases.0 (grind (arith, c.loop-e-test.false)) c.in_ok-expr.ensures c.loop-e.invariant
-
-pub member_list-loop-m-init : goal.member_list-loop-m-init
-member_list-loop-m-init t c = adds-nothing c.member.new.out.items
-
-pub member_list-loop-m-preserved : goal.member_list-loop-m-preserved
-member_list-loop-m-preserved t c =
-    behind-more member_pieces c.in-Some.rest.now c.loop-m.m-index c.member.new.out.items c.next_member.new.out.items Comma c.loop-m.out.items c.m-item.result (grind (arith, c.loop-m-test.true)) c.m-item.is c.loop-m.invariant c.in_ok-next_member.ensures
-
-pub member_list-returns : goal.member_list-returns
-member_list-returns t c =
-    separated-all member_pieces Comma c.args.ms.now c.in-Some.first.now c.in-Some.rest.now c.loop-m.m-index c.args.out.now.items c.member.new.out.items c.loop-m.out.items c.in-Some.ensures.cases.0 (grind (arith, c.loop-m-test.false)) c.in_ok-member.ensures c.loop-m.invariant
+pub member_list-loop-i-preserved : goal.member_list-loop-i-preserved
+member_list-loop-i-preserved t c =
+    adds-next_listed member_pieces Comma c.args.ms.now c.loop-i.i c.index-ms-i.result c.args.out.now.items c.loop-i.out.items c.sign_if.new.out.items c.member.new.out.items c.loop-i-test.true c.index-ms-i.is c.loop-i.invariant c.in_ok-sign_if.ensures c.in_ok-member.ensures
 
 pub detail_list-loop-d-init : goal.detail_list-loop-d-init
 detail_list-loop-d-init t c = adds-nothing c.args.out.now.items

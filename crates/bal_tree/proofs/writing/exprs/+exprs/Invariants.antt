@@ -1,15 +1,15 @@
 use Rattle.std.proofs.Common.{map, take}
 use Rattle.bal_base.specs.declared.token.Sign.TheVariants.{Comma}
-use Rattle.bal_tree.specs.Pieces.{Adds, behind}
+use Rattle.bal_tree.specs.Pieces.{Adds, behind, separated}
 use Rattle.bal_tree.specs.ExprPieces.{expr_pieces}
 use Rattle.bal_tree.specs.ExprParts.{member_pieces, detail_pieces}
 use Rattle.bal_tree.proofs.writing.exprs.+exprs.Given as goal
 
-abbrev pub invariant-exprs-loop-e : goal.invariant-exprs-loop-e
-invariant-exprs-loop-e l = Adds l.initial.out.items (behind Comma (map expr_pieces (take l.e-index l.rest))) l.out.items
+abbrev pub invariant-exprs-loop-i : goal.invariant-exprs-loop-i
+invariant-exprs-loop-i l = Adds l.initial.out.items (separated Comma (map expr_pieces (take l.i l.es))) l.out.items
 
-abbrev pub invariant-member_list-loop-m : goal.invariant-member_list-loop-m
-invariant-member_list-loop-m l = Adds l.initial.out.items (behind Comma (map member_pieces (take l.m-index l.rest))) l.out.items
+abbrev pub invariant-member_list-loop-i : goal.invariant-member_list-loop-i
+invariant-member_list-loop-i l = Adds l.initial.out.items (separated Comma (map member_pieces (take l.i l.ms))) l.out.items
 
 abbrev pub invariant-detail_list-loop-d : goal.invariant-detail_list-loop-d
 invariant-detail_list-loop-d l = Adds l.initial.out.items (behind Comma (map detail_pieces (take l.d-index l.ds))) l.out.items

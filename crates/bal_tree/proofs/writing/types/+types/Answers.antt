@@ -13,11 +13,11 @@ use Rattle.bal_tree.proofs.writing.types.+types.Goals as goal
 
 pub type_list-loop-i-preserved : goal.type_list-loop-i-preserved
 type_list-loop-i-preserved t c =
-    adds-next_listed type_pieces c.args.types.now c.loop-i.i c.index-types-i.result c.args.out.now.items c.loop-i.out.items c.comma_if.new.out.items c.type_tree.new.out.items c.loop-i-test.true c.index-types-i.is c.loop-i.invariant c.in_ok-comma_if.ensures c.in_ok-type_tree.ensures
+    adds-next_listed type_pieces Comma c.args.types.now c.loop-i.i c.index-types-i.result c.args.out.now.items c.loop-i.out.items c.sign_if.new.out.items c.type_tree.new.out.items c.loop-i-test.true c.index-types-i.is c.loop-i.invariant c.in_ok-sign_if.ensures c.in_ok-type_tree.ensures
 
 pub param_type_list-loop-i-preserved : goal.param_type_list-loop-i-preserved
 param_type_list-loop-i-preserved t c =
-    adds-next_listed param_type_pieces c.args.params.now c.loop-i.i c.index-params-i.result c.args.out.now.items c.loop-i.out.items c.comma_if.new.out.items c.param_type.new.out.items c.loop-i-test.true c.index-params-i.is c.loop-i.invariant c.in_ok-comma_if.ensures c.in_ok-param_type.ensures
+    adds-next_listed param_type_pieces Comma c.args.params.now c.loop-i.i c.index-params-i.result c.args.out.now.items c.loop-i.out.items c.sign_if.new.out.items c.param_type.new.out.items c.loop-i-test.true c.index-params-i.is c.loop-i.invariant c.in_ok-sign_if.ensures c.in_ok-param_type.ensures
 
 pub field_list-loop-f-preserved : goal.field_list-loop-f-preserved
 field_list-loop-f-preserved t c =
