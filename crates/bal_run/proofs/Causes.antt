@@ -1,16 +1,19 @@
 -- Each answer by its cause, from the table of what is due.
 use Rattle.std.proofs.Common.{◌≡◌, ◌≢◌, ◌⊎◌, ℕ, ◌<◌, List, Option, Some, None, refl, sym, ap, subst, ◌∙◌, inl, inr, ⊎_elim, arith}
-use Rattle.std.specs.Prelude.{IfSome, IfNone, IsSomeAnd, slice_get, map}
-use Rattle.bal_base.specs.End.{Returned, Panicked as PanickedEnd}
+use Rattle.std.specs.Prelude.{IfSome, IfNone, IsSome, IsSomeAnd, slice_get, map}
+use Rattle.bal_base.specs.End.{End, Returned, Panicked as PanickedEnd}
 use Rattle.bal_base.specs.declared.fault.Refusal.{Refusal}
 use Rattle.bal_run.specs.declared.status.Built.{Built}
 use Rattle.bal_run.specs.declared.status.Run.{Run}
 use Rattle.bal_run.specs.declared.status.Status.{Status}
 use Rattle.bal_run.specs.declared.status.Status.TheVariants.{Done, ErrorReturned, Panicked, Refused, GoesOn, Stalled, FolderFault, InputFault, OutFault, Memory, Words, Limit, DiagFault}
-use Rattle.bal_run.specs.Answer.{Scene, EvaluatesTo, IsDue, NothingRan, WroteFrontOf, WasCutShort, IsRefusalOf, Tells, ComesTo}
+use Rattle.bal_run.specs.Answer.{Scene, EvaluatesTo, Evaluated, RanTo, IsDue, NothingRan, WroteFrontOf, WasCutShort, IsRefusalOf, Tells, ComesTo, status_of}
 use Rattle.bal_run.specs.Files.{Files, HasNoMain, HasNoProgram, CompilesTo, IsMainFile, IsProgram, IsTreeOf}
 use Rattle.bal_run.specs.Status.{no_main, not_a_definition}
 use Rattle.bal_run.specs.Words.{IsGood}
+use Rattle.bal_run.proofs.Simulation.{CodeRuns-one}
+use Rattle.bal_io.specs.Faults.{Rises}
+use Rattle.bal_tree.specs.Evaluation.{Evaluates}
 use Rattle.bal_tree.specs.declared.def.FileTree.{FileTree}
 
 -- ---- the answer and what was due
@@ -159,6 +162,88 @@ module _ (s : Scene) (run : Run) where
       (λ t h. none.2 t (subst (λ l. IsProgram l t) (one-main all h.0 none.0 h.1 none.1) h.2))
       (λ q h. ⊎_elim (λ a. absurd (main-there all none.0 (subst (λ f. IfSome f HasNoMain) e a.1) none.1)) (λ b. b.0) h)
 
+  -- what compiles is built, unless the folder failed or memory ran out
+  pub built-due : (all : Files) (tree : FileTree) (due : Status) → s.files ≡ Some all → IsGood s.words → IsTreeOf all tree → IsDue s run due → IsSome run.built ⊎ ((due ≡ FolderFault) ⊎ (due ≡ Memory))
+  built-due all tree due e good is d = each due d
+    where
+      refused : (r : Refusal) → IsRefusalOf s.files r → ⊥
+      refused r h =
+          ⊎_elim
+          (λ a. main-there all is.0 (subst (λ f. IfSome f HasNoMain) e a.1) is.1)
+          (λ b. let none = subst (λ f. IfSome f HasNoProgram) e b.1 in none.2 tree (subst (λ l. IsProgram l tree) (one-main all is.0 none.0 is.1 none.1) is.2))
+          h
+
+      there : (o : Option Built) (P : Built → Type 0) → IsSomeAnd o P → IsSome o
+      there (Some b) P h = refl
+      there None P h = absurd h
+
+      each : (due : Status) → IsDue s run due → IsSome run.built ⊎ ((due ≡ FolderFault) ⊎ (due ≡ Memory))
+      each Words d = absurd (d.0 good)
+      each (Refused r) d = absurd (refused r d.3)
+      each FolderFault d = inr (inl refl)
+      each Memory d = inr (inr refl)
+      each Done d = inl (there run.built _ d.1.3)
+      each (Panicked m) d = inl (there run.built _ d.1.3)
+      each OutFault d = inl (there run.built _ d.2.2)
+      each (ErrorReturned m) d = absurd d
+      each (GoesOn n) d = absurd d
+      each (Stalled r) d = absurd d
+      each InputFault d = absurd d
+      each (Limit k) d = absurd d
+      each DiagFault d = absurd d
+
+  -- ---- ends
+
+  evaluated : (end : End) → RanTo s run end → Evaluated run.built end s.written_before s.written_after
+  evaluated end d = each run.built d.3
+    where
+      each : (o : Option Built) → IsSomeAnd o (λ b. CompilesTo s.files b × EvaluatesTo s run end b) → Evaluated o end s.written_before s.written_after
+      each (Some b) h = (h.1.1, h.1.2, h.1.5)
+      each None h = h
+
+  -- the answer is that of an end, and so the program came to it
+  pub told-end : (due status : Status) (end : End) (w v : Option (List ℕ)) → IsDue s run due → Tells due status w v → status ≡ status_of end → Evaluated run.built end s.written_before s.written_after
+  told-end due status Returned w v d t e =
+      let same = was-due due status w v t (λ f. let bad : ⊥ = cc in bad) (λ f. let bad : ⊥ = cc in bad) ∙ e in
+      let h : IsDue s run Done = subst (IsDue s run) same d in
+      evaluated Returned h.1
+  told-end due status (PanickedEnd m) w v d t e =
+      let same = was-due due status w v t (λ f. let bad : ⊥ = cc in bad) (λ f. let bad : ⊥ = cc in bad) ∙ e in
+      let h : IsDue s run (Panicked m) = subst (IsDue s run) same d in
+      evaluated (PanickedEnd m) h.1
+
+  -- two ends of one tree are the same
+  same-end : (built : Built) (output : List ℕ) (one other : End) → CompilesTo s.files built → EvaluatesTo s run one built → Evaluates built.tree output other → one ≡ other
+  same-end built output one other comp ran means =
+      let code = comp.1.runs output other means in (CodeRuns-one built.code ran.0 code.0 ran.1 output one other ran.3 code.1).1
+
+  -- who was built comes to its end, unless the output failed or memory ran out
+  pub end-due : (due : Status) (o : Option Built) → o ≡ run.built → IsDue s run due → (Rises s.out_before s.out_after → ⊥) → IfSome o (λ built. (output : List ℕ) (end : End) → Evaluates built.tree output end → (due ≡ status_of end) ⊎ (due ≡ Memory))
+  end-due due None is d fine = tt
+  end-due due (Some built) is d fine = λ output end means. each due d output end means
+    where
+      nothing : NothingRan s run → ⊥
+      nothing n = let none : Some built ≡ None = is ∙ n.0 in let bad : ⊥ = cc in bad
+
+      ended : (one : End) (output : List ℕ) (end : End) → RanTo s run one → Evaluates built.tree output end → one ≡ end
+      ended one output end ran means =
+          let h = subst (λ b. IsSomeAnd b (λ x. CompilesTo s.files x × EvaluatesTo s run one x)) (sym is) ran.3 in same-end built output one end h.0 h.1 means
+
+      each : (due : Status) → IsDue s run due → (output : List ℕ) (end : End) → Evaluates built.tree output end → (due ≡ status_of end) ⊎ (due ≡ Memory)
+      each Words d output end means = absurd (nothing d.2)
+      each (Refused r) d output end means = absurd (nothing d.2)
+      each FolderFault d output end means = absurd (nothing d.2)
+      each OutFault d output end means = absurd (fine d.1)
+      each Memory d output end means = inr refl
+      each Done d output end means = inl (ap status_of (ended Returned output end d.1 means))
+      each (Panicked m) d output end means = inl (ap status_of (ended (PanickedEnd m) output end d.1 means))
+      each (ErrorReturned m) d output end means = absurd d
+      each (GoesOn n) d output end means = absurd d
+      each (Stalled r) d output end means = absurd d
+      each InputFault d output end means = absurd d
+      each (Limit k) d output end means = absurd d
+      each DiagFault d output end means = absurd d
+
 -- ---- the clauses
 
 pub come-or-fail : (due other status : Status) (w v : Option (List ℕ)) → (due ≡ other) ⊎ ((due ≡ FolderFault) ⊎ (due ≡ Memory)) → Tells due status w v → ComesTo other status ⊎ ComesTo FolderFault status
@@ -169,3 +254,20 @@ come-or-fail due other status w v o t =
   where
     memory : ComesTo Memory status → ComesTo other status
     memory c = ⊎_elim (λ e. inr (inr e)) (λ r. inr r) c
+
+pub come-or-memory : (due other status : Status) (w v : Option (List ℕ)) → (due ≡ other) ⊎ (due ≡ Memory) → Tells due status w v → ComesTo other status
+come-or-memory due other status w v o t =
+    ⊎_elim
+    (λ e. comes-from due other status w v e t)
+    (λ e. ⊎_elim (λ m. inr (inr m)) (λ r. inr r) (comes-from due Memory status w v e t))
+    o
+
+pub built-or-failed : (run : Run) (status : Status) (w v : Option (List ℕ)) → IsSome run.built ⊎ ((run.status ≡ FolderFault) ⊎ (run.status ≡ Memory)) → Tells run.status status w v → IsSome run.built ⊎ ComesTo FolderFault status
+built-or-failed run status w v h t = ⊎_elim (λ b. inl b) (λ f. inr (come-or-memory run.status FolderFault status w v f t)) h
+
+pub ends-as-due : (s : Scene) (run : Run) (status : Status) (w v : Option (List ℕ)) → IsDue s run run.status → Tells run.status status w v → (Rises s.out_before s.out_after → ⊥) → IfSome run.built (λ built. (output : List ℕ) (end : End) → Evaluates built.tree output end → ComesTo (status_of end) status)
+ends-as-due s run status w v d t fine = each run.built (end-due s run run.status run.built refl d fine)
+  where
+    each : (o : Option Built) → IfSome o (λ built. (output : List ℕ) (end : End) → Evaluates built.tree output end → (run.status ≡ status_of end) ⊎ (run.status ≡ Memory)) → IfSome o (λ built. (output : List ℕ) (end : End) → Evaluates built.tree output end → ComesTo (status_of end) status)
+    each None h = tt
+    each (Some built) h = λ output end means. come-or-memory run.status (status_of end) status w v (h output end means) t

@@ -66,6 +66,11 @@ RanTo s run end =
     (run.turns ≡ 1) × FolderIsFine s × OutIsFine s
     × IsSomeAnd run.built (λ built. CompilesTo s.files built × EvaluatesTo s run end built)
 
+-- the evaluation of the tree of what was built comes to this end, and what was written is its output
+abbrev pub Evaluated : Option Built → End → Option (List ℕ) → Option (List ℕ) → Type 0
+Evaluated built end before after =
+    IsSomeAnd built (λ b. (output : List ℕ) × Evaluates b.tree output end × Told (Appends output) before after)
+
 -- the built code made so many steps, and what was written is a front of what the evaluation of the built tree writes
 abbrev pub WroteFrontOf : Scene → Run → Built → Type 0
 WroteFrontOf s run built =
@@ -90,6 +95,11 @@ IsDue s run Memory = IsGood s.words × OutIsFine s × ((FolderIsFine s × Nothin
 IsDue s run _ = ⊥
 
 -- ---- the status that a part of the work comes to
+
+-- the status of a program that comes to this end
+abbrev pub status_of : End → Status
+status_of Returned = Done
+status_of (PanickedEnd m) = Panicked m
 
 -- the status of this end; the message of a panic takes memory
 abbrev pub IsStatusOfEnd : Result Ending (Stop Failed) → Status → Type 0

@@ -7,7 +7,6 @@ use Rattle.std.specs.Char.{is_ascii_digit}
 use Rattle.std.specs.Str.Parse.{digits_value}
 use Rattle.bal_tree.specs.declared.expr.BinaryOp.{BinaryOp}
 use Rattle.bal_tree.specs.declared.expr.BinaryOp.TheVariants.{Add, Multiply}
-use Rattle.bal_base.specs.declared.place.Place.{Place}
 use Rattle.bal_tree.specs.declared.expr.Expr.{Expr, Binary'}
 use Rattle.bal_tree.specs.ExprPieces.{expr_pieces}
 use Rattle.bal_tree.specs.Places.{BeginsAt}

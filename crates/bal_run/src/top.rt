@@ -1,12 +1,14 @@
 //! The top call.
-ghost use Rattle.std.specs.Prelude.{◌≡◌, ◌<◌, ◌⊎◌, ℕ, List, Option, Some, None, IfOk, IfSome, IfNone, String};
+ghost use Rattle.std.specs.Prelude.{◌≡◌, ◌<◌, ◌⊎◌, ℕ, List, Option, Some, None, IfOk, IfSome, IfNone, IsSome, String};
 ghost use Rattle.std.specs.Global.{Global as HeapGlobal};
-ghost use Rattle.bal_base.specs.End.{number_overflow};
+ghost use Rattle.bal_base.specs.End.{End, Returned, Panicked, number_overflow};
 ghost use Rattle.bal_base.specs.declared.fault.Refusal.{Refusal as Refused};
 ghost use Rattle.bal_io.specs.Content.{Told, AppendsFront};
 ghost use Rattle.bal_io.specs.Faults.{Rises};
-ghost use Rattle.bal_run.specs.Answer.{ComesTo, IsDue, IsRefusalOf, IsRefusedOr, IsStatusOfEnd, IsStatusOfLoad, Tells, CountsDiagFaults};
-ghost use Rattle.bal_run.specs.Files.{Files, CompilesTo, HasNoMain, HasNoProgram};
+ghost use Rattle.bal_tree.specs.Evaluation.{Evaluates};
+ghost use Rattle.bal_tree.specs.declared.def.FileTree.{FileTree};
+ghost use Rattle.bal_run.specs.Answer.{ComesTo, Evaluated, IsDue, IsRefusalOf, IsRefusedOr, IsStatusOfEnd, IsStatusOfLoad, Tells, CountsDiagFaults, status_of};
+ghost use Rattle.bal_run.specs.Files.{Files, CompilesTo, HasNoMain, HasNoProgram, IsTreeOf};
 ghost use Rattle.bal_run.specs.Lowering.{Simulates};
 ghost use Rattle.bal_run.specs.Status.{IsTold, no_main, not_a_definition, text_of};
 ghost use Rattle.bal_run.specs.Words.{IsGood};
@@ -48,7 +50,16 @@ pub fn bal_run<F: Folder, I: Source, O: Sink, E: Sink>(
 
     // What was built, and that nothing is written where nothing was.
     ensures built { IfSome result.built (CompilesTo (F.files folder.old)) }
+    ensures built_due { IsGood words.now → (files : Files) (tree : FileTree) → F.files folder.old ≡ Some files → IsTreeOf files tree
+        → IsSome result.built ⊎ ComesTo Status.FolderFault result.status }
     ensures unbuilt { IfNone result.built (O.written out.new ≡ O.written out.old) }
+
+    // The end of a program that was built, both ways: its status, and its output.
+    ensures done { result.status ≡ Status.Done → Evaluated result.built Returned (O.written out.old) (O.written out.new) }
+    ensures panicked { (message : List ℕ) → result.status ≡ Status.Panicked message
+        → Evaluated result.built (Panicked message) (O.written out.old) (O.written out.new) }
+    ensures end_due { (Rises (O.faults out.old) (O.faults out.new) → ⊥) → IfSome result.built (λ built. (output : List ℕ) (end : End)
+        → Evaluates built.tree output end → ComesTo (status_of end) result.status) }
 
     // Each cause, both ways. A cause comes to its status, unless the diagnostics fail or memory runs out.
     ensures words { result.status ≡ Status.Words → IsGood words.now → ⊥ }

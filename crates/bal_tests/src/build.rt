@@ -1,4 +1,6 @@
-//! Parts of trees. Each is `None` where memory runs out, or where a part that it is given is `None`.
+//! Parts of trees, made by hand.
+use std::process::Abort;
+
 pub mod actions;
 pub mod defs;
 pub mod exprs;
@@ -6,3 +8,8 @@ pub mod lists;
 pub mod names;
 pub mod stmts;
 pub mod types;
+
+/// What makes trees: it gives memory, and ends the test where none is left.
+pub trait Maker: Abort + AllocGlobal {}
+
+impl<R: Abort + AllocGlobal> Maker for R {}

@@ -1,4 +1,5 @@
 //! The tree of a program that prints a sum.
+use crate::build::Maker;
 use crate::build::actions::*;
 use crate::build::defs::*;
 use crate::build::exprs::*;
@@ -8,7 +9,6 @@ use crate::build::stmts::*;
 use crate::build::types::*;
 use crate::compare::assert_writes;
 use bal_tree::{BinaryOp, Expr, FileTree, Stmt};
-use std::alloc::Global;
 use std::test::Fail;
 
 const TEXT: &str = "import ballerina/io;
@@ -18,25 +18,24 @@ public function main() {
 }
 ";
 
-fn sum(a: Global) -> Option<Expr> {
-    let product = binary(a, number(2), BinaryOp::Multiply, number(3));
-    binary(a, number(1), BinaryOp::Add, product)
+fn sum(m: &impl Maker) -> Expr {
+    let product = binary(m, number(2), BinaryOp::Multiply, number(3));
+    binary(m, number(1), BinaryOp::Add, product)
 }
 
-fn prints(a: Global) -> Option<Stmt> {
-    let println = head(named_value(name_of(a, "io", "println")));
-    let prints = value(called(call(a, println, one(a, sum(a)))));
-    alone(evaluates(a, prints))
+fn prints(m: &impl Maker) -> Stmt {
+    let println = head(named_value(name_of(m, "io", "println")));
+    let prints = value(called(call(m, println, one(m, sum(m)))));
+    alone(evaluates(m, prints))
 }
 
-fn tree(a: Global) -> Option<FileTree> {
-    let main = function(a, "main", params(none(a)), block_body(a, one(a, prints(a))));
-    let imports = one(a, import_of(a, "ballerina", "io"));
-    file(imports, one(a, function_with(true, false, main)))
+fn tree(m: &impl Maker) -> FileTree {
+    let main = function(m, "main", params(none(m)), block_body(m, one(m, prints(m))));
+    let imports = one(m, import_of(m, "ballerina", "io"));
+    file(imports, one(m, function_with(true, false, main)))
 }
 
 #[test]
 fn the_tree_of_the_first_example(rt: HostRuntime) -> Result<(), Fail> {
-    let alloc = rt.alloc();
-    assert_writes(&rt, alloc, tree(alloc), TEXT)
+    assert_writes(&rt, tree(&rt), TEXT)
 }

@@ -1,80 +1,229 @@
 //! Files, imports and definitions.
-use super::lists::none;
+use super::Maker;
+use super::lists::{boxed, none, one};
 use super::names::{AT, word};
-use super::types::params;
+use super::types::{any_type, params};
 use bal_tree::{
-    Body, Def, Defs, FileTree, FunctionDef, Import, Imports, Params, Stmt, Stmts, Words, Worker,
-    Workers,
+    Block, Body, ConstDef, ConstValue, Def, Defs, Expr, FileTree, FunctionDef, Import, Imports,
+    Params, Stmt, Stmts, TypeDef, TypeTree, VariableDef, Word, Words, Worker, Workers,
 };
-use std::alloc::Global;
 
-pub fn file(imports: Option<Vec<Import>>, defs: Option<Vec<Def>>) -> Option<FileTree> {
-    let imports = Imports::of(imports?);
-    let defs = Defs::of(defs?);
-    Some(FileTree {
+pub fn file(imports: Vec<Import>, defs: Vec<Def>) -> FileTree {
+    let imports = Imports::of(imports);
+    let defs = Defs::of(defs);
+    FileTree {
         imports,
         defs,
         at: AT,
-    })
+    }
+}
+
+/// `import first;`
+pub fn import(m: &impl Maker, first: &str) -> Import {
+    let first = word(m, first);
+    let more = Words::of(none(m));
+    Import {
+        first,
+        second: None,
+        more,
+        prefix: None,
+        at: AT,
+    }
 }
 
 /// `import first/second;`
-pub fn import_of(a: Global, first: &str, second: &str) -> Option<Import> {
-    let first = word(a, first)?;
-    let second = Some(word(a, second)?);
-    let more = Words::of(Vec::new(a));
-    Some(Import {
+pub fn import_of(m: &impl Maker, first: &str, second: &str) -> Import {
+    let first = word(m, first);
+    let second = Some(word(m, second));
+    let more = Words::of(none(m));
+    Import {
         first,
         second,
         more,
         prefix: None,
         at: AT,
+    }
+}
+
+/// The import with these words behind its dots.
+pub fn import_more(import: Import, more: Vec<Word>) -> Import {
+    let mut import = import;
+    import.more = Words::of(more);
+    import
+}
+
+/// The import with `as s`.
+pub fn import_as(m: &impl Maker, import: Import, s: &str) -> Import {
+    let mut import = import;
+    import.prefix = Some(word(m, s));
+    import
+}
+
+/// `type s t;`
+pub fn type_def(m: &impl Maker, public: bool, s: &str, t: TypeTree) -> Def {
+    let name = word(m, s);
+    let ty = boxed(m, t);
+    Def::Type(TypeDef {
+        public,
+        name,
+        ty,
+        at: AT,
     })
 }
 
-pub fn block_body(a: Global, stmts: Option<Vec<Stmt>>) -> Option<Body> {
-    worker_body(stmts, none(a), none(a))
+/// `const s = value;`
+pub fn const_def(m: &impl Maker, public: bool, s: &str, value: ConstValue) -> Def {
+    let name = word(m, s);
+    Def::Const(ConstDef {
+        public,
+        ty: None,
+        name,
+        value,
+        at: AT,
+    })
 }
 
-pub fn worker_body(
-    stmts: Option<Vec<Stmt>>,
-    workers: Option<Vec<Worker>>,
-    rest: Option<Vec<Stmt>>,
-) -> Option<Body> {
-    let stmts = Stmts::of(stmts?);
-    let workers = Workers::of(workers?);
-    let rest = Stmts::of(rest?);
-    Some(Body::Block {
+/// `const t s = value;`
+pub fn typed_const_def(
+    m: &impl Maker,
+    public: bool,
+    t: TypeTree,
+    s: &str,
+    value: ConstValue,
+) -> Def {
+    let ty = Some(boxed(m, t));
+    let name = word(m, s);
+    Def::Const(ConstDef {
+        public,
+        ty,
+        name,
+        value,
+        at: AT,
+    })
+}
+
+/// `t s = e;`
+pub fn variable_def(m: &impl Maker, t: TypeTree, s: &str, e: Expr) -> VariableDef {
+    let ty = boxed(m, t);
+    let name = word(m, s);
+    let value = boxed(m, e);
+    VariableDef {
+        public: false,
+        is_final: false,
+        ty,
+        name,
+        value,
+        at: AT,
+    }
+}
+
+pub fn variable_with(public: bool, is_final: bool, def: VariableDef) -> Def {
+    let mut def = def;
+    def.public = public;
+    def.is_final = is_final;
+    Def::Variable(def)
+}
+
+pub fn expr_body(m: &impl Maker, e: Expr) -> Body {
+    let value = boxed(m, e);
+    Body::Expr { value, at: AT }
+}
+
+pub fn block_body(m: &impl Maker, stmts: Vec<Stmt>) -> Body {
+    worker_body(stmts, none(m), none(m))
+}
+
+pub fn worker_body(stmts: Vec<Stmt>, workers: Vec<Worker>, rest: Vec<Stmt>) -> Body {
+    let stmts = Stmts::of(stmts);
+    let workers = Workers::of(workers);
+    let rest = Stmts::of(rest);
+    Body::Block {
         stmts,
         workers,
         rest,
         close: AT,
         at: AT,
-    })
+    }
+}
+
+/// `worker s { .. }`
+pub fn worker(m: &impl Maker, s: &str, body: Block) -> Worker {
+    let name = word(m, s);
+    Worker {
+        name,
+        result: None,
+        body,
+        at: AT,
+    }
+}
+
+/// `worker s returns t { .. }`
+pub fn worker_giving(m: &impl Maker, s: &str, t: TypeTree, body: Block) -> Worker {
+    let name = word(m, s);
+    let result = Some(boxed(m, t));
+    Worker {
+        name,
+        result,
+        body,
+        at: AT,
+    }
 }
 
 /// `function s(params) body`
-pub fn function(
-    a: Global,
-    s: &str,
-    params: Option<Params>,
-    body: Option<Body>,
-) -> Option<FunctionDef> {
-    let name = word(a, s)?;
-    Some(FunctionDef {
+pub fn function(m: &impl Maker, s: &str, params: Params, body: Body) -> FunctionDef {
+    let name = word(m, s);
+    FunctionDef {
         public: false,
         isolated: false,
         name,
-        params: params?,
+        params,
         result: None,
-        body: body?,
+        body,
         at: AT,
-    })
+    }
 }
 
-pub fn function_with(public: bool, isolated: bool, def: Option<FunctionDef>) -> Option<Def> {
-    let mut def = def?;
+/// The function with `returns t`.
+pub fn giving(m: &impl Maker, def: FunctionDef, t: TypeTree) -> FunctionDef {
+    let mut def = def;
+    def.result = Some(boxed(m, t));
+    def
+}
+
+pub fn function_with(public: bool, isolated: bool, def: FunctionDef) -> Def {
+    let mut def = def;
     def.public = public;
     def.isolated = isolated;
-    Some(Def::Function(def))
+    Def::Function(def)
+}
+
+/// A file that is one definition.
+pub fn file_of(m: &impl Maker, def: Def) -> FileTree {
+    file(none(m), one(m, def))
+}
+
+/// A file that defines a type.
+pub fn file_of_type(m: &impl Maker, t: TypeTree) -> FileTree {
+    file_of(m, type_def(m, false, "T", t))
+}
+
+/// A file that defines a variable.
+pub fn file_of_expr(m: &impl Maker, e: Expr) -> FileTree {
+    file_of(
+        m,
+        variable_with(false, false, variable_def(m, any_type(), "v", e)),
+    )
+}
+
+/// A file that defines a function without parameters.
+pub fn file_of_body(m: &impl Maker, body: Body) -> FileTree {
+    file_of(
+        m,
+        function_with(false, false, function(m, "f", params(none(m)), body)),
+    )
+}
+
+/// A file that defines a function whose body is one statement.
+pub fn file_of_stmt(m: &impl Maker, stmt: Stmt) -> FileTree {
+    file_of_body(m, block_body(m, one(m, stmt)))
 }

@@ -1,4 +1,4 @@
-use Rattle.std.proofs.Common.{List, [], ◌∷◌, ℕ, length, sym, ap, ◌∙◌, subst}
+use Rattle.std.proofs.Common.{List, ℕ, length, sym, ap, ◌∙◌, subst}
 use Rattle.std.proofs.lemmas.Option.{none-some, same_Some}
 use Rattle.bal_run.specs.Form.{place_of, ImportReads, MainReads}
 use Rattle.bal_run.proofs.ReadingFile.{is_sum_program}
