@@ -70,8 +70,8 @@ fn waits(m: &impl Maker) -> Vec<Stmt> {
 
 /// The statements behind the workers.
 fn rest(m: &impl Maker) -> Vec<Stmt> {
-    let prefix = method(m, variable(m, "o"), "m", one(m, var(m, "a")));
-    let starts = before(m, ActionOp::CheckPanic, start(prefix));
+    let o_m = method(m, variable(m, "o"), "m", one(m, var(m, "a")));
+    let starts = before(m, ActionOp::CheckPanic, start(o_m));
     let stmts = and(m, waits(m), assigned(m, starts));
     let stmts = and(m, stmts, ignore(acts(m, receive(default_peer()))));
     and(m, stmts, give(evaluates(m, var(m, "r"))))
