@@ -1,5 +1,5 @@
 pub mod Calls
 pub mod Content
 pub mod Faults
-pub mod Memory
+pub mod Held
 pub mod Pieces

@@ -1,10 +1,10 @@
 //! A folder in memory.
 ghost use Rattle.std.specs.Prelude.{◌≡◌, ◌≤◌, ◌<◌, ◌+◌, ◌^◌, ◌↔◌, IfOk, OnErr, IsTrue, length, vec_len};
-ghost use Rattle.bal_io.specs.Calls.{no_calls, IsDue, has_failed, LogsCall};
+ghost use Rattle.bal_io.specs.Calls.{no_calls, WillFail, has_failed, LogsCall};
 ghost use Rattle.bal_io.specs.Content.{IsNameAt, IsFrontAt};
 ghost use Rattle.bal_io.specs.Faults.{CountsFaults};
 
-use crate::calls::Calls;
+use crate::calls::{Calls, Fails};
 use crate::outside::Folder;
 use crate::piece::first_bytes;
 use bal_base::{Bytes, Failed, Name, Stop};
@@ -19,7 +19,7 @@ pub struct MemFolder {
 }
 
 impl Model for MemFolder {
-    ghost use Rattle.bal_io.specs.Memory.{HeldFolder};
+    ghost use Rattle.bal_io.specs.Held.{HeldFolder};
 
     ghost Value = { HeldFolder };
 
@@ -34,7 +34,7 @@ impl MemFolder {
     {
         MemFolder {
             files,
-            calls: Calls::new(fails),
+            calls: Calls::new(Fails::Listed(fails)),
         }
     }
 }
@@ -52,9 +52,9 @@ impl Folder for MemFolder {
         ensures faults { CountsFaults self.old.calls.faults self.new.calls.faults result }
         ensures unchanged { self.new.files ≡ self.old.files }
         ensures count { IfOk result (λ n. n ≡ length self.old.files) }
-        ensures err { length self.old.files < 2 ^ 32 → OnErr result (IsDue self.old.calls) }
+        ensures err { length self.old.files < 2 ^ 32 → OnErr result (WillFail self.old.calls) }
         ensures log { LogsCall self.old.calls self.new.calls (has_failed result) }
-        ensures due { IsTrue (has_failed result) ↔ IsDue self.old.calls }
+        ensures due { IsTrue (has_failed result) ↔ WillFail self.old.calls }
     {
         if self.calls.next_fails() {
             return Err(Stop::Fault(Failed));
@@ -68,9 +68,9 @@ impl Folder for MemFolder {
         ensures faults { CountsFaults self.old.calls.faults self.new.calls.faults result }
         ensures unchanged { self.new.files ≡ self.old.files }
         ensures name { IfOk result (IsNameAt self.old.files i) }
-        ensures err { OnErr result (IsDue self.old.calls) }
+        ensures err { OnErr result (WillFail self.old.calls) }
         ensures log { LogsCall self.old.calls self.new.calls (has_failed result) }
-        ensures due { IsTrue (has_failed result) ↔ IsDue self.old.calls }
+        ensures due { IsTrue (has_failed result) ↔ WillFail self.old.calls }
     {
         if self.calls.next_fails() {
             return Err(Stop::Fault(Failed));
@@ -86,7 +86,7 @@ impl Folder for MemFolder {
         ensures bytes { IfOk result (λ v. IsFrontAt self.old.files i (max + 1) v.items) }
         ensures bound { IfOk result (λ v. vec_len v ≤ max + 1) }
         ensures log { LogsCall self.old.calls self.new.calls (has_failed result) }
-        ensures due { IsTrue (has_failed result) ↔ IsDue self.old.calls }
+        ensures due { IsTrue (has_failed result) ↔ WillFail self.old.calls }
     {
         if self.calls.next_fails() {
             return Err(Stop::Fault(Failed));

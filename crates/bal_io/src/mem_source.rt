@@ -1,10 +1,10 @@
 //! An input in memory.
 ghost use Rattle.std.specs.Prelude.{◌≡◌, ◌≤◌, ◌↔◌, length, IsTrue, IfOk, IfSome, OnErr};
-ghost use Rattle.bal_io.specs.Calls.{no_calls, IsDue, has_failed, LogsCall};
+ghost use Rattle.bal_io.specs.Calls.{no_calls, WillFail, has_failed, LogsCall};
 ghost use Rattle.bal_io.specs.Content.{ReadsLine};
 ghost use Rattle.bal_io.specs.Faults.{CountsFaults};
 
-use crate::calls::Calls;
+use crate::calls::{Calls, Fails};
 use crate::outside::{Line, Source};
 use crate::piece::{FirstLine, first_line};
 use bal_base::{Bytes, Failed, Stop};
@@ -21,7 +21,7 @@ pub struct MemSource {
 
 impl Model for MemSource {
     ghost use Rattle.std.specs.Prelude.{◌≤◌, vec_len, drop};
-    ghost use Rattle.bal_io.specs.Memory.{HeldInput};
+    ghost use Rattle.bal_io.specs.Held.{HeldInput};
 
     ghost Value = { HeldInput };
 
@@ -39,7 +39,7 @@ impl MemSource {
         MemSource {
             bytes,
             at: 0,
-            calls: Calls::new(fails),
+            calls: Calls::new(Fails::Listed(fails)),
         }
     }
 }
@@ -58,7 +58,7 @@ impl Source for MemSource {
         ensures bound { IfOk result (λ line. IfSome line (λ l. length l.bytes ≤ max)) }
         ensures err { OnErr result (self.new.rest ≡ self.old.rest) }
         ensures log { LogsCall self.old.calls self.new.calls (has_failed result) }
-        ensures due { IsTrue (has_failed result) ↔ IsDue self.old.calls }
+        ensures due { IsTrue (has_failed result) ↔ WillFail self.old.calls }
     {
         if self.calls.next_fails() {
             return Err(Stop::Fault(Failed));

@@ -23,6 +23,17 @@ pub(crate) struct Piece<'a> {
     pub(crate) end: End,
 }
 
+/// The first `n` bytes, or all where there are fewer.
+pub(crate) fn front(bytes: &[u8], n: u64) -> &[u8]
+    ensures { result.now ≡ take n bytes.now }
+{
+    if n < bytes.len() as u64 {
+        &bytes[..n as usize]
+    } else {
+        bytes
+    }
+}
+
 /// The first `max + 1` bytes, or all where there are fewer.
 pub(crate) fn first_bytes(bytes: &[u8], max: u64) -> &[u8]
     ensures { result.now ≡ take (max + 1) bytes.now }

@@ -165,6 +165,28 @@ fn output_in_memory(rt: HostRuntime) -> Result<(), Fail> {
 }
 
 #[test]
+fn output_that_is_cut(rt: HostRuntime) -> Result<(), Fail> {
+    for (taken, written) in [
+        (0, "abef"),
+        (1, "abcef"),
+        (2, "abcdef"),
+        (3, "abcdef"),
+        (u64::MAX, "abcdef"),
+    ] {
+        let mut sink = MemSink::cut(rt.alloc(), 1, taken);
+        sink.write(b"ab")?;
+        assert_eq!(rt; sink.write(b"cd"), Err(Stop::Fault(Failed)));
+        sink.write(b"ef")?;
+        assert_eq!(rt;
+            sink.written(),
+            written.as_bytes(),
+            "where {taken} are taken"
+        );
+    }
+    Ok(())
+}
+
+#[test]
 fn calls_that_fail(rt: HostRuntime) -> Result<(), Fail> {
     for k in 0..4 {
         let mut folder = two_files(rt.alloc(), &[k])?;

@@ -12,7 +12,8 @@ pub record HeldInput : Type 0 where
   pub rest : List ℕ
   pub calls : CallLog
 
--- the bytes that were written
+-- the bytes that were written, and how many bytes of its piece a call that fails takes at most
 pub record HeldOutput : Type 0 where
   pub written : List ℕ
+  pub taken : ℕ
   pub calls : CallLog
