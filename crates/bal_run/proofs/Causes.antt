@@ -13,7 +13,7 @@ use Rattle.bal_run.specs.Status.{no_main, not_a_definition}
 use Rattle.bal_run.specs.Words.{IsGood}
 use Rattle.bal_run.proofs.Simulation.{CodeRuns-one}
 use Rattle.bal_io.specs.Faults.{Rises}
-use Rattle.bal_tree.specs.Evaluation.{Evaluates}
+use Rattle.bal_run.specs.Evaluation.{Evaluates}
 use Rattle.bal_tree.specs.declared.def.FileTree.{FileTree}
 
 -- ---- the answer and what was due

@@ -9,7 +9,7 @@ use Rattle.bal_base.specs.declared.stop.Stop.{Stop}
 use Rattle.bal_base.specs.declared.stop.Stop.TheVariants.{Memory as OutOfMemory, Fault}
 use Rattle.bal_io.specs.Content.{Told, Appends, AppendsFront}
 use Rattle.bal_io.specs.Faults.{CountsFaults}
-use Rattle.bal_tree.specs.Evaluation.{Evaluates}
+use Rattle.bal_run.specs.Evaluation.{Evaluates}
 use Rattle.bal_run.specs.declared.machine.Ending.{Ending}
 use Rattle.bal_run.specs.declared.machine.Ending.TheVariants.{Returned as ReturnedEnding, Overflowed}
 use Rattle.bal_run.specs.declared.status.Built.{Built}

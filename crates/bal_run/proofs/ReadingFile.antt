@@ -16,8 +16,8 @@ use Rattle.bal_tree.specs.declared.def.Def.{Def}
 use Rattle.bal_tree.specs.declared.def.Def.TheVariants.{Function}
 use Rattle.bal_tree.specs.declared.def.Body.{Body}
 use Rattle.bal_tree.specs.declared.def.Body.TheVariants.{Block}
-use Rattle.bal_tree.specs.Evaluation.{IsPrintln, Prints, PrintsBy, HasStmts, IsMain}
-use Rattle.bal_tree.specs.Sums.{IsSum, PrintsSum, IsSumProgram}
+use Rattle.bal_run.specs.Evaluation.{IsPrintln, Prints, PrintsBy, HasStmts, IsMain}
+use Rattle.bal_run.specs.Sums.{IsSum, PrintsSum, IsSumProgram}
 use Rattle.bal_tree.specs.Lists.{stmts_list}
 use Rattle.bal_run.specs.Form.{place_of, LiteralReads, ProductReads, SumReads, CallAt, PrintsAt, StmtsRead, IsBodyOf, IsMainFunction, FileReads}
 

@@ -15,9 +15,9 @@ use Rattle.bal_tree.specs.declared.def.Def.{Def}
 use Rattle.bal_tree.specs.declared.def.Def.TheVariants.{Function}
 use Rattle.bal_tree.specs.declared.def.Body.{Body}
 use Rattle.bal_tree.specs.declared.def.Body.TheVariants.{Block}
-use Rattle.bal_tree.specs.Evaluation.{Evaluates, Gives, Overflows, Prints, PrintsBy, Runs, IsMain, HasStmts}
+use Rattle.bal_run.specs.Evaluation.{Evaluates, Gives, Overflows, Prints, PrintsBy, Runs, IsMain, HasStmts}
 use Rattle.bal_tree.specs.Lists.{defs_list}
-use Rattle.bal_tree.specs.Sums.{IsSum, PrintsSum}
+use Rattle.bal_run.specs.Sums.{IsSum, PrintsSum}
 use Rattle.stack_code.specs.declared.value.Value.TheVariants.{Nil, Int}
 use Rattle.stack_code.specs.declared.instr.Constant.TheVariants.{Nil as ConstantNil}
 use Rattle.stack_code.specs.declared.instr.Instr.{Instr}

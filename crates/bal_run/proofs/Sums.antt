@@ -10,8 +10,8 @@ use Rattle.bal_tree.specs.declared.expr.Postfix.{Primary}
 use Rattle.bal_tree.specs.declared.expr.Primary.{Literal}
 use Rattle.bal_tree.specs.declared.expr.BinaryOp.{BinaryOp}
 use Rattle.bal_tree.specs.declared.expr.BinaryOp.TheVariants.{Add as Plus, Multiply}
-use Rattle.bal_tree.specs.Evaluation.{Gives, Overflows, Combines}
-use Rattle.bal_tree.specs.Sums.{IsSum, IsSumOp}
+use Rattle.bal_run.specs.Evaluation.{Gives, Overflows, Combines}
+use Rattle.bal_run.specs.Sums.{IsSum, IsSumOp}
 use Rattle.stack_code.specs.declared.value.Value.{Value}
 use Rattle.stack_code.specs.declared.value.Value.TheVariants.{Int}
 use Rattle.stack_code.specs.declared.instr.Constant.TheVariants.{Int as ConstantInt}

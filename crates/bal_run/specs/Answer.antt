@@ -9,7 +9,7 @@ use Rattle.bal_base.specs.declared.stop.Stop.{Stop}
 use Rattle.bal_base.specs.declared.stop.Stop.TheVariants.{Memory as OutOfMemory, Fault as FaultStop}
 use Rattle.bal_io.specs.Content.{Told, Appends, AppendsFront, IsPrefixOf}
 use Rattle.bal_io.specs.Faults.{Rises}
-use Rattle.bal_tree.specs.Evaluation.{Evaluates}
+use Rattle.bal_run.specs.Evaluation.{Evaluates}
 use Rattle.bal_run.specs.declared.compile.LoadFault.{LoadFault}
 use Rattle.bal_run.specs.declared.compile.LoadFault.TheVariants.{Folder, NoMain, NotOfForm}
 use Rattle.bal_run.specs.declared.machine.Ending.{Ending}

@@ -1,8 +1,10 @@
 pub mod Answer
+pub mod Evaluation
 pub mod Files
 pub mod Form
 pub mod Lowering
 pub mod Reading
 pub mod Running
 pub mod Status
+pub mod Sums
 pub mod Words

@@ -11,9 +11,9 @@ use Rattle.bal_tree.specs.declared.expr.BinaryOp.TheVariants.{Multiply}
 use Rattle.bal_tree.specs.declared.def.FileTree.{FileTree}
 use Rattle.bal_tree.specs.declared.def.Def.{Def}
 use Rattle.bal_tree.specs.declared.stmt.Stmt.{Stmt}
-use Rattle.bal_tree.specs.Evaluation.{Evaluates, IsMain, Prints}
+use Rattle.bal_run.specs.Evaluation.{Evaluates, IsMain, Prints}
 use Rattle.bal_tree.specs.Lists.{defs_list}
-use Rattle.bal_tree.specs.Sums.{IsSum, PrintsSum}
+use Rattle.bal_run.specs.Sums.{IsSum, PrintsSum}
 use Rattle.stack_code.specs.declared.instr.Constant.{Constant}
 use Rattle.stack_code.specs.declared.instr.Constant.TheVariants.{Int as ConstantInt}
 use Rattle.stack_code.specs.declared.instr.Instr.{Instr}

@@ -4,8 +4,8 @@ ghost use Rattle.bal_tree.specs.declared.stmt.Stmt.{Stmt};
 ghost use Rattle.std.specs.List.{AllByRecursion};
 ghost use Rattle.bal_run.specs.Lowering.{Simulates, constants_of, sum_code, operator, IsMainOf, StartsAtZero};
 ghost use Rattle.bal_tree.specs.declared.expr.Expr.{Postfix as PostfixExpr};
-ghost use Rattle.bal_tree.specs.Evaluation.{IsMain, HasStmts, Prints, PrintsBy};
-ghost use Rattle.bal_tree.specs.Sums.{IsSum, IsSumOp, PrintsSum, PrintsSumBy, IsSumProgram};
+ghost use Rattle.bal_run.specs.Evaluation.{IsMain, HasStmts, Prints, PrintsBy};
+ghost use Rattle.bal_run.specs.Sums.{IsSum, IsSumOp, PrintsSum, PrintsSumBy, IsSumProgram};
 ghost use Rattle.stack_code.specs.declared.instr.Constant.TheVariants.{Int as ConstantInt};
 ghost use Rattle.stack_code.specs.declared.instr.Instr.TheVariants.{Const, Native, Pop};
 

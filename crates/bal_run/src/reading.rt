@@ -1,7 +1,7 @@
 //! The reading of a source file.
 ghost use Rattle.std.specs.Prelude.{◌≡◌, ◌≤◌, length, List, ℕ, Some, IfOk, IfSome, IfNone, option_map};
 ghost use Rattle.bal_tree.specs.declared.def.FileTree.{FileTree};
-ghost use Rattle.bal_tree.specs.Sums.{IsSumProgram};
+ghost use Rattle.bal_run.specs.Sums.{IsSumProgram};
 ghost use Rattle.bal_tree.specs.declared.def.Def.{Def};
 ghost use Rattle.bal_tree.specs.declared.def.Import.{Import};
 ghost use Rattle.bal_run.specs.Form.{IsIoImport, IsMainFunction, ImportReads, MainReads, FileReads};

@@ -5,7 +5,7 @@ ghost use Rattle.bal_base.specs.End.{End, Returned, Panicked, number_overflow};
 ghost use Rattle.bal_base.specs.declared.fault.Refusal.{Refusal as Refused};
 ghost use Rattle.bal_io.specs.Content.{Told, AppendsFront};
 ghost use Rattle.bal_io.specs.Faults.{Rises};
-ghost use Rattle.bal_tree.specs.Evaluation.{Evaluates};
+ghost use Rattle.bal_run.specs.Evaluation.{Evaluates};
 ghost use Rattle.bal_tree.specs.declared.def.FileTree.{FileTree};
 ghost use Rattle.bal_run.specs.Answer.{ComesTo, Evaluated, IsDue, IsRefusalOf, IsRefusedOr, IsStatusOfEnd, IsStatusOfLoad, Tells, CountsDiagFaults, status_of};
 ghost use Rattle.bal_run.specs.Files.{Files, CompilesTo, HasNoMain, HasNoProgram, IsTreeOf};

@@ -1,7 +1,6 @@
 pub mod ActionPieces
 pub mod DefPieces
 pub mod Edges
-pub mod Evaluation
 pub mod ExprParts
 pub mod ExprPieces
 pub mod FormedParts
@@ -14,7 +13,6 @@ pub mod PlainNames
 pub mod Reads
 pub mod StmtParts
 pub mod StmtPieces
-pub mod Sums
 pub mod TypeParts
 pub mod TypePieces
 pub mod WellFormed

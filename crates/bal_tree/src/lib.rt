@@ -14,8 +14,7 @@
 //! - [`well_formed`]: whether a file's tree is one that its tokens may be read as.
 //!
 //! `specs/DefPieces.antt` and the files below it say which tokens a tree has, `specs/WellFormed.antt` which trees
-//! are well formed, `specs/Reads.antt` which tokens read as which tree, and `specs/Evaluation.antt` what the trees
-//! of a `main` that prints sums mean.
+//! are well formed, and `specs/Reads.antt` which tokens read as which tree.
 #![tactic(auto)]
 
 mod action;

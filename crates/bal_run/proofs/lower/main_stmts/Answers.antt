@@ -1,7 +1,7 @@
 use Rattle.std.proofs.Common.{get_or, sym, ap, subst, ◌∙◌}
 use Rattle.std.specs.List.{AllByRecursion}
-use Rattle.bal_tree.specs.Evaluation.{IsMain}
-use Rattle.bal_tree.specs.Sums.{PrintsSum}
+use Rattle.bal_run.specs.Evaluation.{IsMain}
+use Rattle.bal_run.specs.Sums.{PrintsSum}
 use Rattle.bal_tree.specs.declared.def.Def.TheVariants.{Function}
 use Rattle.bal_run.proofs.Simulation.{same-statements}
 use Rattle.bal_run.proofs.lower.main_stmts.Goals as goal

@@ -11,7 +11,7 @@ use Rattle.bal_tree.specs.declared.expr.Primary.{Literal}
 use Rattle.bal_tree.specs.declared.stmt.Stmt.{Stmt}
 use Rattle.bal_tree.specs.declared.def.FileTree.{FileTree}
 use Rattle.bal_tree.specs.declared.def.Def.{Def}
-use Rattle.bal_tree.specs.Evaluation.{Prints, PrintsBy, IsMain}
+use Rattle.bal_run.specs.Evaluation.{Prints, PrintsBy, IsMain}
 use Rattle.bal_tree.specs.Lists.{defs_list}
 
 -- `+` and `*`
