@@ -4,7 +4,7 @@ use Rattle.std.specs.Prelude.{option_and_then}
 use Rattle.std.proofs.lemmas.Option.{same_Some, none-some}
 use Rattle.bal_tree.specs.declared.expr.Expr.{Expr}
 use Rattle.bal_tree.specs.declared.stmt.Stmt.{Stmt}
-use Rattle.bal_run.specs.Form.{Lexeme, Lexemes, println_prefix, println_word, println_closing, SumReads, literals, StmtReads, StmtsRead, BlockReads}
+use Rattle.bal_run.specs.Form.{Lexeme, Lexemes, println_prefix, println_word, println_closing, SumReads, literals, most_literals, StmtReads, StmtsRead, BlockReads}
 use Rattle.bal_run.specs.Reading.{lexeme_rest, lexemes_rest, operator_rest, terms, statement_rest}
 use Rattle.bal_run.proofs.ReadingLexeme.{lexeme_only, lexemes_only, lexemes_join, lexemes_rest-append, lexeme_shorter, lexemes_shorter}
 use Rattle.bal_run.proofs.ReadingSum.{sum_terms, sum_shorter, go_on_none, operator_none}
@@ -17,16 +17,16 @@ opening = println_prefix ++ println_word
 abbrev colon : List (List ℕ × ℕ)
 colon = (codes ":", 0) ∷ []
 
-pub sum_only : (size : ℕ) (bytes : List ℕ) (sum : Expr) (after rest : List ℕ) → SumReads size bytes sum after → literals sum ≤ 100 → Lexemes println_closing after rest → terms 100 bytes ≡ Some after
+pub sum_only : (size : ℕ) (bytes : List ℕ) (sum : Expr) (after rest : List ℕ) → SumReads size bytes sum after → literals sum ≤ most_literals → Lexemes println_closing after rest → terms most_literals bytes ≡ Some after
 sum_only size bytes sum after rest reads few closing =
-    let count : 100 ≡ literals sum + (100 - literals sum) = omega arith in
-    ap (λ n. terms n bytes) count ∙ sum_terms size bytes sum after (100 - literals sum) reads
+    let count : most_literals ≡ literals sum + (most_literals - literals sum) = omega arith in
+    ap (λ n. terms n bytes) count ∙ sum_terms size bytes sum after (most_literals - literals sum) reads
     ∙ go_on_none _ after (ap operator_rest closing.1.1 ∙ operator_none closing.1.0)
 
 pub statement_only : (size : ℕ) (bytes : List ℕ) (stmt : Stmt) (rest : List ℕ) → StmtReads size bytes stmt rest → statement_rest bytes ≡ Some rest
 unfolding statement_rest
 statement_only size bytes stmt rest h =
-    ap (option_and_then (λ inside. option_and_then (lexemes_rest println_closing) (terms 100 inside))) (lexemes_only opening bytes h.1 (lexemes_join println_prefix println_word bytes h.0 h.1 h.4 h.5))
+    ap (option_and_then (λ inside. option_and_then (lexemes_rest println_closing) (terms most_literals inside))) (lexemes_only opening bytes h.1 (lexemes_join println_prefix println_word bytes h.0 h.1 h.4 h.5))
     ∙ ap (option_and_then (lexemes_rest println_closing)) (sum_only size h.1 h.3 h.2 rest h.6 h.8 h.7)
     ∙ lexemes_only println_closing h.2 rest h.7
 
@@ -36,11 +36,11 @@ opening_rest bytes o h = lexemes_rest-append println_prefix println_word bytes �
 
 pub statement_none : (bytes : List ℕ) → lexemes_rest opening bytes ≡ None → statement_rest bytes ≡ None
 unfolding statement_rest
-statement_none bytes h = ap (option_and_then (λ inside. option_and_then (lexemes_rest println_closing) (terms 100 inside))) h
+statement_none bytes h = ap (option_and_then (λ inside. option_and_then (lexemes_rest println_closing) (terms most_literals inside))) h
 
-pub statement_some : (bytes inside : List ℕ) → lexemes_rest opening bytes ≡ Some inside → statement_rest bytes ≡ option_and_then (lexemes_rest println_closing) (terms 100 inside)
+pub statement_some : (bytes inside : List ℕ) → lexemes_rest opening bytes ≡ Some inside → statement_rest bytes ≡ option_and_then (lexemes_rest println_closing) (terms most_literals inside)
 unfolding statement_rest
-statement_some bytes inside h = ap (option_and_then (λ inside. option_and_then (lexemes_rest println_closing) (terms 100 inside))) h
+statement_some bytes inside h = ap (option_and_then (λ inside. option_and_then (lexemes_rest println_closing) (terms most_literals inside))) h
 
 pub statement_shorter : (size : ℕ) (bytes : List ℕ) (stmt : Stmt) (rest : List ℕ) → StmtReads size bytes stmt rest → length rest < length bytes
 statement_shorter size bytes stmt rest h =

@@ -15,6 +15,7 @@ use Rattle.std.specs.Char.{is_ascii_digit}
 use Rattle.std.proofs.lemmas.List.{length-drop}
 use Rattle.bal_run.specs.Form.{place_of, Lexeme, LiteralReads, ProductReads, SumReads, literals}
 use Rattle.bal_run.specs.declared.reading.sum.OpenSum.{OpenSum}
+use Rattle.bal_run.specs.declared.reading.sum.SumOp.TheVariants.{Plus, Times}
 use Rattle.bal_run.specs.Reading.{lexeme_rest, literal_rest, operator_rest, go_on, terms, IsBinary, Closes, Extends}
 use Rattle.std.proofs.lemmas.Option.{MatchOption-at_none, MatchOption-at_some}
 use Rattle.bal_run.proofs.ReadingLexeme.{lexeme_only, after_space-le, lexeme_shorter}
@@ -77,12 +78,12 @@ closes_some sum left e some binary size bytes rest reads =
     let whole = sum_plus size bytes p.0 p.1 rest e left sum.product binary p.2 p.3 p.4 in
     (whole.0, omega (arith, whole.1, ap (λ o. option_map_or literals o 0) some))
 
-pub extends_plus : (sum : OpenSum) (before right : Expr) → Closes sum before → Extends sum Add right record { before = Some before; product = right }
+pub extends_plus : (sum : OpenSum) (before right : Expr) → Closes sum before → Extends sum Plus right record { before = Some before; product = right }
 extends_plus sum before right closes size bytes rest next more reads sign literal =
     let p = closes size bytes rest reads in
     ((rest, next, p.0, sign, product_of_literal size next right more literal), omega (arith, p.1, literals_of_literal size next right more literal))
 
-extends_times-at : (before : Option Expr) (old product right : Expr) → IsBinary product old Multiply right → Extends record { before = before; product = old } Multiply right record { before = before; product = product }
+extends_times-at : (before : Option Expr) (old product right : Expr) → IsBinary product old Multiply right → Extends record { before = before; product = old } Times right record { before = before; product = product }
 extends_times-at None old product right binary size bytes rest next more reads sign literal =
     let p = product_times size bytes rest next more product old right binary reads sign literal in
     (p.0, omega (arith, p.1))
@@ -90,7 +91,7 @@ extends_times-at (Some left) old product right binary size bytes rest next more 
     let p = product_times size reads.1 rest next more product old right binary reads.4 sign literal in
     ((reads.0, reads.1, reads.2, reads.3, p.0), omega (arith, p.1))
 
-pub extends_times : (sum : OpenSum) (product right : Expr) → IsBinary product sum.product Multiply right → Extends sum Multiply right record { before = sum.before; product = product }
+pub extends_times : (sum : OpenSum) (product right : Expr) → IsBinary product sum.product Multiply right → Extends sum Times right record { before = sum.before; product = product }
 extends_times sum product right binary = extends_times-at sum.before sum.product product right binary
 
 -- ---- what is left behind

@@ -24,10 +24,11 @@ use Rattle.stack_code.specs.declared.instr.Instr.{Instr}
 use Rattle.stack_code.specs.declared.instr.Instr.TheVariants.{Tick, Const, Native, Pop, Return}
 use Rattle.stack_code.specs.declared.code.Code.{Code}
 use Rattle.stack_code.specs.declared.code.Unit.{Unit as CodeUnit}
+use Rattle.stack_code.specs.Outcome.{Given, Outcome}
 use Rattle.stack_code.specs.Machine.{State, Next, On, Ends, Does, Step, RunsFrom, CodeRuns, IsStart, value_of}
 use Rattle.bal_run.specs.Lowering.{Simulates, constants_of, sum_code, print_code, print_constants, PrintEach, IsMainOf, StartsAtZero}
 use Rattle.bal_run.proofs.Stands.{Stands, Stands-front, Stands-back, Stands-here}
-use Rattle.bal_run.proofs.Steps.{at_some, one_step, then_run, RunsFrom-one}
+use Rattle.bal_run.proofs.Steps.{at_some, one_step, outcome, then_run, RunsFrom-one}
 use Rattle.bal_run.proofs.Sums.{state, sum-pushes, sum-panics, sum-ends}
 
 -- ---- what the statements mean is determined
@@ -40,12 +41,12 @@ same-sum : (s : Stmt) (e f : Expr) → Prints s e → Prints s f → e ≡ f
 same-sum (Rhs (Expression call) place) e f h k = same-argument call.value e f h k
 same-sum s e f h k = absurd h
 
-pub statements-end : (ss : List Stmt) → AllByRecursion PrintsSum ss → (output : List ℕ) × (end : End) × Runs ss output end
-statements-end [] h = ([], Returned, (refl, refl))
+pub statements-end : (ss : List Stmt) → AllByRecursion PrintsSum ss → (o : Outcome) × Runs ss o
+statements-end [] h = (outcome [] Returned, refl)
 statements-end (s ∷ ss) ((e, p, q), h) =
     ⊎_elim
-    (λ g. let r = statements-end ss h in (signed_decimal g.0 ++ (10 ∷ r.0), r.1, (e, p, inl (g.0, r.0, g.1, r.2, refl))))
-    (λ o. ([], Panicked number_overflow, (e, p, inr (o, refl, refl))))
+    (λ g. let r = statements-end ss h in (outcome (signed_decimal g.0 ++ (10 ∷ r.0.output)) r.0.end, (e, p, inl (g.0, r.0, g.1, r.1, refl))))
+    (λ o. (outcome [] (Panicked number_overflow), (e, p, inr (o, refl))))
     (sum-ends e q)
 
 -- ---- statements
@@ -59,7 +60,7 @@ module _ (code : Code) where
     pub leave : slice_get code.instrs (place + length (print_code first es) + 1) ≡ Some Return
     pub zero_is_nil : slice_get code.constants 0 ≡ Some ConstantNil
 
-  ends-here : (first place : ℕ) (out : List ℕ) → HasPrints first place [] → (n : ℕ) × RunsFrom code n (state place [] out) out Returned
+  ends-here : (first place : ℕ) (out : List ℕ) → HasPrints first place [] → (n : ℕ) × RunsFrom code n (state place [] out) (outcome out Returned)
   ends-here first place out h =
       let s = state place [] out in
       let t = state (place + 1) (Nil ∷ []) out in
@@ -68,7 +69,7 @@ module _ (code : Code) where
       let push : Step code s (On t) = at_some _ _ (λ i. Does code i s (On t)) at (at_some _ _ (λ k. On t ≡ On (state (place + 1) (value_of k ∷ []) out)) h.zero_is_nil refl) in
       let end : Next = Ends Returned in
       let leave : Step code t end = at_some _ _ (λ i. Does code i t end) next refl in
-      (2, (On t, push, (end, leave, (refl, refl, refl))))
+      (2, (On t, push, (end, leave, (refl, refl))))
 
   rest-of : (first place : ℕ) (e : Expr) (es : List Expr) → HasPrints first place (e ∷ es) → HasPrints (first + length (constants_of e)) (place + length (sum_code first e) + 1 + 1) es
   rest-of first place e es h =
@@ -84,34 +85,42 @@ module _ (code : Code) where
         zero_is_nil = h.zero_is_nil;
       }
 
-  -- the statements' code writes their output and comes to their end
-  pub prints-run : (es : List Expr) (ss : List Stmt) (first place : ℕ) (out o : List ℕ) (end : End) → PrintEach ss es → Runs ss o end → HasPrints first place es → (n : ℕ) × RunsFrom code n (state place [] out) (out ++ o) end
-  prints-run [] [] first place out o end p r h =
-      let k = ends-here first place out h in
-      (k.0, subst (λ e. RunsFrom code k.0 (state place [] out) (out ++ o) e) (sym r.1) (subst (λ l. RunsFrom code k.0 (state place [] out) l Returned) (sym (ap (λ l. out ++ l) r.0 ∙ append-nil out)) k.1))
-  prints-run (e ∷ es) (s ∷ ss) first place out o end (p, q, ps) (f, pf, inl (z, more, g, r, is)) h =
+  -- what the code wrote, and then the outcome of what follows
+  abbrev followed : List ℕ → Outcome → Outcome
+  followed out o = outcome (out ++ o.output) o.end
+
+  -- where nothing more is written
+  nothing-more : (n : ℕ) (s : State) (out : List ℕ) (o : Outcome) (end : End) → o ≡ outcome [] end → RunsFrom code n s (outcome out end) → RunsFrom code n s (followed out o)
+  nothing-more n s out o end is r =
+      subst (λ x. RunsFrom code n s (followed out x)) (sym is) (subst (λ l. RunsFrom code n s (outcome l end)) (sym (append-nil out)) r)
+
+  -- the statements' code comes to their outcome
+  pub prints-run : (es : List Expr) (ss : List Stmt) (first place : ℕ) (out : List ℕ) (o : Outcome) → PrintEach ss es → Runs ss o → HasPrints first place es → (n : ℕ) × RunsFrom code n (state place [] out) (followed out o)
+  prints-run [] [] first place out o p r h =
+      let k = ends-here first place out h in (k.0, nothing-more k.0 (state place [] out) out o Returned r k.1)
+  prints-run (e ∷ es) (s ∷ ss) first place out o (p, q, ps) (f, pf, inl (z, more, g, r, is)) h =
       let same = same-sum s e f p pf in
       let m = place + length (sum_code first e) in
       let line = signed_decimal z ++ 10 ∷ [] in
       let pushed = sum-pushes code e first place [] out z (subst (λ x. Gives x z) (sym same) g) (Stands-front code.instrs place _ _ h.instrs, Stands-front code.constants first _ _ h.constants) in
-      let behind = Stands-back code.instrs place (sum_code first e) _ h.instrs in
+      let at = Stands-back code.instrs place (sum_code first e) _ h.instrs in
       let a = state m (Int z ∷ []) out in
       let b = state (m + 1) (Nil ∷ []) (out ++ line) in
       let c = state (m + 1 + 1) [] (out ++ line) in
-      let print : Step code a (On b) = at_some _ _ (λ i. Does code i a (On b)) behind.0 (refl, refl, refl, refl) in
-      let pop : Step code b (On c) = at_some _ _ (λ i. Does code i b (On c)) behind.1.0 refl in
-      let rest = prints-run es ss (first + length (constants_of e)) (m + 1 + 1) (out ++ line) more end ps r (rest-of first place e es h) in
+      let print : Step code a (On b) = at_some _ _ (λ i. Does code i a (On b)) at.0 (refl, refl, refl, refl) in
+      let pop : Step code b (On c) = at_some _ _ (λ i. Does code i b (On c)) at.1.0 refl in
+      let rest = prints-run es ss (first + length (constants_of e)) (m + 1 + 1) (out ++ line) more ps r (rest-of first place e es h) in
       let two = one_step code a b print in
       let three = one_step code b c pop in
-      let text : (out ++ line) ++ more ≡ out ++ o = append_assoc out line more ∙ ap (λ l. out ++ l) (append_assoc (signed_decimal z) (10 ∷ []) more ∙ sym is) in
-      let run = then_run code pushed.0 _ _ _ end pushed.1 (then_run code two.0 _ _ _ end two.1 (then_run code three.0 _ _ _ end three.1 rest)) in
-      (run.0, subst (λ l. RunsFrom code run.0 (state place [] out) l end) text run.1)
-  prints-run (e ∷ es) (s ∷ ss) first place out o end (p, q, ps) (f, pf, inr (over, empty, is)) h =
+      let text : (out ++ line) ++ more.output ≡ out ++ (signed_decimal z ++ (10 ∷ more.output)) = append_assoc out line more.output ∙ ap (λ l. out ++ l) (append_assoc (signed_decimal z) (10 ∷ []) more.output) in
+      let run = then_run code pushed.0 _ _ _ pushed.1 (then_run code two.0 _ _ _ two.1 (then_run code three.0 _ _ _ three.1 rest)) in
+      (run.0, subst (λ x. RunsFrom code run.0 (state place [] out) (followed out x)) (sym is) (subst (λ l. RunsFrom code run.0 (state place [] out) (outcome l more.end)) text run.1))
+  prints-run (e ∷ es) (s ∷ ss) first place out o (p, q, ps) (f, pf, inr (over, is)) h =
       let same = same-sum s e f p pf in
       let run = sum-panics code e first place [] out (subst Overflows (sym same) over) (Stands-front code.instrs place _ _ h.instrs, Stands-front code.constants first _ _ h.constants) in
-      (run.0, subst (λ x. RunsFrom code run.0 (state place [] out) (out ++ o) x) (sym is) (subst (λ l. RunsFrom code run.0 (state place [] out) l (Panicked number_overflow)) (sym (ap (λ l. out ++ l) empty ∙ append-nil out)) run.1))
-  prints-run [] (s ∷ ss) first place out o end p r h = absurd p
-  prints-run (e ∷ es) [] first place out o end p r h = absurd p
+      (run.0, nothing-more run.0 (state place [] out) out o (Panicked number_overflow) is run.1)
+  prints-run [] (s ∷ ss) first place out o p r h = absurd p
+  prints-run (e ∷ es) [] first place out o p r h = absurd p
 
 -- ---- programs
 
@@ -156,40 +165,40 @@ module _ (code : Code) (es : List Expr) (is : IsCodeOf code es) where
   first-state : State
   first-state = state 0 [] []
 
-  program-runs : (ss : List Stmt) (o : List ℕ) (end : End) → PrintEach ss es → Runs ss o end → (n : ℕ) × CodeRuns code n o end
-  program-runs ss o end p r =
+  program-runs : (given : Given) (ss : List Stmt) (o : Outcome) → PrintEach ss es → Runs ss o → (n : ℕ) × CodeRuns code given n o
+  program-runs given ss o p r =
       let s = state 0 [] [] in
       let t = state 1 [] [] in
-      let rest = prints-run code es ss 1 1 [] o end p r all-prints in
+      let rest = prints-run code es ss 1 1 [] o p r all-prints in
       let tick : Step code s (On t) = at_some _ _ (λ i. Does code i s (On t)) (ap (λ l. slice_get l 0) is.instrs) refl in
       let u = is.start.0 in
       let unit_at : slice_get code.units code.start ≡ Some u = (λ i. slice_get (is.start.3 i) (is.start.2 i)) in
-      let begin : IsStart code s = at_some _ _ (λ v. s ≡ state v.first [] []) unit_at (ap (λ n. state n [] []) (sym is.start.1)) in
+      let begin : IsStart code given s = at_some _ _ (λ v. s ≡ state v.first [] []) unit_at (ap (λ n. state n [] []) (sym is.start.1)) in
       (suc rest.0, (s, begin, (On t, tick, rest.1)))
 
 -- a start is one state
-pub start-one : (code : Code) (s t : State) → IsStart code s → IsStart code t → s ≡ t
-start-one code s t h k = by (slice_get code.units code.start) h k
+pub start-one : (code : Code) (given : Given) (s t : State) → IsStart code given s → IsStart code given t → s ≡ t
+start-one code given s t h k = by (slice_get code.units code.start) h k
   where
     by : (o : Option CodeUnit) → IsSomeAnd o (λ u. s ≡ state u.first [] []) → IsSomeAnd o (λ u. t ≡ state u.first [] []) → s ≡ t
     by (Some u) p q = p ∙ sym q
     by None p q = absurd p
 
-pub CodeRuns-one : (code : Code) (n m : ℕ) (o p : List ℕ) (e f : End) → CodeRuns code n o e → CodeRuns code m p f → (o ≡ p) × (e ≡ f)
-CodeRuns-one code n m o p e f (s, b, r) (t, c, q) =
-    RunsFrom-one code n m s o p e f r (subst (λ v. RunsFrom code m v p f) (sym (start-one code s t b c)) q)
+pub CodeRuns-one : (code : Code) (given : Given) (n m : ℕ) (o p : Outcome) → CodeRuns code given n o → CodeRuns code given m p → o ≡ p
+CodeRuns-one code given n m o p (s, b, r) (t, c, q) =
+    RunsFrom-one code n m s o p r (subst (λ v. RunsFrom code m v p) (sym (start-one code given s t b c)) q)
 
 pub simulates : (tree : FileTree) (code : Code) (ss : List Stmt) (es : List Expr) → IsMainOf tree ss → PrintEach ss es → IsCodeOf code es → Simulates tree code
 simulates tree code ss es main prints is =
-    let forth : (o : List ℕ) (e : End) → Evaluates tree o e → (n : ℕ) × CodeRuns code n o e =
-    λ o e ev. program-runs code es is ss o e prints (subst (λ l. Runs l o e) (sym (main-of tree ss ev.0 main ev.1.0 ev.1.1 ev.1.2 ev.1.3 ev.1.4)) ev.2) in
+    let forth : (given : Given) (o : Outcome) → Evaluates tree given o → (n : ℕ) × CodeRuns code given n o =
+    λ given o ev. program-runs code es is given ss o prints (subst (λ l. Runs l o) (sym (main-of tree ss ev.0 main ev.1.0 ev.1.1 ev.1.2 ev.1.3 ev.1.4)) ev.2) in
     let end = statements-end ss main.3 in
-    let means : Evaluates tree end.0 end.1 = (ss, (0, main.0, (omega (arith, ap length main.1)), ap (λ l. get_or l 0 main.0) main.1, main.2), end.2) in
-    let run = forth end.0 end.1 means in
+    let means : (given : Given) → Evaluates tree given end.0 = λ given. (ss, (0, main.0, (omega (arith, ap length main.1)), ap (λ l. get_or l 0 main.0) main.1, main.2), end.1) in
+    let run : (given : Given) → (n : ℕ) × CodeRuns code given n end.0 = λ given. forth given end.0 (means given) in
     record {
       runs = forth;
-      only = λ n o e r. let same = CodeRuns-one code n run.0 o end.0 e end.1 r run.1 in subst (λ x. Evaluates tree x e) (sym same.0) (subst (λ x. Evaluates tree end.0 x) (sym same.1) means);
-      ends = (run.0, end.0, end.1, run.1);
+      only = λ given n o r. subst (Evaluates tree given) (sym (CodeRuns-one code given n (run given).0 o end.0 r (run given).1)) (means given);
+      ends = λ given. ((run given).0, end.0, (run given).1);
     }
 
 -- ---- one more statement

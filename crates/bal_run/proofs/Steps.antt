@@ -1,5 +1,5 @@
 -- Runs of the machine: steps put together, and that a state has at most one next one.
-use Rattle.std.proofs.Common.{◌≡◌, ℕ, zero, suc, List, [], ◌∷◌, Option, Some, None, refl, sym, subst, ◌∙◌, ⊎_elim, ℤ, ◌+ℤ◌, ◌*ℤ◌}
+use Rattle.std.proofs.Common.{◌≡◌, ℕ, zero, suc, List, [], ◌∷◌, Option, Some, None, refl, sym, ap, subst, ◌∙◌, ⊎_elim, ℤ, ◌+ℤ◌, ◌*ℤ◌}
 use Rattle.std.specs.Prelude.{IsSomeAnd, slice_get}
 use Rattle.bal_base.specs.End.{End}
 use Rattle.stack_code.specs.declared.value.Value.{Value}
@@ -8,8 +8,8 @@ use Rattle.stack_code.specs.declared.instr.Instr.{Instr}
 use Rattle.stack_code.specs.declared.instr.Instr.TheVariants.{Tick, Const, Add, Mul, Native, Pop, Return}
 use Rattle.stack_code.specs.declared.instr.Constant.{Constant}
 use Rattle.stack_code.specs.declared.code.Code.{Code}
-use Rattle.stack_code.specs.Machine.{State, Next, On, Ends, Computes, PrintsLine, Drops, Leaves, Does, Step, Then, RunsFrom, went, value_of}
-use Rattle.bal_run.specs.Running.{Leads}
+use Rattle.stack_code.specs.Machine.{State, Next, On, Ends, Computes, PrintsLine, Drops, Leaves, Does, Step, Then, RunsFrom, Leads, went, value_of}
+use Rattle.stack_code.specs.Outcome.{Outcome}
 
 pub at_some : {A : Type 0} (o : Option A) (x : A) (P : A → Type 0) → o ≡ Some x → P x → IsSomeAnd o P
 at_some o x P e h = subst (λ p. IsSomeAnd p P) (sym e) h
@@ -57,38 +57,41 @@ fetched-one code None s a b h k = absurd h
 pub Step-one : (code : Code) (s : State) (a b : Next) → Step code s a → Step code s b → a ≡ b
 Step-one code s a b h k = fetched-one code (slice_get code.instrs s.place) s a b h k
 
-abbrev Goes : Code → ℕ → State → List ℕ → End → Next → Type 0
-Goes code n s o e = Then (λ t. RunsFrom code n t o e) (λ g. (n ≡ 0) × (o ≡ s.output) × (e ≡ g))
+abbrev pub outcome : List ℕ → End → Outcome
+outcome output end = record { output = output; end = end }
+
+abbrev pub Goes : Code → ℕ → State → Outcome → Next → Type 0
+Goes code n s o = Then (λ t. RunsFrom code n t o) (λ e. (n ≡ 0) × (o ≡ outcome s.output e))
 
 -- two ways on from a state have one outcome where those from the next state have
 one-next :
-    (code : Code) (n m : ℕ) (s : State) (o p : List ℕ) (e f : End) →
-    ((t : State) → RunsFrom code n t o e → RunsFrom code m t p f → (o ≡ p) × (e ≡ f)) →
-    (a b : Next) → a ≡ b → Goes code n s o e a → Goes code m s p f b → (o ≡ p) × (e ≡ f)
-one-next code n m s o p e f rec (On t) (On u) q y w = let r : t ≡ u = cc in rec t y (subst (λ v. RunsFrom code m v p f) (sym r) w)
-one-next code n m s o p e f rec (Ends g) (Ends i) q y w = let r : g ≡ i = cc in (y.1 ∙ sym w.1, y.2 ∙ (r ∙ sym w.2))
-one-next code n m s o p e f rec (On t) (Ends i) q y w = absurd (let bad : ⊥ = cc in bad)
-one-next code n m s o p e f rec (Ends g) (On u) q y w = absurd (let bad : ⊥ = cc in bad)
+    (code : Code) (n m : ℕ) (s : State) (o p : Outcome) →
+    ((t : State) → RunsFrom code n t o → RunsFrom code m t p → o ≡ p) →
+    (a b : Next) → a ≡ b → Goes code n s o a → Goes code m s p b → o ≡ p
+one-next code n m s o p rec (On t) (On u) q y w = let r : t ≡ u = cc in rec t y (subst (λ v. RunsFrom code m v p) (sym r) w)
+one-next code n m s o p rec (Ends g) (Ends i) q y w = let r : g ≡ i = cc in y.1 ∙ (ap (outcome s.output) r ∙ sym w.1)
+one-next code n m s o p rec (On t) (Ends i) q y w = absurd (let bad : ⊥ = cc in bad)
+one-next code n m s o p rec (Ends g) (On u) q y w = absurd (let bad : ⊥ = cc in bad)
 
 -- a run has one outcome
-pub RunsFrom-one : (code : Code) (n m : ℕ) (s : State) (o p : List ℕ) (e f : End) → RunsFrom code n s o e → RunsFrom code m s p f → (o ≡ p) × (e ≡ f)
-RunsFrom-one code zero m s o p e f h k = absurd h
-RunsFrom-one code (suc n) zero s o p e f h k = absurd k
-RunsFrom-one code (suc n) (suc m) s o p e f (a, x, y) (b, v, w) =
-    one-next code n m s o p e f (λ t. RunsFrom-one code n m t o p e f) a b (Step-one code s a b x v) y w
+pub RunsFrom-one : (code : Code) (n m : ℕ) (s : State) (o p : Outcome) → RunsFrom code n s o → RunsFrom code m s p → o ≡ p
+RunsFrom-one code zero m s o p h k = absurd h
+RunsFrom-one code (suc n) zero s o p h k = absurd k
+RunsFrom-one code (suc n) (suc m) s o p (a, x, y) (b, v, w) =
+    one-next code n m s o p (λ t. RunsFrom-one code n m t o p) a b (Step-one code s a b x v) y w
 
 -- ---- steps put together
 
-abbrev pub Reaches : Code → State → State → Type 0
-Reaches code s t = (n : ℕ) × Leads code n s t
+abbrev pub LeadsOn : Code → State → State → Type 0
+LeadsOn code s t = (n : ℕ) × Leads code n s t
 
-pub one_step : (code : Code) (s t : State) → Step code s (On t) → Reaches code s t
+pub one_step : (code : Code) (s t : State) → Step code s (On t) → LeadsOn code s t
 one_step code s t h = (1, (t, h, refl))
 
-pub joined : (code : Code) (n : ℕ) (s t u : State) → Leads code n s t → Reaches code t u → Reaches code s u
-joined code zero s t u e r = subst (λ v. Reaches code v u) e r
+pub joined : (code : Code) (n : ℕ) (s t u : State) → Leads code n s t → LeadsOn code t u → LeadsOn code s u
+joined code zero s t u e r = subst (λ v. LeadsOn code v u) e r
 joined code (suc n) s t u (v, h, l) r = let k = joined code n v t u l r in (suc k.0, (v, h, k.1))
 
-pub then_run : (code : Code) (n : ℕ) (s t : State) (o : List ℕ) (e : End) → Leads code n s t → (m : ℕ) × RunsFrom code m t o e → (m : ℕ) × RunsFrom code m s o e
-then_run code zero s t o e q r = subst (λ v. (m : ℕ) × RunsFrom code m v o e) q r
-then_run code (suc n) s t o e (v, h, l) r = let k = then_run code n v t o e l r in (suc k.0, (On v, h, k.1))
+pub then_run : (code : Code) (n : ℕ) (s t : State) (o : Outcome) → Leads code n s t → (m : ℕ) × RunsFrom code m t o → (m : ℕ) × RunsFrom code m s o
+then_run code zero s t o q r = subst (λ v. (m : ℕ) × RunsFrom code m v o) q r
+then_run code (suc n) s t o (v, h, l) r = let k = then_run code n v t o l r in (suc k.0, (On v, h, k.1))

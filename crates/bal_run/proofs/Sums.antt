@@ -19,7 +19,7 @@ use Rattle.stack_code.specs.declared.code.Code.{Code}
 use Rattle.stack_code.specs.Machine.{State, Next, On, Ends, Does, Step, RunsFrom, value_of}
 use Rattle.bal_run.specs.Lowering.{constants_of, sum_code, operator}
 use Rattle.bal_run.proofs.Stands.{Stands, Stands-front, Stands-back}
-use Rattle.bal_run.proofs.Steps.{at_some, Reaches, one_step, joined, then_run}
+use Rattle.bal_run.proofs.Steps.{at_some, LeadsOn, one_step, joined, outcome, then_run}
 
 abbrev pub state : ℕ → List Value → List ℕ → State
 state place stack output = record { place = place; stack = stack; output = output }
@@ -68,7 +68,7 @@ module _ (code : Code) where
       omega (arith, length-append (sum_code first l) (sum_code (first + length (constants_of l)) r ++ operator op ∷ []), length-append (sum_code (first + length (constants_of l)) r) (operator op ∷ []))
 
   -- where the sum gives an int, its code pushes it
-  pub sum-pushes : (e : Expr) (first place : ℕ) (stack : List Value) (out : List ℕ) (z : ℤ) → Gives e z → Has first place e → Reaches code (state place stack out) (state (after first place e) (Int z ∷ stack) out)
+  pub sum-pushes : (e : Expr) (first place : ℕ) (stack : List Value) (out : List ℕ) (z : ℤ) → Gives e z → Has first place e → LeadsOn code (state place stack out) (state (after first place e) (Int z ∷ stack) out)
   sum-pushes (Postfix (Primary (Literal (IntLiteral n at)))) first place stack out z g h =
       let s = state place stack out in
       let t = state (place + 1) (Int z ∷ stack) out in
@@ -84,15 +84,15 @@ module _ (code : Code) where
       let t = state (n + 1) (Int z ∷ stack) out in
       let step : Step code s (On t) = at_some _ _ (λ j. Does code j s (On t)) (operator-of first place l r op h.0) (operator-on code op x y z n stack out e i) in
       let all = joined code pl.0 _ _ _ pl.1 (joined code pr.0 _ _ _ pr.1 (one_step code s t step)) in
-      subst (λ p. Reaches code (state place stack out) (state p (Int z ∷ stack) out)) (whole first place l r op) all
+      subst (λ p. LeadsOn code (state place stack out) (state p (Int z ∷ stack) out)) (whole first place l r op) all
   sum-pushes e first place stack out z g h = absurd g
 
   -- where it overflows, its code panics, having written nothing
-  pub sum-panics : (e : Expr) (first place : ℕ) (stack : List Value) (out : List ℕ) → Overflows e → Has first place e → (n : ℕ) × RunsFrom code n (state place stack out) out (Panicked number_overflow)
+  pub sum-panics : (e : Expr) (first place : ℕ) (stack : List Value) (out : List ℕ) → Overflows e → Has first place e → (n : ℕ) × RunsFrom code n (state place stack out) (outcome out (Panicked number_overflow))
   sum-panics (Binary' _ l op _ r at) first place stack out (inl o) h = sum-panics l first place stack out o (left-of first place l r op h.0 h.1)
   sum-panics (Binary' _ l op _ r at) first place stack out (inr (inl (x, gl, o))) h =
       let p = sum-pushes l first place stack out x gl (left-of first place l r op h.0 h.1) in
-      then_run code p.0 _ _ out _ p.1 (sum-panics r (first + length (constants_of l)) (after first place l) (Int x ∷ stack) out o (right-of first place l r op h.0 h.1))
+      then_run code p.0 _ _ _ p.1 (sum-panics r (first + length (constants_of l)) (after first place l) (Int x ∷ stack) out o (right-of first place l r op h.0 h.1))
   sum-panics (Binary' _ l op _ r at) first place stack out (inr (inr (x, y, z, gl, gr, is, large))) h =
       let m = after first place l in
       let k = first + length (constants_of l) in
@@ -102,7 +102,7 @@ module _ (code : Code) where
       let s = state n (Int y ∷ Int x ∷ stack) out in
       let end : Next = Ends (Panicked number_overflow) in
       let step : Step code s end = at_some _ _ (λ j. Does code j s end) (operator-of first place l r op h.0) (operator-stops code op x y z n stack out is large) in
-      then_run code pl.0 _ _ out _ pl.1 (then_run code pr.0 _ _ out _ pr.1 (1, (end, step, (refl, refl, refl))))
+      then_run code pl.0 _ _ _ pl.1 (then_run code pr.0 _ _ _ pr.1 (1, (end, step, (refl, refl))))
   sum-panics e first place stack out o h = absurd o
 
 -- ---- each sum has an outcome

@@ -1,7 +1,7 @@
 -- What a program means: which output its evaluation writes, and how it ends.
 use Rattle.std.specs.Prelude.{◌≡◌, ◌++◌, ◌⊎◌, ℤ, ◌+ℤ◌, ◌*ℤ◌, ℕ, List, [], ◌∷◌, Option, Some, Any, IsTrue, codes}
 use Rattle.std.specs.Fmt.{signed_decimal}
-use Rattle.bal_base.specs.End.{End, Returned, Panicked, number_overflow}
+use Rattle.bal_base.specs.End.{Returned, Panicked, number_overflow}
 use Rattle.bal_base.specs.Valid.{IsInt}
 use Rattle.bal_tree.specs.declared.name.Prefix.{Prefix}
 use Rattle.bal_tree.specs.declared.name.Prefix.TheVariants.{Word}
@@ -20,6 +20,7 @@ use Rattle.bal_tree.specs.declared.def.Def.TheVariants.{Function}
 use Rattle.bal_tree.specs.declared.def.Body.{Body}
 use Rattle.bal_tree.specs.declared.def.Body.TheVariants.{Block}
 use Rattle.bal_tree.specs.Lists.{stmts_list, workers_list, defs_list}
+use Rattle.stack_code.specs.Outcome.{Given, Outcome}
 
 -- ---- expressions
 
@@ -64,13 +65,14 @@ abbrev pub Prints : Stmt → Expr → Type 0
 Prints (Rhs (Expression call) place) e = PrintsBy call.value e
 Prints _ e = ⊥
 
--- the statements, one after another, write this output and come to this end
-abbrev pub Runs : List Stmt → List ℕ → End → Type 0
-Runs [] output end = (output ≡ []) × (end ≡ Returned)
-Runs (s ∷ ss) output end =
+-- the statements, one after another, come to this outcome
+abbrev pub Runs : List Stmt → Outcome → Type 0
+Runs [] outcome = outcome ≡ record { output = []; end = Returned }
+Runs (s ∷ ss) outcome =
     (e : Expr) × Prints s e
-    × (((z : ℤ) × (more : List ℕ) × Gives e z × Runs ss more end × (output ≡ signed_decimal z ++ (10 ∷ more)))
-    ⊎ (Overflows e × (output ≡ []) × (end ≡ Panicked number_overflow)))
+    × (((z : ℤ) × (more : Outcome) × Gives e z × Runs ss more
+    × (outcome ≡ record { output = signed_decimal z ++ (10 ∷ more.output); end = more.end }))
+    ⊎ (Overflows e × (outcome ≡ record { output = []; end = Panicked number_overflow })))
 
 -- ---- programs
 
@@ -83,7 +85,6 @@ abbrev pub IsMain : List Stmt → Def → Type 0
 IsMain stmts (Function f) = IsTrue f.public × (f.name.name ≡ codes "main") × HasStmts f.body stmts
 IsMain stmts _ = ⊥
 
--- the evaluation of the program writes this output and comes to this end
-abbrev pub Evaluates : FileTree → List ℕ → End → Type 0
-Evaluates tree output end =
-    (stmts : List Stmt) × Any (IsMain stmts) (defs_list tree.defs) × Runs stmts output end
+-- the evaluation of the program comes to this outcome
+abbrev pub Evaluates : FileTree → Given → Outcome → Type 0
+Evaluates tree given outcome = (stmts : List Stmt) × Any (IsMain stmts) (defs_list tree.defs) × Runs stmts outcome

@@ -126,13 +126,17 @@ abbrev pub PrintsAt : Place → Place → Stmt → Expr → Type 0
 PrintsAt here behind (Rhs (Expression call) place) sum = CallAt here behind call.value sum × (place ≡ here)
 PrintsAt here behind _ sum = ⊥
 
--- `io:println(SUM);` with at most 100 literals
+-- the most literals that a sum may have
+abbrev pub most_literals : ℕ
+most_literals = 100
+
+-- `io:println(SUM);`, whose sum has not too many literals
 abbrev pub StmtReads : ℕ → List ℕ → Stmt → List ℕ → Type 0
 StmtReads size bytes stmt rest =
     (word inside after : List ℕ) × (sum : Expr)
     × Lexemes println_prefix bytes word × Lexemes println_word word inside
     × SumReads size inside sum after × Lexemes println_closing after rest
-    × (literals sum ≤ 100) × PrintsAt (place_of size bytes) (place_of size word) stmt sum
+    × (literals sum ≤ most_literals) × PrintsAt (place_of size bytes) (place_of size word) stmt sum
 
 -- one statement after another
 abbrev pub StmtsRead : ℕ → List ℕ → List Stmt → List ℕ → Type 0

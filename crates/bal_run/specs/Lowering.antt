@@ -1,7 +1,6 @@
 -- Which instructions a program of sums is lowered to, and that code does what a program means.
 use Rattle.std.specs.Prelude.{◌≡◌, ⊤, ℕ, ◌+◌, ◌++◌, List, [], ◌∷◌, length}
 use Rattle.std.specs.List.{AllByRecursion}
-use Rattle.bal_base.specs.End.{End}
 use Rattle.bal_tree.specs.declared.name.Literal.TheVariants.{Int}
 use Rattle.bal_tree.specs.declared.expr.Expr.{Expr, Postfix, Binary'}
 use Rattle.bal_tree.specs.declared.expr.Postfix.{Primary}
@@ -21,12 +20,13 @@ use Rattle.stack_code.specs.declared.instr.Instr.TheVariants.{Const, Add as AddI
 use Rattle.stack_code.specs.declared.code.Code.{Code}
 use Rattle.stack_code.specs.declared.code.Unit.{Unit as CodeUnit}
 use Rattle.stack_code.specs.Machine.{CodeRuns}
+use Rattle.stack_code.specs.Outcome.{Given, Outcome}
 
--- the code has a run with an output and an end exactly where the evaluation of the program has them
+-- whatever is given, the code has a run with an outcome exactly where the evaluation of the program has it, and it has one
 pub record Simulates (tree : FileTree) (code : Code) : Type 0 where
-  pub runs : (output : List ℕ) (end : End) → Evaluates tree output end → (n : ℕ) × CodeRuns code n output end
-  pub only : (n : ℕ) (output : List ℕ) (end : End) → CodeRuns code n output end → Evaluates tree output end
-  pub ends : (n : ℕ) × (output : List ℕ) × (end : End) × CodeRuns code n output end
+  pub runs : (given : Given) (outcome : Outcome) → Evaluates tree given outcome → (n : ℕ) × CodeRuns code given n outcome
+  pub only : (given : Given) (n : ℕ) (outcome : Outcome) → CodeRuns code given n outcome → Evaluates tree given outcome
+  pub ends : (given : Given) → (n : ℕ) × (outcome : Outcome) × CodeRuns code given n outcome
 
 -- the file's one definition is `main` with these statements, which print sums
 abbrev pub IsMainOf : FileTree → List Stmt → Type 0

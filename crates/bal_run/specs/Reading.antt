@@ -6,14 +6,13 @@ use Rattle.std.specs.Option.{option_map_or}
 use Rattle.std.specs.Char.{is_ascii_digit}
 use Rattle.std.specs.Str.Parse.{digits_value}
 use Rattle.bal_tree.specs.declared.expr.BinaryOp.{BinaryOp}
-use Rattle.bal_tree.specs.declared.expr.BinaryOp.TheVariants.{Add, Multiply}
 use Rattle.bal_tree.specs.declared.expr.Expr.{Expr, Binary'}
 use Rattle.bal_tree.specs.ExprPieces.{expr_pieces}
 use Rattle.bal_tree.specs.Places.{BeginsAt}
 use Rattle.bal_run.specs.declared.reading.sum.OpenSum.{OpenSum}
 use Rattle.bal_run.specs.declared.reading.sum.SumOp.{SumOp}
 use Rattle.bal_run.specs.declared.reading.sum.SumOp.TheVariants.{Plus, Times}
-use Rattle.bal_run.specs.Form.{is_space, after_space, println_prefix, println_word, println_closing, Lexeme, LiteralReads, ProductReads, SumReads, literals}
+use Rattle.bal_run.specs.Form.{is_space, after_space, println_prefix, println_word, println_closing, Lexeme, LiteralReads, ProductReads, SumReads, literals, most_literals}
 
 unfoldable pub lexeme_rest : List ℕ → ℕ → List ℕ → Option (List ℕ)
 lexeme_rest token least bytes =
@@ -36,14 +35,10 @@ literal_rest bytes =
     if is_int_text (take_while is_ascii_digit bytes)
     then Some (after_space (drop (prefix_len is_ascii_digit bytes) bytes)) else None
 
-abbrev pub binary_op : SumOp → BinaryOp
-binary_op Plus = Add
-binary_op Times = Multiply
-
 -- the sign of an operator of sums
-abbrev pub sign_of : BinaryOp → List ℕ
-sign_of Multiply = codes "*"
-sign_of op = codes "+"
+abbrev pub sign_of : SumOp → List ℕ
+sign_of Plus = codes "+"
+sign_of Times = codes "*"
 
 unfoldable pub operator_rest : List ℕ → Option (List ℕ)
 operator_rest bytes = option_map_or Some (lexeme_rest (codes "*") 0 bytes) (lexeme_rest (codes "+") 0 bytes)
@@ -59,7 +54,7 @@ terms (suc n) bytes = option_and_then (go_on (terms n)) (literal_rest bytes)
 
 unfoldable pub statement_rest : List ℕ → Option (List ℕ)
 statement_rest bytes =
-    option_and_then (λ inside. option_and_then (lexemes_rest println_closing) (terms 100 inside))
+    option_and_then (λ inside. option_and_then (lexemes_rest println_closing) (terms most_literals inside))
     (lexemes_rest (println_prefix ++ println_word) bytes)
 
 -- ---- sums that are still read
@@ -78,7 +73,7 @@ abbrev pub open_literals : OpenSum → ℕ
 open_literals sum = option_map_or literals sum.before 0 + literals sum.product
 
 -- the new sum is the old one with an operator and a literal behind it
-abbrev pub Extends : OpenSum → BinaryOp → Expr → OpenSum → Type 0
+abbrev pub Extends : OpenSum → SumOp → Expr → OpenSum → Type 0
 Extends old op literal new =
     (size : ℕ) (bytes rest next more : List ℕ) → OpenReads size bytes old rest → Lexeme (sign_of op) 0 rest next → LiteralReads size next literal more
     → OpenReads size bytes new more × (open_literals new ≡ open_literals old + 1)

@@ -1,27 +1,28 @@
 -- The numbers and the texts of the statuses.
-use Rattle.std.specs.Prelude.{◌≡◌, ◌⊎◌, ◌++◌, ⊤, ℕ, List, [], ◌∷◌, Some, None, codes}
-use Rattle.bal_base.specs.End.{number_overflow}
+use Rattle.std.specs.Prelude.{◌≡◌, ◌⊎◌, ◌++◌, ℕ, List, [], ◌∷◌, Option, Some, None, codes, decimal, encode_utf8_all}
+use Rattle.bal_base.specs.FaultCode as fault_code
 use Rattle.bal_base.specs.declared.fault.FaultCode.{FaultCode}
 use Rattle.bal_base.specs.declared.fault.FaultCode.TheVariants.{NoMain, Syntax}
 use Rattle.bal_base.specs.declared.fault.Kept.TheVariants.{Nothing}
 use Rattle.bal_base.specs.declared.fault.Refusal.{Refusal}
+use Rattle.bal_base.specs.declared.place.Place.{Place}
 use Rattle.bal_run.specs.declared.status.Status.{Status}
 use Rattle.bal_run.specs.declared.status.Status.TheVariants.{Done, ErrorReturned, Panicked, Refused, GoesOn, Stalled, FolderFault, InputFault, OutFault, Memory, Words, Limit, DiagFault}
 
-abbrev pub number_of : Status → ℕ
-number_of Done = 0
-number_of (ErrorReturned m) = 1
-number_of (Panicked m) = 2
-number_of (Refused r) = 3
-number_of (GoesOn n) = 4
-number_of (Stalled r) = 5
-number_of FolderFault = 6
-number_of InputFault = 7
-number_of OutFault = 8
-number_of Memory = 9
-number_of Words = 10
-number_of (Limit k) = 11
-number_of DiagFault = 12
+abbrev pub exit_status : Status → ℕ
+exit_status Done = 0
+exit_status (ErrorReturned m) = 1
+exit_status (Panicked m) = 2
+exit_status (Refused r) = 3
+exit_status (GoesOn n) = 4
+exit_status (Stalled r) = 5
+exit_status FolderFault = 6
+exit_status InputFault = 7
+exit_status OutFault = 8
+exit_status Memory = 9
+exit_status Words = 10
+exit_status (Limit k) = 11
+exit_status DiagFault = 12
 
 -- ---- refusals
 
@@ -41,33 +42,35 @@ not_a_definition =
 
 -- ---- texts
 
-abbrev pub refusal_text : FaultCode → List ℕ
-refusal_text NoMain = codes "209 no public function main"
-refusal_text Syntax = codes "main.bal:1:1: 103 not a definition"
-refusal_text _ = []
+-- what the codes say that come so far
+abbrev pub Says : FaultCode → List ℕ → Type 0
+Says code words =
+    ((code ≡ NoMain) × (words ≡ codes "no public function main"))
+    ⊎ ((code ≡ Syntax) × (words ≡ codes "not a definition"))
 
--- what a status says, without its line end
-abbrev pub words_of : Status → List ℕ
-words_of (Panicked m) = codes "panic: " ++ m
-words_of (Refused r) = refusal_text r.fault.code
-words_of FolderFault = codes "cannot read the folder"
-words_of OutFault = codes "cannot write the output"
-words_of Memory = codes "out of memory"
-words_of Words = codes "usage: bal_run DIR [WORDS] [--mode run|check|pairs|code|subtype|make] [--ticks N] [--seed N]"
-words_of _ = []
+-- the text behind its place, `FILE:LINE:COLUMN: `, where the fault has one
+abbrev pub at_place : Refusal → Option Place → List ℕ → List ℕ
+at_place r (Some at) text =
+    encode_utf8_all r.file ++ (codes ":" ++ (decimal r.line ++ (codes ":" ++ (decimal r.column ++ (codes ": " ++ text)))))
+at_place r None text = text
 
--- the text for the diagnostics; a program that is done says nothing
-abbrev pub text_of : Status → List ℕ
-text_of Done = []
-text_of status = words_of status ++ 10 ∷ []
+-- `FILE:LINE:COLUMN: CODE WORDS`, with a line end
+abbrev pub refusal_text : Refusal → List ℕ → List ℕ
+refusal_text r words =
+    at_place r r.fault.at (decimal (fault_code.number_of r.fault.code) ++ (codes " " ++ (words ++ 10 ∷ [])))
 
--- the statuses that have a text so far
-abbrev pub IsTold : Status → Type 0
-IsTold Done = ⊤
-IsTold (Panicked m) = m ≡ number_overflow
-IsTold (Refused r) = (r ≡ no_main) ⊎ (r ≡ not_a_definition)
-IsTold FolderFault = ⊤
-IsTold OutFault = ⊤
-IsTold Memory = ⊤
-IsTold Words = ⊤
-IsTold _ = ⊥
+-- the text for the diagnostics of a status that comes so far, with its line end; a program that is done says nothing
+abbrev pub HasText : Status → List ℕ → Type 0
+HasText Done text = text ≡ []
+HasText (ErrorReturned m) text = ⊥
+HasText (Panicked m) text = text ≡ codes "panic: " ++ (encode_utf8_all m ++ 10 ∷ [])
+HasText (Refused r) text = (words : List ℕ) × Says r.fault.code words × (text ≡ refusal_text r words)
+HasText (GoesOn n) text = ⊥
+HasText (Stalled r) text = ⊥
+HasText FolderFault text = text ≡ codes "cannot read the folder\n"
+HasText InputFault text = ⊥
+HasText OutFault text = text ≡ codes "cannot write the output\n"
+HasText Memory text = text ≡ codes "out of memory\n"
+HasText Words text = text ≡ codes "usage: bal_run DIR [WORDS] [--mode run|check|pairs|code|subtype|make] [--ticks N] [--seed N]\n"
+HasText (Limit k) text = ⊥
+HasText DiagFault text = ⊥

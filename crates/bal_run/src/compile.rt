@@ -12,7 +12,7 @@ use bal_io::Folder;
 use std::alloc::Global;
 
 /// The most bytes that a source file may have.
-const LONGEST_FILE: usize = 1048576;
+const LONGEST_FILE: usize = 1_048_576;
 
 /// Why a folder does not compile.
 #[derive(Clone, Copy, Debug, PartialEq, Eq)]

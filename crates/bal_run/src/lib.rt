@@ -5,13 +5,14 @@
 //! - [`dir_of`]: the folder that the words of a command name.
 //!
 //! The layers below the call have no crates of their own yet: `reading` makes the tree of a source file,
-//! `lower` its code, `machine` runs code, and `compile` puts the first two together.
+//! `lower` its code, `machine` runs code, and `compile` puts the first two together. `report` tells how a call ended.
 #![tactic(auto)]
 
 mod compile;
 mod lower;
 mod machine;
 mod reading;
+mod report;
 mod status;
 mod top;
 mod words;

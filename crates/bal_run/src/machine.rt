@@ -1,24 +1,26 @@
 //! The machine: runs code.
-ghost use Rattle.std.specs.Prelude.{◌≡◌, ◌<◌, ◌∷◌, [], ◌+ℤ◌, ◌*ℤ◌, IfOk, OnErr, length, reverse};
+ghost use Rattle.std.specs.Prelude.{◌≡◌, ◌<◌, ◌∷◌, [], ◌+ℤ◌, ◌*ℤ◌, IfOk, length, reverse};
+ghost use Rattle.bal_base.specs.End.{number_overflow};
 ghost use Rattle.bal_io.specs.Faults.{CountsFaults};
-ghost use Rattle.bal_run.specs.Running.{HasRun, Made, MadeSteps, WroteFront, CanDo, Acts, EndsWithInt, EndsWithInts, ComputesLast, PushesOrEnds, PrintsLast, IsOnItsWay, Moves, WroteFrontFrom, shown};
-ghost use Rattle.stack_code.specs.Machine.{IsStart, text_of, value_of};
+ghost use Rattle.bal_run.specs.Running.{HasRun, EndedSo, StopsRun, CanDo, Acts, EndsWithInt, EndsWithInts, ComputesLast, PushesOrPanics, PrintsLast, IsOnItsWay, MadeStep, StopsStep, shown};
+ghost use Rattle.stack_code.specs.Machine.{IsStart, value_text, value_of};
+ghost use Rattle.stack_code.specs.Outcome.{nothing};
 ghost use Rattle.stack_code.specs.declared.instr.Instr.TheVariants.{Const};
 ghost use Rattle.stack_code.specs.declared.value.Value.TheVariants.{Int};
 
-use bal_base::{Failed, Memory, Stop};
+use bal_base::{Failed, Memory, Stop, Text};
 use bal_io::Sink;
 use itoa::Buffer;
 use stack_code::{Code, Constant, Instr, Value};
 use std::alloc::Global;
 
 /// How a run ended.
-#[derive(Clone, Copy, Debug, PartialEq, Eq)]
+#[derive(Debug, Drop)]
 pub enum Ending {
     /// Main returned nil.
     Returned,
-    /// An int was too large or too small.
-    Overflowed,
+    /// A panic with this message.
+    Panicked(Text),
 }
 
 /// What came of a run, and how many steps it made, modulo 2 to the power 64.
@@ -32,9 +34,8 @@ pub struct Ran {
 pub fn run<O: Sink>(alloc: Global, code: &Code, out: &mut O) -> Ran
     requires { HasRun code.now }
     ensures faults { CountsFaults (O.faults out.old) (O.faults out.new) result.end }
-    ensures made { IfOk result.end (λ ending. Made code.now ending result.steps (O.written out.old) (O.written out.new)) }
-    ensures steps { MadeSteps code.now result.steps }
-    ensures front { OnErr result.end (WroteFront code.now (O.written out.old) (O.written out.new)) }
+    ensures ended { IfOk result.end (EndedSo code.now result.steps (O.written out.old) (O.written out.new)) }
+    ensures stopped { StopsRun code.now result.steps (O.written out.old) (O.written out.new) result.end }
 {
     let mut machine = Machine::new(alloc, code);
     let mut steps: u64 = 0;
@@ -79,7 +80,7 @@ impl Machine {
     /// The machine at the start of the code.
     fn new(alloc: Global, code: &Code) -> Machine
         requires { HasRun code.now }
-        ensures { IsStart code.now (shown result []) }
+        ensures { IsStart code.now nothing (shown result []) }
     {
         let unit = code.units.as_slice()[code.start as usize];
         Machine {
@@ -97,8 +98,8 @@ impl Machine {
     ) -> Result<Option<Ending>, Stop<Failed>>
         requires { IsOnItsWay code.now self.old }
         ensures faults { CountsFaults (O.faults out.old) (O.faults out.new) result }
-        ensures moves { IfOk result (λ ended. Moves code.now self.old self.new ended (O.written out.old) (O.written out.new)) }
-        ensures front { OnErr result (WroteFrontFrom code.now self.old (O.written out.old) (O.written out.new)) }
+        ensures made { IfOk result (MadeStep code.now self.old self.new (O.written out.old) (O.written out.new)) }
+        ensures stopped { StopsStep code.now self.old (O.written out.old) (O.written out.new) result }
     {
         let instr = code.instrs.as_slice()[self.place];
         self.place += 1;
@@ -126,8 +127,8 @@ fn effect_of(
     match instr {
         Instr::Tick => Ok(Effect::Moved),
         Instr::Const(number) => push_constant(code, number, stack),
-        Instr::Add => add(stack),
-        Instr::Mul => multiply(stack),
+        Instr::Add => add(alloc, stack),
+        Instr::Mul => multiply(alloc, stack),
         Instr::Native { .. } => print(alloc, stack),
         Instr::Pop => {
             pop(stack);
@@ -155,35 +156,42 @@ fn value_of_constant(constant: Constant) -> Value
     }
 }
 
-fn add(stack: &mut Vec<Value>) -> Result<Effect, Memory>
+fn add(alloc: Global, stack: &mut Vec<Value>) -> Result<Effect, Memory>
     requires { EndsWithInts stack.old.items }
     ensures { IfOk result (ComputesLast (λ x y. x +ℤ y) stack.old.items stack.new.items) }
 {
     let right = pop_int(stack);
     let left = pop_int(stack);
-    push_result(left.checked_add(right), stack)
+    push_result(alloc, left.checked_add(right), stack)
 }
 
-fn multiply(stack: &mut Vec<Value>) -> Result<Effect, Memory>
+fn multiply(alloc: Global, stack: &mut Vec<Value>) -> Result<Effect, Memory>
     requires { EndsWithInts stack.old.items }
     ensures { IfOk result (ComputesLast (λ x y. x *ℤ y) stack.old.items stack.new.items) }
 {
     let right = pop_int(stack);
     let left = pop_int(stack);
-    push_result(left.checked_mul(right), stack)
+    push_result(alloc, left.checked_mul(right), stack)
 }
 
-/// Pushes the value, or ends the run where there is none since it is no int.
-fn push_result(value: Option<i64>, stack: &mut Vec<Value>) -> Result<Effect, Memory>
-    ensures { IfOk result (PushesOrEnds value stack.old.items stack.new.items) }
+/// Pushes the value, or ends the run by a panic where there is none since it is no int.
+fn push_result(alloc: Global, value: Option<i64>, stack: &mut Vec<Value>) -> Result<Effect, Memory>
+    ensures { IfOk result (PushesOrPanics value stack.old.items stack.new.items) }
 {
     match value {
         Some(n) => {
             stack.push(Value::Int(n))?;
             Ok(Effect::Moved)
         }
-        None => Ok(Effect::Ended(Ending::Overflowed)),
+        None => Ok(Effect::Ended(Ending::Panicked(number_overflow(alloc)?))),
     }
+}
+
+/// The message of the panic at an int that is too large or too small.
+fn number_overflow(alloc: Global) -> Result<Text, Memory>
+    ensures { IfOk result (λ message. message ≡ number_overflow) }
+{
+    Text::new(alloc, "{ballerina}NumberOverflow")
 }
 
 /// Prints the last operand as a line, and puts nil in its place.
@@ -199,7 +207,7 @@ fn print(alloc: Global, stack: &mut Vec<Value>) -> Result<Effect, Memory>
 
 /// The text of a value, as it is printed.
 fn text_of_value(alloc: Global, value: Value) -> Result<Vec<u8>, Memory>
-    ensures { IfOk result (λ text. text.items ≡ text_of value) }
+    ensures { IfOk result (λ text. text.items ≡ value_text value) }
 {
     match value {
         Value::Nil => Ok(Vec::new(alloc)),

@@ -4,6 +4,7 @@ ghost use Rattle.bal_tree.specs.declared.def.FileTree.{FileTree};
 ghost use Rattle.bal_run.specs.Sums.{IsSumProgram};
 ghost use Rattle.bal_tree.specs.declared.def.Def.{Def};
 ghost use Rattle.bal_tree.specs.declared.def.Import.{Import};
+ghost use Rattle.bal_run.specs.Files.{longest_file};
 ghost use Rattle.bal_run.specs.Form.{IsIoImport, IsMainFunction, ImportReads, MainReads, FileReads};
 
 mod lexeme;
@@ -84,7 +85,7 @@ fn main_function(
 /// where each sum has up to 100 int literals, joined by `+` and `*`. Takes time linear in the number of bytes, and
 /// no memory but for the tree.
 pub fn read_file(alloc: Global, bytes: &[u8]) -> Result<Option<FileTree>, Memory>
-    requires { length bytes.now ≤ 1048576 }
+    requires { length bytes.now ≤ longest_file }
     ensures read { IfOk result (λ o. IfSome o (FileReads bytes.now)) }
     ensures sums { IfOk result (λ o. IfSome o IsSumProgram) }
     ensures none { IfOk result (λ o. IfNone o ((tree : FileTree) → FileReads bytes.now tree → ⊥)) }

@@ -1,8 +1,8 @@
 //! How a call of the top ends, and what it keeps.
 ghost use Rattle.std.specs.Prelude.{◌≡◌};
-ghost use Rattle.bal_run.specs.Status.{number_of, text_of, IsTold};
+ghost use Rattle.bal_run.specs.Status.{exit_status};
 
-use bal_base::{FaultCode, LimitKind, Refusal, Ring, Text};
+use bal_base::{LimitKind, Refusal, Ring, Text};
 use bal_tree::FileTree;
 use stack_code::Code;
 
@@ -61,7 +61,7 @@ pub enum Status {
 
 /// The exit status of a program that ends so, from 0 to 12. Takes no memory.
 pub fn status_number(status: &Status) -> u8
-    ensures { result ≡ number_of status.now }
+    ensures { result ≡ exit_status status.now }
 {
     match status {
         Status::Done => 0,
@@ -79,32 +79,3 @@ pub fn status_number(status: &Status) -> u8
         Status::DiagFault => 12,
     }
 }
-
-/// The text of the status for the diagnostics, with its line end; nothing where the program is done.
-pub(crate) fn text(status: &Status) -> &'static [u8]
-    requires { IsTold status.now }
-    ensures { result.now ≡ text_of status.now }
-{
-    match status {
-        Status::Done => b"",
-        Status::Panicked(_) => b"panic: {ballerina}NumberOverflow\n",
-        Status::Refused(refusal) => match refusal.fault.code {
-            FaultCode::NoMain => b"209 no public function main\n",
-            FaultCode::Syntax => b"main.bal:1:1: 103 not a definition\n",
-            _ => unreachable!(),
-        },
-        Status::FolderFault => b"cannot read the folder\n",
-        Status::OutFault => b"cannot write the output\n",
-        Status::Memory => b"out of memory\n",
-        Status::Words => USAGE,
-        Status::ErrorReturned(_)
-        | Status::GoesOn { .. }
-        | Status::Stalled { .. }
-        | Status::InputFault
-        | Status::Limit(_)
-        | Status::DiagFault => unreachable!(),
-    }
-}
-
-const USAGE: &[u8] =
-    b"usage: bal_run DIR [WORDS] [--mode run|check|pairs|code|subtype|make] [--ticks N] [--seed N]\n";

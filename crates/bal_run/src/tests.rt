@@ -8,7 +8,7 @@ use std::test::Fail;
 #[derive(Clone, Copy)]
 struct Call<'a> {
     words: &'a [&'a str],
-    file: Option<&'a str>,
+    files: &'a [(&'a str, &'a str)],
     folder_fails: &'a [u64],
     out_fails: &'a [u64],
     diag_fails: &'a [u64],
@@ -23,24 +23,26 @@ struct Came {
 }
 
 fn came_of(alloc: Global, call: &Call) -> Result<Came, Memory> {
+    let out = MemSink::new(alloc, Vec::from_slice(alloc, call.out_fails)?);
+    came_with(alloc, call, out)
+}
+
+/// What comes of the call with this output.
+fn came_with(alloc: Global, call: &Call, out: MemSink) -> Result<Came, Memory> {
     let mut words = Vec::new(alloc);
     for word in call.words {
         words.push(String::from_str(alloc, *word)?)?;
     }
     let mut files = Vec::new(alloc);
-    files.push((
-        Name::new(alloc, "other.bal")?,
-        Bytes::of(Vec::from_slice(alloc, b"}")?),
-    ))?;
-    if let Some(text) = call.file {
+    for (name, text) in call.files {
         files.push((
-            Name::new(alloc, "main.bal")?,
+            Name::new(alloc, *name)?,
             Bytes::of(Vec::from_slice(alloc, text.as_bytes())?),
         ))?;
     }
     let mut folder = MemFolder::new(files, Vec::from_slice(alloc, call.folder_fails)?);
     let mut input = MemSource::new(Vec::new(alloc), Vec::new(alloc));
-    let mut out = MemSink::new(alloc, Vec::from_slice(alloc, call.out_fails)?);
+    let mut out = out;
     let mut diag = MemSink::new(alloc, Vec::from_slice(alloc, call.diag_fails)?);
     let run = bal_run(
         alloc,
@@ -61,13 +63,12 @@ fn program(alloc: Global, statements: &str) -> Result<String, Memory> {
     Ok(file)
 }
 
-fn run_statements(alloc: Global, statements: &str) -> Result<Came, Memory> {
-    let file = program(alloc, statements)?;
+fn run_file(alloc: Global, file: &str) -> Result<Came, Memory> {
     came_of(
         alloc,
         &Call {
             words: &["."],
-            file: Some(file.as_str()),
+            files: &[("other.bal", "}"), ("main.bal", file)],
             folder_fails: &[],
             out_fails: &[],
             diag_fails: &[],
@@ -75,7 +76,23 @@ fn run_statements(alloc: Global, statements: &str) -> Result<Came, Memory> {
     )
 }
 
+fn run_statements(alloc: Global, statements: &str) -> Result<Came, Memory> {
+    let file = program(alloc, statements)?;
+    run_file(alloc, file.as_str())
+}
+
+/// The text so many times.
+fn repeated(alloc: Global, text: &str, count: u32) -> Result<String, Memory> {
+    let mut all = String::new(alloc);
+    for _ in 0..count {
+        all.push_str(text)?;
+    }
+    Ok(all)
+}
+
 const OVERFLOW: &str = "panic: {ballerina}NumberOverflow\n";
+
+const NO_DEFINITION: &str = "main.bal:1:1: 103 not a definition\n";
 
 #[test]
 fn programs_print_their_sums(rt: HostRuntime) -> Result<(), Fail> {
@@ -89,12 +106,7 @@ fn programs_print_their_sums(rt: HostRuntime) -> Result<(), Fail> {
             OVERFLOW,
         ),
         ("io:println(4611686018427387904 * 2 * 0);", 2, "", OVERFLOW),
-        (
-            "io:println(1) io:println(2);",
-            3,
-            "",
-            "main.bal:1:1: 103 not a definition\n",
-        ),
+        ("io:println(1) io:println(2);", 3, "", NO_DEFINITION),
     ];
     for (statements, status, out, diag) in rows {
         let came = run_statements(rt.alloc(), statements)?;
@@ -140,7 +152,7 @@ fn calls_that_do_not_run_say_why(rt: HostRuntime) -> Result<(), Fail> {
             rt.alloc(),
             &Call {
                 words,
-                file: None,
+                files: &[("other.bal", "}")],
                 folder_fails,
                 out_fails: &[],
                 diag_fails: &[],
@@ -153,29 +165,32 @@ fn calls_that_do_not_run_say_why(rt: HostRuntime) -> Result<(), Fail> {
     Ok(())
 }
 
+/// Three prints: the code spends its tick, and each print is a constant, the print and a pop.
+const THREE_PRINTS: &str = "io:println(1); io:println(2); io:println(3);";
+
 #[test]
 fn each_failing_call_ends_the_call(rt: HostRuntime) -> Result<(), Fail> {
-    let file = program(rt.alloc(), "io:println(1); io:println(2); io:println(3);")?;
+    let file = program(rt.alloc(), THREE_PRINTS)?;
     let none: &[u64] = &[];
-    let rows: [(&[u64], &[u64], &[u64], u8, &str); 11] = [
-        (&[0], none, none, 6, ""),
-        (&[1], none, none, 6, ""),
-        (&[2], none, none, 6, ""),
-        (&[3], none, none, 6, ""),
-        (&[4], none, none, 0, "1\n2\n3\n"),
-        (none, &[0], none, 8, ""),
-        (none, &[1], none, 8, "1\n"),
-        (none, &[2], none, 8, "1\n2\n"),
-        (none, &[3], none, 0, "1\n2\n3\n"),
-        (none, &[1], &[0], 12, "1\n"),
-        (none, none, &[0], 0, "1\n2\n3\n"),
+    let rows: [(&[u64], &[u64], &[u64], u8, &str, u64); 11] = [
+        (&[0], none, none, 6, "", 0),
+        (&[1], none, none, 6, "", 0),
+        (&[2], none, none, 6, "", 0),
+        (&[3], none, none, 6, "", 0),
+        (&[4], none, none, 0, "1\n2\n3\n", 12),
+        (none, &[0], none, 8, "", 2),
+        (none, &[1], none, 8, "1\n", 5),
+        (none, &[2], none, 8, "1\n2\n", 8),
+        (none, &[3], none, 0, "1\n2\n3\n", 12),
+        (none, &[1], &[0], 12, "1\n", 5),
+        (none, none, &[0], 0, "1\n2\n3\n", 12),
     ];
-    for (folder_fails, out_fails, diag_fails, status, out) in rows {
+    for (folder_fails, out_fails, diag_fails, status, out, steps) in rows {
         let came = came_of(
             rt.alloc(),
             &Call {
                 words: &["."],
-                file: Some(file.as_str()),
+                files: &[("other.bal", "}"), ("main.bal", file.as_str())],
                 folder_fails,
                 out_fails,
                 diag_fails,
@@ -183,6 +198,90 @@ fn each_failing_call_ends_the_call(rt: HostRuntime) -> Result<(), Fail> {
         )?;
         assert_eq!(rt; status_number(&came.run.status), status);
         assert_eq!(rt; came.out.written(), out.as_bytes());
+        assert_eq!(rt; came.run.steps, steps);
+    }
+    Ok(())
+}
+
+#[test]
+fn a_print_that_is_cut_stays_cut(rt: HostRuntime) -> Result<(), Fail> {
+    let alloc = rt.alloc();
+    let file = program(alloc, "io:println(11); io:println(22); io:println(33);")?;
+    let call = Call {
+        words: &["."],
+        files: &[("main.bal", file.as_str())],
+        folder_fails: &[],
+        out_fails: &[],
+        diag_fails: &[],
+    };
+    let came = came_with(alloc, &call, MemSink::cut(alloc, 1, 1))?;
+    assert_eq!(rt; status_number(&came.run.status), 8);
+    assert_eq!(rt; came.out.written(), "11\n2".as_bytes());
+    assert_eq!(rt; came.diag.written(), "cannot write the output\n".as_bytes());
+    assert_eq!(rt; came.run.steps, 5);
+    Ok(())
+}
+
+#[test]
+fn the_first_main_counts(rt: HostRuntime) -> Result<(), Fail> {
+    let alloc = rt.alloc();
+    let one = program(alloc, "io:println(1);")?;
+    let two = program(alloc, "io:println(2);")?;
+    let came = came_of(
+        alloc,
+        &Call {
+            words: &["."],
+            files: &[("main.bal", one.as_str()), ("main.bal", two.as_str())],
+            folder_fails: &[],
+            out_fails: &[],
+            diag_fails: &[],
+        },
+    )?;
+    assert_eq!(rt; status_number(&came.run.status), 0);
+    assert_eq!(rt; came.out.written(), "1\n".as_bytes());
+    Ok(())
+}
+
+#[test]
+fn long_programs_run(rt: HostRuntime) -> Result<(), Fail> {
+    let alloc = rt.alloc();
+    let statements = repeated(alloc, "io:println(1);\n", 10000)?;
+    let came = run_statements(alloc, statements.as_str())?;
+    let lines = repeated(alloc, "1\n", 10000)?;
+    assert_eq!(rt; status_number(&came.run.status), 0);
+    assert!(rt; came.out.written() == lines.as_bytes());
+    assert_eq!(rt; came.run.steps, 30003);
+    Ok(())
+}
+
+#[test]
+fn a_sum_has_up_to_100_literals(rt: HostRuntime) -> Result<(), Fail> {
+    let rows = [(99, 0, "100\n", ""), (100, 3, "", NO_DEFINITION)];
+    for (more, status, out, diag) in rows {
+        let mut statement = String::from_str(rt.alloc(), "io:println(1")?;
+        statement.push_str(repeated(rt.alloc(), " + 1", more)?.as_str())?;
+        statement.push_str(");")?;
+        let came = run_statements(rt.alloc(), statement.as_str())?;
+        assert_eq!(rt; status_number(&came.run.status), status);
+        assert_eq!(rt; came.out.written(), out.as_bytes());
+        assert_eq!(rt; came.diag.written(), diag.as_bytes());
+    }
+    Ok(())
+}
+
+#[test]
+fn a_file_has_up_to_1048576_bytes(rt: HostRuntime) -> Result<(), Fail> {
+    let rows = [(1048576, 0, "1\n", ""), (1048577, 3, "", NO_DEFINITION)];
+    for (size, status, out, diag) in rows {
+        let mut file = program(rt.alloc(), "io:println(1);")?;
+        for _ in file.len()..size {
+            file.push(' ')?;
+        }
+        assert_eq!(rt; file.len(), size);
+        let came = run_file(rt.alloc(), file.as_str())?;
+        assert_eq!(rt; status_number(&came.run.status), status);
+        assert_eq!(rt; came.out.written(), out.as_bytes());
+        assert_eq!(rt; came.diag.written(), diag.as_bytes());
     }
     Ok(())
 }

@@ -1,24 +1,27 @@
 //! The top call.
-ghost use Rattle.std.specs.Prelude.{◌≡◌, ◌<◌, ◌⊎◌, ℕ, List, Option, Some, None, IfOk, IfSome, IfNone, IsSome, String};
-ghost use Rattle.std.specs.Global.{Global as HeapGlobal};
-ghost use Rattle.bal_base.specs.End.{End, Returned, Panicked, number_overflow};
+ghost use Rattle.std.specs.Prelude.{◌≡◌, ◌<◌, ◌⊎◌, ℕ, List, Some, None, IfOk, IfSome, IfNone, IsSome, IsSomeAnd};
+ghost use Rattle.bal_base.specs.End.{Returned, Panicked};
 ghost use Rattle.bal_base.specs.declared.fault.Refusal.{Refusal as Refused};
-ghost use Rattle.bal_io.specs.Content.{Told, AppendsFront};
 ghost use Rattle.bal_io.specs.Faults.{Rises};
-ghost use Rattle.bal_run.specs.Evaluation.{Evaluates};
 ghost use Rattle.bal_tree.specs.declared.def.FileTree.{FileTree};
-ghost use Rattle.bal_run.specs.Answer.{ComesTo, Evaluated, IsDue, IsRefusalOf, IsRefusedOr, IsStatusOfEnd, IsStatusOfLoad, Tells, CountsDiagFaults, status_of};
+ghost use Rattle.bal_run.specs.Due.{CameToEnd, IsBeforeRun, IsRefusalOf, RunStopped, StatusIsDue, WroteFrontOf, folder_tells, outside, sink_tells, status_of};
+ghost use Rattle.bal_run.specs.Evaluation.{Evaluates};
 ghost use Rattle.bal_run.specs.Files.{Files, CompilesTo, HasNoMain, HasNoProgram, IsTreeOf};
 ghost use Rattle.bal_run.specs.Lowering.{Simulates};
-ghost use Rattle.bal_run.specs.Status.{IsTold, no_main, not_a_definition, text_of};
+ghost use Rattle.bal_run.specs.Progress.{CameSoFar, StoppedInPrint};
+ghost use Rattle.bal_run.specs.Report.{CanReport, ComesTo, CountsDiagFaults, IsToldWhole, Reports, WroteFrontOfSomeText, WroteFrontsOfSomeTexts, WroteText};
+ghost use Rattle.bal_run.specs.Work.{IsRefusedOr, IsStatusOfLoad, IsStatusOfRun};
+ghost use Rattle.bal_run.specs.Status.{no_main, not_a_definition};
 ghost use Rattle.bal_run.specs.Words.{IsGood};
 ghost use Rattle.bal_run.specs.declared.status.Status.{Status as AnyStatus};
+ghost use Rattle.stack_code.specs.Outcome.{Outcome, nothing};
 
 use crate::compile::{LoadFault, compile};
 use crate::machine::{Ending, run};
-use crate::status::{Built, Run, Status, text};
+use crate::report::report;
+use crate::status::{Built, Run, Status};
 use crate::words::is_good;
-use bal_base::{Failed, Fault, FaultCode, Kept, Memory, Name, Place, Refusal, Stop, Text};
+use bal_base::{Failed, Fault, FaultCode, Kept, Memory, Name, Place, Refusal, Stop};
 use bal_io::{Folder, Sink, Source};
 use std::alloc::Global;
 
@@ -35,31 +38,38 @@ pub fn bal_run<F: Folder, I: Source, O: Sink, E: Sink>(
     out: &mut O,
     diag: &mut E,
 ) -> Run
+    // The whole: the status that is due, and how it became the answer.
     ensures answer { (due : AnyStatus)
-        × IsDue (record {
-          words = words.now;
-          files = F.files folder.old;
-          folder_before = F.faults folder.old;
-          folder_after = F.faults folder.new;
-          out_before = O.faults out.old;
-          out_after = O.faults out.new;
-          written_before = O.written out.old;
-          written_after = O.written out.new;
-        }) result due
-        × Tells due result.status (E.written diag.old) (E.written diag.new) }
+        × StatusIsDue words.now
+        (outside (folder_tells (F.faults folder.old) (F.files folder.old)) (sink_tells (O.faults out.old) (O.written out.old)))
+        (outside (folder_tells (F.faults folder.new) (F.files folder.new)) (sink_tells (O.faults out.new) (O.written out.new)))
+        result due
+        × Reports due result.status (sink_tells (E.faults diag.old) (E.written diag.old)) (sink_tells (E.faults diag.new) (E.written diag.new)) }
 
-    // What was built, and that nothing is written where nothing was.
+    // What was built.
     ensures built { IfSome result.built (CompilesTo (F.files folder.old)) }
     ensures built_due { IsGood words.now → (files : Files) (tree : FileTree) → F.files folder.old ≡ Some files → IsTreeOf files tree
         → IsSome result.built ⊎ ComesTo Status.FolderFault result.status }
-    ensures unbuilt { IfNone result.built (O.written out.new ≡ O.written out.old) }
 
-    // The end of a program that was built, both ways: its status, and its output.
-    ensures done { result.status ≡ Status.Done → Evaluated result.built Returned (O.written out.old) (O.written out.new) }
+    // How far the code ran, and what was written by then.
+    ensures turns { IfSome result.built (λ _. result.turns ≡ 1) }
+    ensures progress { IfSome result.built (λ built. CameSoFar built.code result.steps (O.written out.old) (O.written out.new)) }
+    ensures front { IfSome result.built (λ built. WroteFrontOf built (O.written out.old) (O.written out.new)) }
+
+    // Where nothing was built no code ran, and nothing was written.
+    ensures unbuilt { IfNone result.built (O.written out.new ≡ O.written out.old) }
+    ensures unbuilt_steps { IfNone result.built (result.steps ≡ 0) }
+    ensures unbuilt_turns { IfNone result.built (result.turns ≡ 0) }
+    ensures before_run { IsBeforeRun result.status → result.built ≡ None }
+    ensures before_run_out { IsBeforeRun result.status → O.written out.new ≡ O.written out.old }
+
+    // The end of a program that was built, both ways: its status, its output and its steps.
+    ensures done { result.status ≡ Status.Done
+        → IsSomeAnd result.built (λ built. CameToEnd Returned built result.steps (O.written out.old) (O.written out.new)) }
     ensures panicked { (message : List ℕ) → result.status ≡ Status.Panicked message
-        → Evaluated result.built (Panicked message) (O.written out.old) (O.written out.new) }
-    ensures end_due { (Rises (O.faults out.old) (O.faults out.new) → ⊥) → IfSome result.built (λ built. (output : List ℕ) (end : End)
-        → Evaluates built.tree output end → ComesTo (status_of end) result.status) }
+        → IsSomeAnd result.built (λ built. CameToEnd (Panicked message) built result.steps (O.written out.old) (O.written out.new)) }
+    ensures end_due { (Rises (O.faults out.old) (O.faults out.new) → ⊥) → IfSome result.built (λ built. (outcome : Outcome)
+        → Evaluates built.tree nothing outcome → ComesTo (status_of outcome.end) result.status) }
 
     // Each cause, both ways. A cause comes to its status, unless the diagnostics fail or memory runs out.
     ensures words { result.status ≡ Status.Words → IsGood words.now → ⊥ }
@@ -71,15 +81,29 @@ pub fn bal_run<F: Folder, I: Source, O: Sink, E: Sink>(
         → ComesTo (Status.Refused not_a_definition) result.status ⊎ ComesTo Status.FolderFault result.status }
     ensures folder_fault { result.status ≡ Status.FolderFault → Rises (F.faults folder.old) (F.faults folder.new) }
     ensures folder_due { F.faults folder.old < F.faults folder.new → ComesTo Status.FolderFault result.status }
+
+    // The output failed in a print: at that state's step, having written no more than a first part of it.
     ensures out_fault { result.status ≡ Status.OutFault → Rises (O.faults out.old) (O.faults out.new) }
     ensures out_due { O.faults out.old < O.faults out.new → ComesTo Status.OutFault result.status }
+    ensures out_fault_place { result.status ≡ Status.OutFault
+        → IsSomeAnd result.built (λ built. StoppedInPrint built.code result.steps (O.written out.old) (O.written out.new)) }
+    ensures out_due_place { O.faults out.old < O.faults out.new
+        → IsSomeAnd result.built (λ built. StoppedInPrint built.code result.steps (O.written out.old) (O.written out.new)) }
+
+    // What the diagnostics gained, and their count. Where main returned, they are not written to.
     ensures diag { CountsDiagFaults result.status (E.faults diag.old) (E.faults diag.new) }
+    ensures done_text { result.status ≡ Status.Done → E.written diag.new ≡ E.written diag.old }
+    ensures text { IsToldWhole result.status → WroteText result.status (E.written diag.old) (E.written diag.new) }
+    ensures diag_fault_text { result.status ≡ Status.DiagFault → WroteFrontOfSomeText (E.written diag.old) (E.written diag.new) }
+    ensures memory_text { result.status ≡ Status.Memory → WroteFrontsOfSomeTexts (E.written diag.old) (E.written diag.new) }
+
+    // The input is not asked.
     ensures rest { I.rest input.new ≡ I.rest input.old }
     ensures input { I.faults input.new ≡ I.faults input.old }
 {
     let _ = input;
     let due = work(alloc, words, folder, out);
-    let status = tell(due.status, diag);
+    let status = report(alloc, due.status, diag);
     Run {
         status,
         built: due.built,
@@ -88,19 +112,13 @@ pub fn bal_run<F: Folder, I: Source, O: Sink, E: Sink>(
     }
 }
 
-/// Compiles and runs. The status is the one that is due, and its text is not told yet.
+/// Compiles and runs. The status is the one that is due, and its text is not written yet.
 fn work<F: Folder, O: Sink>(alloc: Global, words: &[String], folder: &mut F, out: &mut O) -> Run
-    ensures due { IsDue (record {
-      words = words.now;
-      files = F.files folder.old;
-      folder_before = F.faults folder.old;
-      folder_after = F.faults folder.new;
-      out_before = O.faults out.old;
-      out_after = O.faults out.new;
-      written_before = O.written out.old;
-      written_after = O.written out.new;
-    }) result result.status }
-    ensures told { IsTold result.status }
+    ensures due { StatusIsDue words.now
+        (outside (folder_tells (F.faults folder.old) (F.files folder.old)) (sink_tells (O.faults out.old) (O.written out.old)))
+        (outside (folder_tells (F.faults folder.new) (F.files folder.new)) (sink_tells (O.faults out.new) (O.written out.new)))
+        result result.status }
+    ensures text { CanReport result.status }
 {
     if !is_good(words) {
         return not_run(Status::Words);
@@ -126,53 +144,37 @@ fn not_run(status: Status) -> Run
 /// Runs the code that was built.
 fn execute<O: Sink>(alloc: Global, built: Built, out: &mut O) -> Run
     requires { Simulates built.tree built.code }
-    ensures due { (words : List (String HeapGlobal)) (files : Option Files) (folder : ℕ) → IsGood words → CompilesTo files built →
-        IsDue (record {
-          words = words;
-          files = files;
-          folder_before = folder;
-          folder_after = folder;
-          out_before = O.faults out.old;
-          out_after = O.faults out.new;
-          written_before = O.written out.old;
-          written_after = O.written out.new;
-        }) result result.status }
-    ensures told { IsTold result.status }
+    ensures kept { result.built ≡ Some built }
+    ensures turns { result.turns ≡ 1 }
+    ensures stopped { RunStopped built result.steps
+        (sink_tells (O.faults out.old) (O.written out.old)) (sink_tells (O.faults out.new) (O.written out.new)) result.status }
+    ensures text { CanReport result.status }
 {
     let ran = run(alloc, &built.code, out);
     Run {
-        status: end_status(alloc, ran.end),
+        status: run_status(ran.end),
         built: Some(built),
         turns: 1,
         steps: ran.steps,
     }
 }
 
-/// The status of a run that came to this end.
-fn end_status(alloc: Global, end: Result<Ending, Stop<Failed>>) -> Status
-    ensures { IsStatusOfEnd end result }
+/// The status of a run that came to this end, or to none.
+fn run_status(end: Result<Ending, Stop<Failed>>) -> Status
+    ensures { IsStatusOfRun end result }
 {
     match end {
         Ok(Ending::Returned) => Status::Done,
-        Ok(Ending::Overflowed) => overflowed(alloc),
+        Ok(Ending::Panicked(message)) => Status::Panicked(message),
         Err(Stop::Memory) => Status::Memory,
         Err(Stop::Fault(Failed)) => Status::OutFault,
     }
 }
 
-/// The panic at an int that is too large or too small.
-fn overflowed(alloc: Global) -> Status
-    ensures { (result ≡ Status.Panicked number_overflow) ⊎ (result ≡ Status.Memory) }
-{
-    match Text::new(alloc, "{ballerina}NumberOverflow") {
-        Ok(message) => Status::Panicked(message),
-        Err(Memory) => Status::Memory,
-    }
-}
-
 /// The status of a folder that does not compile.
 fn load_status(alloc: Global, stop: Stop<LoadFault>) -> Status
-    ensures { IsStatusOfLoad stop result }
+    ensures status { IsStatusOfLoad stop result }
+    ensures text { CanReport result }
 {
     match stop {
         Stop::Memory => Status::Memory,
@@ -221,31 +223,4 @@ fn not_a_definition(alloc: Global) -> Result<Refusal, Memory>
         line: 1,
         column: 1,
     })
-}
-
-/// Tells the status that is due, and gives the one that it comes to.
-fn tell<E: Sink>(due: Status, diag: &mut E) -> Status
-    requires { IsTold due }
-    ensures tells { Tells due result (E.written diag.old) (E.written diag.new) }
-    ensures faults { CountsDiagFaults result (E.faults diag.old) (E.faults diag.new) }
-{
-    match due {
-        Status::Done => Status::Done,
-        Status::Memory => tell_memory(diag),
-        due => match diag.write(text(&due)) {
-            Ok(()) => due,
-            Err(Stop::Fault(Failed)) => Status::DiagFault,
-            Err(Stop::Memory) => tell_memory(diag),
-        },
-    }
-}
-
-/// Tells that memory ran out, as far as it can be told.
-fn tell_memory<E: Sink>(diag: &mut E) -> Status
-    ensures memory { result ≡ Status.Memory }
-    ensures front { Told (AppendsFront (text_of Status.Memory)) (E.written diag.old) (E.written diag.new) }
-    ensures faults { (E.faults diag.new ≡ E.faults diag.old) ⊎ Rises (E.faults diag.old) (E.faults diag.new) }
-{
-    let _ = diag.write(text(&Status::Memory));
-    Status::Memory
 }

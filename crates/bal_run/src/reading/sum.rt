@@ -1,8 +1,7 @@
 //! Sums: products joined by `+`, each of int literals joined by `*`.
 ghost use Rattle.std.specs.Prelude.{◌≡◌, ◌≤◌, IfOk, IfSome, option_map};
-ghost use Rattle.bal_tree.specs.declared.expr.BinaryOp.TheVariants.{Add, Multiply};
-ghost use Rattle.bal_run.specs.Form.{SumReads, literals};
-ghost use Rattle.bal_run.specs.Reading.{lexeme_rest, binary_op, sign_of, operator_rest, terms, IsBinary, Extends, Closes};
+ghost use Rattle.bal_run.specs.Form.{SumReads, literals, most_literals};
+ghost use Rattle.bal_run.specs.Reading.{lexeme_rest, sign_of, operator_rest, terms, IsBinary, Extends, Closes};
 
 use super::lexeme::lexeme;
 use super::literal::literal;
@@ -22,7 +21,7 @@ enum SumOp {
 
 /// The operator at the front and what stands behind it.
 fn operator(bytes: &[u8]) -> Option<(SumOp, &[u8])>
-    ensures found { IfSome result (λ x. lexeme_rest (sign_of (binary_op x.0)) 0 bytes.now ≡ Some x.1.now) }
+    ensures found { IfSome result (λ x. lexeme_rest (sign_of x.0) 0 bytes.now ≡ Some x.1.now) }
     ensures rest { option_map (λ x. x.1.now) result ≡ operator_rest bytes.now }
 {
     match lexeme(bytes, b"*", 0) {
@@ -59,7 +58,7 @@ struct OpenSum {
 impl OpenSum {
     /// The sum with one more operator and literal.
     fn then(self, alloc: Global, op: SumOp, right: Expr) -> Result<OpenSum, Memory>
-        ensures { IfOk result (Extends self (binary_op op) right) }
+        ensures { IfOk result (Extends self op right) }
     {
         match op {
             SumOp::Times => self.times(alloc, right),
@@ -69,7 +68,7 @@ impl OpenSum {
 
     /// The sum whose last product is multiplied by the literal.
     fn times(self, alloc: Global, right: Expr) -> Result<OpenSum, Memory>
-        ensures { IfOk result (Extends self Multiply right) }
+        ensures { IfOk result (Extends self SumOp.Times right) }
     {
         let OpenSum { before, product } = self;
         let product = binary(alloc, product, BinaryOp::Multiply, right)?;
@@ -78,7 +77,7 @@ impl OpenSum {
 
     /// The sum to which the literal is added.
     fn plus(self, alloc: Global, right: Expr) -> Result<OpenSum, Memory>
-        ensures { IfOk result (Extends self Add right) }
+        ensures { IfOk result (Extends self SumOp.Plus right) }
     {
         let before = self.close(alloc)?;
         Ok(OpenSum {
@@ -99,10 +98,10 @@ impl OpenSum {
     }
 }
 
-/// The sum at the front and what stands behind it, or `None` where there is none of at most 100 literals.
+/// The sum at the front and what stands behind it, or `None` where there is none of at most `MAX_LITERALS` literals.
 pub fn sum(alloc: Global, size: u32, bytes: &[u8]) -> Result<Option<(Expr, &[u8])>, Memory>
-    ensures found { IfOk result (λ o. IfSome o (λ x. SumReads size bytes.now x.0 x.1.now × (literals x.0 ≤ 100))) }
-    ensures rest { IfOk result (λ o. option_map (λ x. x.1.now) o ≡ terms 100 bytes.now) }
+    ensures found { IfOk result (λ o. IfSome o (λ x. SumReads size bytes.now x.0 x.1.now × (literals x.0 ≤ most_literals))) }
+    ensures rest { IfOk result (λ o. option_map (λ x. x.1.now) o ≡ terms most_literals bytes.now) }
 {
     let Some((product, mut rest)) = literal(size, bytes) else {
         return Ok(None);

@@ -1,7 +1,7 @@
 use Rattle.std.proofs.Common.{subst}
 use Rattle.std.specs.Prelude.{IfSome}
 use Rattle.bal_run.specs.Files.{IsBuiltFrom, IsFrontOfMain}
-use Rattle.bal_run.proofs.Mains.{compiled-of}
+use Rattle.bal_run.proofs.FindingMain.{compiled-of}
 use Rattle.bal_run.proofs.compile.compile.Goals as goal
 
 pub returns-in-Ok-Some-clause-compiled : goal.returns-in-Ok-Some-clause-compiled

@@ -1,6 +1,6 @@
 use Rattle.std.proofs.Common.{◌≤◌, length, sym, subst, ◌∙◌}
 use Rattle.std.specs.Prelude.{IfSome}
-use Rattle.bal_run.proofs.Mains.{no-answer, none-more, found-here, searched-none}
+use Rattle.bal_run.proofs.FindingMain.{no-answer, none-more, found-here, searched-none}
 use Rattle.bal_run.proofs.compile.find_main.Goals as goal
 
 pub returns-then-is_main-clause-found : goal.returns-then-is_main-clause-found

@@ -1,6 +1,6 @@
 use Rattle.std.proofs.Common.{◌≡◌, ◌≤◌, length}
 use Rattle.std.specs.Prelude.{IfSome}
-use Rattle.bal_run.proofs.Mains.{NoneBefore}
+use Rattle.bal_run.proofs.FindingMain.{NoneBefore}
 use Rattle.bal_run.proofs.compile.find_main.Given as goal
 
 abbrev pub invariant-loop-i : goal.invariant-loop-i

@@ -4,7 +4,7 @@ use Rattle.std.specs.Cmp.Lexicographic.{bytes_decides}
 use Rattle.std.proofs.lemmas.Str.{encodes-chars}
 use lib.Utf8.{encodes}
 use Rattle.bal_run.specs.Files.{main_name}
-use Rattle.bal_run.proofs.Mains.{chars-name, encodes-name}
+use Rattle.bal_run.proofs.FindingMain.{chars-name, encodes-name}
 use Rattle.bal_run.proofs.compile.is_main.Goals as goal
 
 pub returns : goal.returns

@@ -3,7 +3,7 @@ use Rattle.std.specs.Prelude.{FitsSigned}
 use Rattle.std.specs.Int.{w64}
 use Rattle.std.proofs.lemmas.Int.{to_z-of_z}
 use Rattle.std.proofs.lemmas.Result.{IfOk-weaker}
-use Rattle.bal_run.proofs.Moves.{computed}
+use Rattle.bal_run.proofs.Instructions.{computed}
 use Rattle.bal_run.proofs.machine.add.Goals as goal
 
 pub returns : goal.returns

@@ -1,56 +1,99 @@
-use Rattle.bal_run.specs.Answer.{Scene}
-use Rattle.bal_run.specs.Status.{not_a_definition}
+use Rattle.std.proofs.Common.{inl, inr, ⊎_elim}
 use Rattle.bal_base.specs.End.{Returned, Panicked as PanickedEnd}
-use Rattle.bal_run.specs.declared.status.Status.TheVariants.{Refused}
-use Rattle.bal_run.proofs.Causes.{built-compiles, built-due, built-or-failed, told-end, ends-as-due, no-program-due, come-or-fail}
+use Rattle.bal_run.specs.Evaluation.{Evaluates}
+use Rattle.stack_code.specs.Outcome.{nothing}
+use Rattle.bal_run.specs.Status.{no_main, not_a_definition}
+use Rattle.bal_run.specs.declared.status.Status.TheVariants.{Done, Panicked, Refused, FolderFault, OutFault, Words}
+use Rattle.bal_run.proofs.DueStatus.{built-compiles, built-due, built-front, built-progress, built-turns, due-again, end-due, ended-so, folder-rose, no-main-due, no-program-due, nothing-ran, only-folder, only-out, only-words, out-failed, refusal, unbuilt-steps, unbuilt-turns, unbuilt-written, words-bad}
+use Rattle.bal_run.proofs.Reporting.{before-run-due, come-or-fail, come-or-memory, comes-from, counts, diag-fault-text, done-text, due-is, end-comes, memory-text, whole-text}
 use Rattle.bal_run.proofs.top.bal_run.Goals as goal
 
-pub returns-clause-built : goal.returns-clause-built
-returns-clause-built g c =
-    let scene : Scene =
-    record {
-      words = c.args.words.now;
-      files = g.F.Folder.files c.args.folder.now;
-      folder_before = g.F.Folder.faults c.args.folder.now;
-      folder_after = g.F.Folder.faults c.work-due.new.folder;
-      out_before = g.O.Sink.faults c.args.out.now;
-      out_after = g.O.Sink.faults c.work-due.new.out;
-      written_before = g.O.Sink.written c.args.out.now;
-      written_after = g.O.Sink.written c.work-due.new.out;
-    } in
-    built-compiles scene c.work-due.result c.work-due.result.status c.work-due.ensures.due
+pub returns-clause-answer : goal.returns-clause-answer
+returns-clause-answer g c = (c.work-due.result.status, due-again _ _ _ _ _ c.work-due.ensures.due c.report-status.result, c.report-status.ensures)
 
-pub returns-clause-no_program_due : goal.returns-clause-no_program_due
-returns-clause-no_program_due g c =
-    let scene : Scene =
-    record {
-      words = c.args.words.now;
-      files = g.F.Folder.files c.args.folder.now;
-      folder_before = g.F.Folder.faults c.args.folder.now;
-      folder_after = g.F.Folder.faults c.work-due.new.folder;
-      out_before = g.O.Sink.faults c.args.out.now;
-      out_after = g.O.Sink.faults c.work-due.new.out;
-      written_before = g.O.Sink.written c.args.out.now;
-      written_after = g.O.Sink.written c.work-due.new.out;
-    } in
-    λ good files told none.
-    come-or-fail c.work-due.result.status (Refused not_a_definition) c.tell-status.result _ _
-    (no-program-due scene c.work-due.result files c.work-due.result.status told good none c.work-due.ensures.due)
-    c.tell-status.ensures.tells
+pub returns-clause-built : goal.returns-clause-built
+returns-clause-built g c = built-compiles _ _ _ _ _ c.work-due.ensures.due
+
+pub returns-clause-turns : goal.returns-clause-turns
+returns-clause-turns g c = built-turns _ _ _ _ _ c.work-due.ensures.due
+
+pub returns-clause-progress : goal.returns-clause-progress
+returns-clause-progress g c = built-progress _ _ _ _ _ c.work-due.ensures.due
+
+pub returns-clause-front : goal.returns-clause-front
+returns-clause-front g c = built-front _ _ _ _ _ c.work-due.ensures.due
+
+pub returns-clause-unbuilt : goal.returns-clause-unbuilt
+returns-clause-unbuilt g c = unbuilt-written _ _ _ _ _ c.work-due.ensures.due
+
+pub returns-clause-unbuilt_steps : goal.returns-clause-unbuilt_steps
+returns-clause-unbuilt_steps g c = unbuilt-steps _ _ _ _ _ c.work-due.ensures.due
+
+pub returns-clause-unbuilt_turns : goal.returns-clause-unbuilt_turns
+returns-clause-unbuilt_turns g c = unbuilt-turns _ _ _ _ _ c.work-due.ensures.due
 
 pub returns-clause-built_due : goal.returns-clause-built_due
-returns-clause-built_due g c =
-    λ good files tree told is.
-    built-or-failed c.work-due.result c.tell-status.result _ _ (built-due _ c.work-due.result files tree c.work-due.result.status told good is c.work-due.ensures.due) c.tell-status.ensures.tells
+returns-clause-built_due g c = λ good files tree told is. ⊎_elim (λ b. inl b) (λ q. inr (come-or-memory _ _ _ _ c.report-status.ensures FolderFault q)) (built-due _ _ _ _ _ c.work-due.ensures.due files tree told good is)
+
+pub returns-clause-before_run : goal.returns-clause-before_run
+returns-clause-before_run g c = λ h. (nothing-ran _ _ _ _ _ c.work-due.ensures.due (before-run-due _ _ _ _ c.report-status.ensures h)).built
+
+pub returns-clause-before_run_out : goal.returns-clause-before_run_out
+returns-clause-before_run_out g c = λ h. (nothing-ran _ _ _ _ _ c.work-due.ensures.due (before-run-due _ _ _ _ c.report-status.ensures h)).written
 
 pub returns-clause-done : goal.returns-clause-done
-returns-clause-done g c =
-    λ done. told-end _ c.work-due.result c.work-due.result.status c.tell-status.result Returned _ _ c.work-due.ensures.due c.tell-status.ensures.tells done
+returns-clause-done g c = λ e. ended-so _ _ _ _ _ c.work-due.ensures.due Returned (due-is _ _ _ _ c.report-status.ensures Done (λ f. let bad : ⊥ = cc in bad) (λ f. let bad : ⊥ = cc in bad) e)
 
 pub returns-clause-panicked : goal.returns-clause-panicked
-returns-clause-panicked g c =
-    λ message panicked. told-end _ c.work-due.result c.work-due.result.status c.tell-status.result (PanickedEnd message) _ _ c.work-due.ensures.due c.tell-status.ensures.tells panicked
+returns-clause-panicked g c = λ message e. ended-so _ _ _ _ _ c.work-due.ensures.due (PanickedEnd message) (due-is _ _ _ _ c.report-status.ensures (Panicked message) (λ f. let bad : ⊥ = cc in bad) (λ f. let bad : ⊥ = cc in bad) e)
 
 pub returns-clause-end_due : goal.returns-clause-end_due
-returns-clause-end_due g c =
-    λ fine. ends-as-due _ c.work-due.result c.tell-status.result _ _ c.work-due.ensures.due c.tell-status.ensures.tells fine
+returns-clause-end_due g c = λ fine. end-comes _ _ _ _ c.report-status.ensures c.work-due.result.built (λ b. Evaluates b.tree nothing) (end-due _ _ _ _ _ c.work-due.ensures.due fine)
+
+pub returns-clause-words : goal.returns-clause-words
+returns-clause-words g c = λ e. words-bad _ _ _ _ _ c.work-due.ensures.due (due-is _ _ _ _ c.report-status.ensures Words (λ f. let bad : ⊥ = cc in bad) (λ f. let bad : ⊥ = cc in bad) e)
+
+pub returns-clause-words_due : goal.returns-clause-words_due
+returns-clause-words_due g c = λ bad. comes-from _ _ _ _ c.report-status.ensures Words (only-words _ _ _ _ _ c.work-due.ensures.due bad)
+
+pub returns-clause-refused : goal.returns-clause-refused
+returns-clause-refused g c = λ r e. refusal _ _ _ _ _ c.work-due.ensures.due r (due-is _ _ _ _ c.report-status.ensures (Refused r) (λ f. let bad : ⊥ = cc in bad) (λ f. let bad : ⊥ = cc in bad) e)
+
+pub returns-clause-no_main_due : goal.returns-clause-no_main_due
+returns-clause-no_main_due g c = λ good files told none. come-or-fail _ _ _ _ c.report-status.ensures (Refused no_main) (no-main-due _ _ _ _ _ c.work-due.ensures.due files told good none)
+
+pub returns-clause-no_program_due : goal.returns-clause-no_program_due
+returns-clause-no_program_due g c = λ good files told none. come-or-fail _ _ _ _ c.report-status.ensures (Refused not_a_definition) (no-program-due _ _ _ _ _ c.work-due.ensures.due files told good none)
+
+pub returns-clause-folder_fault : goal.returns-clause-folder_fault
+returns-clause-folder_fault g c = λ e. folder-rose _ _ _ _ _ c.work-due.ensures.due (due-is _ _ _ _ c.report-status.ensures FolderFault (λ f. let bad : ⊥ = cc in bad) (λ f. let bad : ⊥ = cc in bad) e)
+
+pub returns-clause-folder_due : goal.returns-clause-folder_due
+returns-clause-folder_due g c = λ up. comes-from _ _ _ _ c.report-status.ensures FolderFault (only-folder _ _ _ _ _ c.work-due.ensures.due up)
+
+pub returns-clause-out_fault : goal.returns-clause-out_fault
+returns-clause-out_fault g c = λ e. (out-failed _ _ _ _ _ c.work-due.ensures.due (due-is _ _ _ _ c.report-status.ensures OutFault (λ f. let bad : ⊥ = cc in bad) (λ f. let bad : ⊥ = cc in bad) e)).0
+
+pub returns-clause-out_due : goal.returns-clause-out_due
+returns-clause-out_due g c = λ up. comes-from _ _ _ _ c.report-status.ensures OutFault (only-out _ _ _ _ _ c.work-due.ensures.due up)
+
+pub returns-clause-out_fault_place : goal.returns-clause-out_fault_place
+returns-clause-out_fault_place g c = λ e. (out-failed _ _ _ _ _ c.work-due.ensures.due (due-is _ _ _ _ c.report-status.ensures OutFault (λ f. let bad : ⊥ = cc in bad) (λ f. let bad : ⊥ = cc in bad) e)).1
+
+pub returns-clause-out_due_place : goal.returns-clause-out_due_place
+returns-clause-out_due_place g c = λ up. (out-failed _ _ _ _ _ c.work-due.ensures.due (only-out _ _ _ _ _ c.work-due.ensures.due up)).1
+
+pub returns-clause-diag : goal.returns-clause-diag
+returns-clause-diag g c = counts _ _ _ _ c.report-status.ensures
+
+pub returns-clause-done_text : goal.returns-clause-done_text
+returns-clause-done_text g c = done-text _ _ _ _ c.report-status.ensures
+
+pub returns-clause-text : goal.returns-clause-text
+returns-clause-text g c = whole-text _ _ _ _ c.report-status.ensures
+
+pub returns-clause-diag_fault_text : goal.returns-clause-diag_fault_text
+returns-clause-diag_fault_text g c = diag-fault-text _ _ _ _ c.report-status.ensures
+
+pub returns-clause-memory_text : goal.returns-clause-memory_text
+returns-clause-memory_text g c = memory-text _ _ _ _ c.report-status.ensures

@@ -1,6 +1,13 @@
-use Rattle.bal_run.proofs.Executed.{executed}
+use Rattle.stack_code.specs.Outcome.{nothing}
+use Rattle.bal_run.proofs.DueAfterRun.{run-stopped-so, run-can-report}
 use Rattle.bal_run.proofs.top.execute.Goals as goal
 
-pub returns-clause-due : goal.returns-clause-due
-returns-clause-due g c =
-    λ words files folder good comp. executed c.args.built c.run-ran.result.steps _ _ _ _ words files folder c.run-ran.result.end c.end_status.result c.requires c.run-ran.ensures.faults c.run-ran.ensures.made c.run-ran.ensures.steps c.run-ran.ensures.front c.end_status.ensures good comp
+pub run-ran-requires : goal.run-ran-requires
+run-ran-requires g c = c.requires.ends nothing
+
+pub returns-clause-stopped : goal.returns-clause-stopped
+returns-clause-stopped g c =
+    run-stopped-so c.args.built c.run-ran.result.steps _ _ c.run-ran.result.end c.run_status.result c.requires c.run-ran.ensures.faults c.run-ran.ensures.ended c.run-ran.ensures.stopped c.run_status.ensures
+
+pub returns-clause-text : goal.returns-clause-text
+returns-clause-text g c = run-can-report c.run-ran.result.end c.run_status.result c.run_status.ensures

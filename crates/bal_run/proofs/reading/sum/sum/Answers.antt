@@ -1,11 +1,12 @@
 use Rattle.std.proofs.Common.{◌≡◌, ◌-◌, ap, sym, ◌∙◌, suc, arith}
-use Rattle.bal_run.specs.Reading.{binary_op, sign_of, terms}
+use Rattle.bal_run.specs.Form.{most_literals}
+use Rattle.bal_run.specs.Reading.{sign_of, terms}
 use Rattle.bal_run.proofs.ReadingLexeme.{lexeme_found}
 use Rattle.bal_run.proofs.ReadingSum.{product_of_literal, literals_of_literal, go_on_some, go_on_none, terms_zero, terms_some, terms_none}
 use Rattle.bal_run.proofs.reading.sum.sum.Goals as goal
 
 pub returns-in_default-clause-rest : goal.returns-in_default-clause-rest
-returns-in_default-clause-rest c = sym (terms_none 100 _ (sym c.in_default.ensures.rest))
+returns-in_default-clause-rest c = sym (terms_none most_literals _ (sym c.in_default.ensures.rest))
 
 pub loop-op-init : goal.loop-op-init
 loop-op-init c =
@@ -28,7 +29,7 @@ returns-in_default-literal-clause-rest c =
 
 pub loop-op-preserved : goal.loop-op-preserved
 loop-op-preserved c =
-    let sign = lexeme_found (sign_of (binary_op c.in-Some-operator.op)) 0 _ _ c.in-Some-operator.ensures.found in
+    let sign = lexeme_found (sign_of c.in-Some-operator.op) 0 _ _ c.in-Some-operator.ensures.found in
     let more = c.in_ok-sum.ensures c.args.size c.args.bytes.now _ _ _ c.loop-op.invariant.reads sign c.in-Some-literal.ensures.found in
     let one : suc (c.loop-op.room - 1) ≡ c.loop-op.room = omega arith in
     record {

@@ -1,0 +1,275 @@
+-- Each fact of a call by the cause of its status.
+use Rattle.std.proofs.Common.{◌≡◌, ◌≢◌, ◌⊎◌, ℕ, ◌<◌, List, Bool, true, false, Option, Some, None, refl, sym, ap, subst, ◌∙◌, inl, inr, ⊎_elim, arith}
+use Rattle.std.specs.Prelude.{IfSome, IfNone, IsSome, IsSomeAnd, slice_get, map, String}
+use Rattle.std.specs.Global.{Global}
+use Rattle.bal_base.specs.End.{End, Returned, Panicked as PanickedEnd}
+use Rattle.bal_base.specs.declared.fault.Refusal.{Refusal}
+use Rattle.bal_io.specs.Faults.{Rises}
+use Rattle.bal_tree.specs.declared.def.FileTree.{FileTree}
+use Rattle.bal_run.specs.declared.status.Built.{Built}
+use Rattle.bal_run.specs.declared.status.Run.{Run}
+use Rattle.bal_run.specs.declared.status.Status.{Status}
+use Rattle.bal_run.specs.declared.status.Status.TheVariants.{Done, ErrorReturned, Panicked, Refused, GoesOn, Stalled, FolderFault, InputFault, OutFault, Memory, Words, Limit, DiagFault}
+use Rattle.bal_run.specs.Due.{BadFolder, BadWords, CameToEnd, CodeRan, FolderFails, FolderRefused, IsBeforeRun, IsRefusalOf, NoMemoryToBuild, NoMemoryToRun, NothingRan, OutputFailed, Outside, RunEnded, RunStopped, SinkTells, StatusIsDue, WroteFrontOf, status_of}
+use Rattle.bal_run.specs.Evaluation.{Evaluates}
+use Rattle.bal_run.specs.Files.{Files, HasNoMain, HasNoProgram, CompilesTo, IsMainFile, IsProgram, IsTreeOf}
+use Rattle.bal_run.specs.Progress.{CameSoFar, StoppedInPrint}
+use Rattle.bal_run.specs.Status.{no_main, not_a_definition}
+use Rattle.bal_run.specs.Words.{IsGood}
+use Rattle.stack_code.specs.Outcome.{Outcome, nothing}
+use Rattle.bal_run.proofs.DueAfterRun.{front-so-far}
+use Rattle.bal_run.proofs.Simulation.{CodeRuns-one}
+
+-- ---- statuses of ends
+
+abbrev is_end : Status → Bool
+is_end Done = true
+is_end (Panicked m) = true
+is_end status = false
+
+ends-are-ends : (end : End) → is_end (status_of end) ≡ true
+ends-are-ends Returned = refl
+ends-are-ends (PanickedEnd m) = refl
+
+not-end : (due status : Status) (end : End) → is_end status ≡ false → due ≡ status → due ≡ status_of end → ⊥
+not-end due status end other e k = let both : true ≡ false = sym (ends-are-ends end) ∙ (ap is_end (sym k ∙ e) ∙ other) in let bad : ⊥ = cc in bad
+
+one-end : (end other : End) → status_of end ≡ status_of other → end ≡ other
+one-end Returned Returned e = refl
+one-end (PanickedEnd m) (PanickedEnd n) e = let same : m ≡ n = cc in ap PanickedEnd same
+one-end Returned (PanickedEnd n) e = absurd (let bad : ⊥ = cc in bad)
+one-end (PanickedEnd m) Returned e = absurd (let bad : ⊥ = cc in bad)
+
+ends-after : (end : End) → IsBeforeRun (status_of end) → ⊥
+ends-after Returned h = h
+ends-after (PanickedEnd m) h = h
+
+-- ---- main files
+
+main-there : (all : Files) (bytes : List ℕ) → HasNoMain all → IsMainFile all bytes → ⊥
+main-there all bytes none m = none m.0 m.1.0
+
+one-main : (all : Files) (bytes other : List ℕ) → IsMainFile all bytes → IsMainFile all other → bytes ≡ other
+one-main all bytes other (k, (n, first), b) (j, (m, least), c) =
+    let same : k ≡ j = ⊎_elim (λ lt. absurd (least k lt n)) (λ (r : (k ≡ j) ⊎ (j < k)). ⊎_elim (λ e. e) (λ lt. absurd (first j lt m)) r) (order k j) in
+    let both : Some bytes ≡ Some other = sym b ∙ (ap (slice_get (map (λ f. f.1) all)) same ∙ c) in cc
+  where
+    order : (a b : ℕ) → (a < b) ⊎ ((a ≡ b) ⊎ (b < a))
+    order a b = grind arith
+
+-- ---- a run, as far as it came
+
+so-far : (built : Built) (made : ℕ) (before after : SinkTells) (due : Status) → RunStopped built made before after due → CameSoFar built.code made before.written after.written
+so-far built made before after due h =
+    ⊎_elim (λ e. inl (e.0, e.3.ended)) (λ r. ⊎_elim (λ f. inr (inr f.2)) (λ m. inr m.2) r) h
+
+module _ (words : List (String Global)) (before after : Outside) (run : Run) (due : Status) (d : StatusIsDue words before after run due) where
+  -- ---- the cause of the status
+
+  by-stage : {P : Type 0} → (BadWords words before after run due → P) → (BadFolder words before after run due → P) → (CodeRan words before after run due → P) → P
+  by-stage f g h = ⊎_elim f (λ r. ⊎_elim g h r) d
+
+  by-cause :
+      {P : Type 0} →
+      (BadWords words before after run due → P) →
+      (BadFolder words before after run due → FolderFails before.folder after.folder due → P) →
+      (BadFolder words before after run due → FolderRefused before.folder after.folder due → P) →
+      (BadFolder words before after run due → NoMemoryToBuild before.folder after.folder due → P) →
+      ((c : CodeRan words before after run due) → RunEnded c.built run.steps before.out after.out due → P) →
+      ((c : CodeRan words before after run due) → OutputFailed c.built run.steps before.out after.out due → P) →
+      ((c : CodeRan words before after run due) → NoMemoryToRun c.built run.steps before.out after.out due → P) →
+      P
+  by-cause f g h k l m n =
+      by-stage f
+      (λ b. ⊎_elim (g b) (λ r. ⊎_elim (h b) (k b) r) b.cause)
+      (λ c. ⊎_elim (l c) (λ r. ⊎_elim (m c) (n c) r) c.cause)
+
+  -- ---- another answer of the same run
+
+  abbrev answered : Status → Run
+  answered status = record { status = status; built = run.built; turns = run.turns; steps = run.steps }
+
+  nothing-again : (status : Status) → NothingRan before after run → NothingRan before after (answered status)
+  nothing-again status n = record { built = n.built; steps = n.steps; turns = n.turns; faults = n.faults; written = n.written }
+
+  pub due-again : (status : Status) → StatusIsDue words before after (answered status) due
+  due-again status =
+      by-stage
+      (λ b. inl (record { due = b.due; bad = b.bad; folder = b.folder; nothing = nothing-again status b.nothing }))
+      (λ b. inr (inl (record { cause = b.cause; good = b.good; nothing = nothing-again status b.nothing })))
+      (λ c. inr (inr (record { built = c.built; cause = c.cause; good = c.good; folder = c.folder; kept = c.kept; compiled = c.compiled; turns = c.turns })))
+
+  -- ---- what was built
+
+  built-where-some : (P : Built → Type 0) → ((c : CodeRan words before after run due) → P c.built) → IfSome run.built P
+  built-where-some P h =
+      by-stage (λ b. subst (λ o. IfSome o P) (sym b.nothing.built) tt) (λ b. subst (λ o. IfSome o P) (sym b.nothing.built) tt) (λ c. subst (λ o. IfSome o P) (sym c.kept) (h c))
+
+  none-built : (Q : Type 0) → (NothingRan before after run → Q) → IfNone run.built Q
+  none-built Q h =
+      by-stage (λ b. subst (λ o. IfNone o Q) (sym b.nothing.built) (h b.nothing)) (λ b. subst (λ o. IfNone o Q) (sym b.nothing.built) (h b.nothing)) (λ c. subst (λ o. IfNone o Q) (sym c.kept) tt)
+
+  pub built-compiles : IfSome run.built (CompilesTo before.folder.files)
+  built-compiles = built-where-some (CompilesTo before.folder.files) (λ c. c.compiled)
+
+  pub built-turns : IfSome run.built (λ b. run.turns ≡ 1)
+  built-turns = built-where-some (λ b. run.turns ≡ 1) (λ c. c.turns)
+
+  pub built-progress : IfSome run.built (λ b. CameSoFar b.code run.steps before.out.written after.out.written)
+  built-progress =
+      built-where-some (λ b. CameSoFar b.code run.steps before.out.written after.out.written)
+      (λ c. so-far c.built run.steps before.out after.out due c.cause)
+
+  pub built-front : IfSome run.built (λ b. WroteFrontOf b before.out.written after.out.written)
+  built-front =
+      built-where-some (λ b. WroteFrontOf b before.out.written after.out.written)
+      (λ c. front-so-far c.built run.steps before.out.written after.out.written c.compiled.1 (so-far c.built run.steps before.out after.out due c.cause))
+
+  pub unbuilt-written : IfNone run.built (after.out.written ≡ before.out.written)
+  unbuilt-written = none-built (after.out.written ≡ before.out.written) (λ n. n.written)
+
+  pub unbuilt-steps : IfNone run.built (run.steps ≡ 0)
+  unbuilt-steps = none-built (run.steps ≡ 0) (λ n. n.steps)
+
+  pub unbuilt-turns : IfNone run.built (run.turns ≡ 0)
+  unbuilt-turns = none-built (run.turns ≡ 0) (λ n. n.turns)
+
+  -- ---- before the run
+
+  pub nothing-ran : IsBeforeRun due → NothingRan before after run
+  nothing-ran h =
+      by-cause (λ b. b.nothing) (λ b f. b.nothing) (λ b f. b.nothing) (λ b f. b.nothing)
+      (λ c e. absurd (ends-after e.0.end (subst IsBeforeRun e.1 h)))
+      (λ c e. absurd (subst IsBeforeRun e.0 h))
+      (λ c e. absurd (subst IsBeforeRun e.0 h))
+
+  pub only-words : (IsGood words → ⊥) → due ≡ Words
+  only-words bad = by-stage (λ b. b.due) (λ b. absurd (bad b.good)) (λ c. absurd (bad c.good))
+
+  pub words-bad : due ≡ Words → IsGood words → ⊥
+  words-bad e good =
+      by-cause (λ b. b.bad good)
+      (λ b f. let k = f.0 in let bad : ⊥ = cc in bad)
+      (λ b f. let k = f.1 in let bad : ⊥ = cc in bad)
+      (λ b f. let k = f.0 in let bad : ⊥ = cc in bad)
+      (λ c f. not-end due Words f.0.end refl e f.1)
+      (λ c f. let k = f.0 in let bad : ⊥ = cc in bad)
+      (λ c f. let k = f.0 in let bad : ⊥ = cc in bad)
+
+  pub only-folder : before.folder.faults < after.folder.faults → due ≡ FolderFault
+  only-folder up =
+      by-cause
+      (λ b. absurd (let same = b.folder in omega arith))
+      (λ b f. f.0)
+      (λ b f. absurd (let same = f.3 in omega arith))
+      (λ b f. absurd (let same = f.1 in omega arith))
+      (λ c f. absurd (let same = c.folder in omega arith))
+      (λ c f. absurd (let same = c.folder in omega arith))
+      (λ c f. absurd (let same = c.folder in omega arith))
+
+  pub folder-rose : due ≡ FolderFault → Rises before.folder.faults after.folder.faults
+  folder-rose e =
+      by-cause
+      (λ b. absurd (let k = b.due in let bad : ⊥ = cc in bad))
+      (λ b f. f.1)
+      (λ b f. absurd (let k = f.1 in let bad : ⊥ = cc in bad))
+      (λ b f. absurd (let k = f.0 in let bad : ⊥ = cc in bad))
+      (λ c f. absurd (not-end due FolderFault f.0.end refl e f.1))
+      (λ c f. absurd (let k = f.0 in let bad : ⊥ = cc in bad))
+      (λ c f. absurd (let k = f.0 in let bad : ⊥ = cc in bad))
+
+  -- ---- refusals
+
+  pub refusal : (r : Refusal) → due ≡ Refused r → IsRefusalOf before.folder.files r
+  refusal r e =
+      by-cause
+      (λ b. absurd (let k = b.due in let bad : ⊥ = cc in bad))
+      (λ b f. absurd (let k = f.0 in let bad : ⊥ = cc in bad))
+      (λ b f. let both : Refused f.0 ≡ Refused r = sym f.1 ∙ e in let same : f.0 ≡ r = cc in subst (IsRefusalOf before.folder.files) same f.2)
+      (λ b f. absurd (let k = f.0 in let bad : ⊥ = cc in bad))
+      (λ c f. absurd (not-end due (Refused r) f.0.end refl e f.1))
+      (λ c f. absurd (let k = f.0 in let bad : ⊥ = cc in bad))
+      (λ c f. absurd (let k = f.0 in let bad : ⊥ = cc in bad))
+
+  abbrev OrFailed : Status → Type 0
+  OrFailed other = (due ≡ other) ⊎ ((due ≡ FolderFault) ⊎ (due ≡ Memory))
+
+  -- a folder without a program is refused so, unless it failed or memory ran out
+  refusal-or-failed : (all : Files) (r : Refusal) → before.folder.files ≡ Some all → IsGood words → ((t : FileTree) → IsTreeOf all t → ⊥) → ((q : Refusal) → IsRefusalOf before.folder.files q → q ≡ r) → OrFailed (Refused r)
+  refusal-or-failed all r e good none one =
+      by-stage
+      (λ b. absurd (b.bad good))
+      (λ b. ⊎_elim (λ f. inr (inl f.0)) (λ q. ⊎_elim (λ f. inl (f.1 ∙ ap Refused (one f.0 f.2))) (λ f. inr (inr f.0)) q) b.cause)
+      (λ c. absurd (none c.built.tree (subst (λ f. IfSome f (λ a. IsTreeOf a c.built.tree)) e c.compiled.0)))
+
+  pub no-main-due : (all : Files) → before.folder.files ≡ Some all → IsGood words → HasNoMain all → OrFailed (Refused no_main)
+  no-main-due all e good none =
+      refusal-or-failed all no_main e good (λ t h. main-there all h.0 none h.1)
+      (λ q h. ⊎_elim (λ a. a.0) (λ b. absurd (let p = subst (λ f. IfSome f HasNoProgram) e b.1 in main-there all p.0 none p.1)) h)
+
+  pub no-program-due : (all : Files) → before.folder.files ≡ Some all → IsGood words → HasNoProgram all → OrFailed (Refused not_a_definition)
+  no-program-due all e good none =
+      refusal-or-failed all not_a_definition e good
+      (λ t h. none.2 t (subst (λ l. IsProgram l t) (one-main all h.0 none.0 h.1 none.1) h.2))
+      (λ q h. ⊎_elim (λ a. absurd (main-there all none.0 (subst (λ f. IfSome f HasNoMain) e a.1) none.1)) (λ b. b.0) h)
+
+  -- what compiles is built, unless the folder failed or memory ran out
+  pub built-due : (all : Files) (tree : FileTree) → before.folder.files ≡ Some all → IsGood words → IsTreeOf all tree → IsSome run.built ⊎ ((due ≡ FolderFault) ⊎ (due ≡ Memory))
+  built-due all tree e good is =
+      by-stage
+      (λ b. absurd (b.bad good))
+      (λ b. ⊎_elim (λ f. inr (inl f.0)) (λ q. ⊎_elim (λ f. absurd (refused f.0 f.2)) (λ f. inr (inr f.0)) q) b.cause)
+      (λ c. inl (subst (λ o. IsSome o) (sym c.kept) refl))
+    where
+      refused : (r : Refusal) → IsRefusalOf before.folder.files r → ⊥
+      refused r h =
+          ⊎_elim
+          (λ a. main-there all is.0 (subst (λ f. IfSome f HasNoMain) e a.1) is.1)
+          (λ b. let none = subst (λ f. IfSome f HasNoProgram) e b.1 in none.2 tree (subst (λ l. IsProgram l tree) (one-main all is.0 none.0 is.1 none.1) is.2))
+          h
+
+  -- ---- the run
+
+  pub ended-so : (end : End) → due ≡ status_of end → IsSomeAnd run.built (λ b. CameToEnd end b run.steps before.out.written after.out.written)
+  ended-so end e =
+      by-cause
+      (λ b. absurd (not-end due Words end refl b.due e))
+      (λ b f. absurd (not-end due FolderFault end refl f.0 e))
+      (λ b f. absurd (not-end due (Refused f.0) end refl f.1 e))
+      (λ b f. absurd (not-end due Memory end refl f.0 e))
+      (λ c f. subst (λ o. IsSomeAnd o (λ b. CameToEnd end b run.steps before.out.written after.out.written)) (sym c.kept) (f.0, one-end f.0.end end (sym f.1 ∙ e), f.3))
+      (λ c f. absurd (not-end due OutFault end refl f.0 e))
+      (λ c f. absurd (not-end due Memory end refl f.0 e))
+
+  pub end-due : (Rises before.out.faults after.out.faults → ⊥) → IfSome run.built (λ b. (outcome : Outcome) → Evaluates b.tree nothing outcome → (due ≡ status_of outcome.end) ⊎ (due ≡ Memory))
+  end-due fine =
+      built-where-some (λ b. (outcome : Outcome) → Evaluates b.tree nothing outcome → (due ≡ status_of outcome.end) ⊎ (due ≡ Memory))
+      (λ c outcome means. ⊎_elim
+      (λ f. let r = c.compiled.1.runs nothing outcome means in
+      let same = CodeRuns-one c.built.code nothing f.3.ended.count r.0 f.0 outcome f.3.ended.runs r.1 in
+      inl (f.1 ∙ ap (λ (o : Outcome). status_of o.end) same))
+      (λ q. ⊎_elim (λ f. absurd (fine f.1)) (λ f. inr f.0) q)
+      c.cause)
+
+  pub only-out : before.out.faults < after.out.faults → due ≡ OutFault
+  only-out up =
+      by-cause
+      (λ b. absurd (let same = b.nothing.faults in omega arith))
+      (λ b f. absurd (let same = b.nothing.faults in omega arith))
+      (λ b f. absurd (let same = b.nothing.faults in omega arith))
+      (λ b f. absurd (let same = b.nothing.faults in omega arith))
+      (λ c f. absurd (let same = f.2 in omega arith))
+      (λ c f. f.0)
+      (λ c f. absurd (let same = f.1 in omega arith))
+
+  -- the output failed, and so the run stood in a print
+  pub out-failed : due ≡ OutFault → Rises before.out.faults after.out.faults × IsSomeAnd run.built (λ b. StoppedInPrint b.code run.steps before.out.written after.out.written)
+  out-failed e =
+      by-cause
+      (λ b. absurd (let k = b.due in let bad : ⊥ = cc in bad))
+      (λ b f. absurd (let k = f.0 in let bad : ⊥ = cc in bad))
+      (λ b f. absurd (let k = f.1 in let bad : ⊥ = cc in bad))
+      (λ b f. absurd (let k = f.0 in let bad : ⊥ = cc in bad))
+      (λ c f. absurd (not-end due OutFault f.0.end refl e f.1))
+      (λ c f. (f.1, subst (λ o. IsSomeAnd o (λ b. StoppedInPrint b.code run.steps before.out.written after.out.written)) (sym c.kept) f.2))
+      (λ c f. absurd (let k = f.0 in let bad : ⊥ = cc in bad))

@@ -1,0 +1,136 @@
+-- What is so of the answer and of the diagnostics, however the due status was told.
+use Rattle.std.proofs.Common.{◌≡◌, ◌≢◌, ◌⊎◌, ℕ, List, [], ◌++◌, Option, Some, None, refl, sym, ap, subst, ◌∙◌, inl, inr, ⊎_elim, append_assoc}
+use Rattle.std.specs.Prelude.{IfSome}
+use Rattle.std.proofs.lemmas.List.{append-nil}
+use Rattle.bal_io.specs.Content.{Told, Appends, AppendsFront}
+use Rattle.bal_io.specs.Faults.{Rises}
+use Rattle.bal_run.specs.declared.status.Status.{Status}
+use Rattle.bal_run.specs.declared.status.Status.TheVariants.{Done, ErrorReturned, Panicked, Refused, GoesOn, Stalled, FolderFault, InputFault, OutFault, Memory, Words, Limit, DiagFault}
+use Rattle.bal_run.specs.declared.status.Built.{Built}
+use Rattle.bal_run.specs.Due.{IsBeforeRun, SinkTells, status_of}
+use Rattle.stack_code.specs.Outcome.{Outcome}
+use Rattle.bal_run.specs.Report.{AppendsFronts, CanReport, ComesTo, CountsDiagFaults, IsToldWhole, Reports, ReportedMemory, ReportedWhole, ReportFailed, WroteFrontOfSomeText, WroteFrontOfText, WroteFrontsOfSomeTexts, WroteFrontsOfTexts, WroteText}
+use Rattle.bal_run.specs.Status.{HasText}
+
+-- ---- what was written
+
+nothing-told : (text : List ℕ) (w v : Option (List ℕ)) → text ≡ [] → Told (Appends text) w v → v ≡ w
+nothing-told text (Some a) (Some b) e h = ap Some (h ∙ (ap (λ l. a ++ l) e ∙ append-nil a))
+nothing-told text None None e h = refl
+nothing-told text (Some a) None e h = absurd h
+nothing-told text None (Some b) e h = absurd h
+
+pub told-nothing : (w : Option (List ℕ)) → Told (Appends []) w w
+told-nothing (Some a) = sym (append-nil a)
+told-nothing None = tt
+
+front-behind-nothing : (text other : List ℕ) (w v : Option (List ℕ)) → Told (AppendsFront other) w v → Told (AppendsFronts text other) w v
+front-behind-nothing text other (Some a) (Some b) (front, p, e) = ([], front, (text, refl), p, e)
+front-behind-nothing text other None None h = tt
+front-behind-nothing text other (Some a) None h = absurd h
+front-behind-nothing text other None (Some b) h = absurd h
+
+pub both-fronts : (text other : List ℕ) (w v u : Option (List ℕ)) → Told (AppendsFront text) w v → Told (AppendsFront other) v u → Told (AppendsFronts text other) w u
+both-fronts text other (Some a) (Some b) (Some c) (first, p, e) (second, q, k) =
+    (first, second, p, q, k ∙ (ap (λ l. l ++ second) e ∙ append_assoc a first second))
+both-fronts text other None None None h k = tt
+both-fronts text other (Some a) (Some b) None h k = absurd k
+both-fronts text other (Some a) None u h k = absurd h
+both-fronts text other None (Some b) u h k = absurd h
+both-fronts text other None None (Some c) h k = absurd k
+
+-- a count that stayed, and then stayed or rose
+pub faults-of-two : (old mid new : ℕ) → mid ≡ old → (new ≡ mid) ⊎ Rises mid new → (new ≡ old) ⊎ Rises old new
+faults-of-two old mid new e h = subst (λ n. (new ≡ n) ⊎ Rises n new) e h
+
+counts-same : (status : Status) (old new : ℕ) → CanReport status → new ≡ old → CountsDiagFaults status old new
+counts-same Done old new can e = e
+counts-same (ErrorReturned m) old new can e = e
+counts-same (Panicked m) old new can e = e
+counts-same (Refused r) old new can e = e
+counts-same (GoesOn n) old new can e = e
+counts-same (Stalled r) old new can e = e
+counts-same FolderFault old new can e = e
+counts-same InputFault old new can e = e
+counts-same OutFault old new can e = e
+counts-same Memory old new can e = inl e
+counts-same Words old new can e = e
+counts-same (Limit k) old new can e = e
+counts-same DiagFault old new can e = absurd can.1
+
+-- ---- facts of a report
+
+module _ (due status : Status) (before after : SinkTells) (r : Reports due status before after) where
+  by-report : {P : Type 0} → (ReportedWhole due status before after → P) → (ReportFailed due status before after → P) → (ReportedMemory due status before after → P) → P
+  by-report f g h = ⊎_elim f (λ q. ⊎_elim g h q) r
+
+  pub comes : ComesTo due status
+  comes = by-report (λ w. inl w.answer) (λ f. inr (inr (f.answer, f.not_done))) (λ m. inr (inl m.answer))
+
+  pub was-due : status ≢ DiagFault → status ≢ Memory → due ≡ status
+  was-due diag memory = by-report (λ w. sym w.answer) (λ f. absurd (diag f.answer)) (λ m. absurd (memory m.answer))
+
+  pub memory-stays : due ≡ Memory → status ≡ Memory
+  memory-stays e = by-report (λ w. absurd (w.no_memory e)) (λ f. absurd (f.no_memory e)) (λ m. m.answer)
+
+  pub counts : CountsDiagFaults status before.faults after.faults
+  counts =
+      by-report
+      (λ w. subst (λ s. CountsDiagFaults s before.faults after.faults) (sym w.answer) (counts-same due before.faults after.faults (w.written.0, w.written.1) w.faults))
+      (λ f. subst (λ s. CountsDiagFaults s before.faults after.faults) (sym f.answer) f.faults)
+      (λ m. subst (λ s. CountsDiagFaults s before.faults after.faults) (sym m.answer) m.faults)
+
+  pub done-text : status ≡ Done → after.written ≡ before.written
+  done-text e =
+      by-report
+      (λ w. nothing-told w.written.0 before.written after.written (subst (λ s. HasText s w.written.0) (sym w.answer ∙ e) w.written.1) w.written.2)
+      (λ f. absurd (let k = f.answer in let bad : ⊥ = cc in bad))
+      (λ m. absurd (let k = m.answer in let bad : ⊥ = cc in bad))
+
+  pub whole-text : IsToldWhole status → WroteText status before.written after.written
+  whole-text h =
+      by-report
+      (λ w. subst (λ s. WroteText s before.written after.written) (sym w.answer) w.written)
+      (λ f. absurd (h.1 f.answer))
+      (λ m. absurd (h.0 m.answer))
+
+  pub diag-fault-text : status ≡ DiagFault → WroteFrontOfSomeText before.written after.written
+  diag-fault-text e =
+      by-report
+      (λ w. absurd (subst (λ s. HasText s w.written.0) (sym w.answer ∙ e) w.written.1))
+      (λ f. (due, f.not_done, f.no_memory, f.written))
+      (λ m. absurd (let k = m.answer in let bad : ⊥ = cc in bad))
+
+  fronts : ReportedMemory due status before after → WroteFrontsOfTexts due before.written after.written
+  fronts m =
+      ⊎_elim
+      (λ h. let front = h.1 in (front.0, front.0, subst (λ s. HasText s front.0) (sym h.0) front.1, front.1, front-behind-nothing front.0 front.0 before.written after.written front.2))
+      (λ h. h.1)
+      m.written
+
+  pub memory-text : status ≡ Memory → WroteFrontsOfSomeTexts before.written after.written
+  memory-text e =
+      by-report
+      (λ w. absurd (w.no_memory (sym w.answer ∙ e)))
+      (λ f. absurd (let k = f.answer in let bad : ⊥ = cc in bad))
+      (λ m. (due, m.not_done, fronts m))
+
+  pub comes-from : (other : Status) → due ≡ other → ComesTo other status
+  comes-from other e = subst (λ d. ComesTo d status) e comes
+
+  pub come-or-memory : (other : Status) → (due ≡ other) ⊎ (due ≡ Memory) → ComesTo other status
+  come-or-memory other h = ⊎_elim (λ e. comes-from other e) (λ e. inr (inl (memory-stays e))) h
+
+  pub come-or-fail : (other : Status) → (due ≡ other) ⊎ ((due ≡ FolderFault) ⊎ (due ≡ Memory)) → ComesTo other status ⊎ ComesTo FolderFault status
+  come-or-fail other h = ⊎_elim (λ e. inl (comes-from other e)) (λ q. inr (come-or-memory FolderFault q)) h
+
+  -- a status other than those of failed reports was due
+  pub due-is : (other : Status) → (other ≡ DiagFault → ⊥) → (other ≡ Memory → ⊥) → status ≡ other → due ≡ other
+  due-is other diag memory e = was-due (λ k. diag (sym e ∙ k)) (λ k. memory (sym e ∙ k)) ∙ e
+
+  pub before-run-due : IsBeforeRun status → IsBeforeRun due
+  before-run-due h = subst IsBeforeRun (sym (was-due (λ k. subst IsBeforeRun k h) (λ k. subst IsBeforeRun k h))) h
+
+  pub end-comes : (o : Option Built) (E : Built → Outcome → Type 0) → IfSome o (λ b. (outcome : Outcome) → E b outcome → (due ≡ status_of outcome.end) ⊎ (due ≡ Memory)) → IfSome o (λ b. (outcome : Outcome) → E b outcome → ComesTo (status_of outcome.end) status)
+  end-comes None E h = tt
+  end-comes (Some b) E h = λ outcome means. come-or-memory (status_of outcome.end) (h outcome means)
