@@ -26,15 +26,26 @@ state place stack output = record { place = place; stack = stack; output = outpu
 
 -- ---- one operator
 
-operator-on : (code : Code) (op : BinaryOp) (x y z : ℤ) (place : ℕ) (rest : List Value) (out : List ℕ) → Combines op x y z → IsInt z → Does code (operator op) (state place (Int y ∷ Int x ∷ rest) out) (On (state (place + 1) (Int z ∷ rest) out))
-operator-on code Plus x y z place rest out e i = inl (subst IsInt e i, ap (λ v. On (state (place + 1) (Int v ∷ rest) out)) e)
-operator-on code Multiply x y z place rest out e i = inl (subst IsInt e i, ap (λ v. On (state (place + 1) (Int v ∷ rest) out)) e)
-operator-on code op x y z place rest out e i = absurd e
+operator-on : (code : Code) (op : BinaryOp) (x y z : ℤ) (place : ℕ) (rest : List Value) (out : List ℕ) → Combines op x y z → IsInt z → Stands code.instrs place (operator op) → Step code (state place (Int y ∷ Int x ∷ rest) out) (On (state (place + 1) (Int z ∷ rest) out))
+operator-on code Plus x y z place rest out e i h =
+    at_some _ _ (λ j. Does code j (state place (Int y ∷ Int x ∷ rest) out) (On (state (place + 1) (Int z ∷ rest) out))) h.0
+    (inl (subst IsInt e i, ap (λ v. On (state (place + 1) (Int v ∷ rest) out)) e))
+operator-on code Multiply x y z place rest out e i h =
+    at_some _ _ (λ j. Does code j (state place (Int y ∷ Int x ∷ rest) out) (On (state (place + 1) (Int z ∷ rest) out))) h.0
+    (inl (subst IsInt e i, ap (λ v. On (state (place + 1) (Int v ∷ rest) out)) e))
+operator-on code op x y z place rest out e i h = absurd e
 
-operator-stops : (code : Code) (op : BinaryOp) (x y z : ℤ) (place : ℕ) (rest : List Value) (out : List ℕ) → Combines op x y z → (¬ (IsInt z)) → Does code (operator op) (state place (Int y ∷ Int x ∷ rest) out) (Ends (Panicked number_overflow))
-operator-stops code Plus x y z place rest out e n = inr (subst (λ v. ¬ (IsInt v)) e n, refl)
-operator-stops code Multiply x y z place rest out e n = inr (subst (λ v. ¬ (IsInt v)) e n, refl)
-operator-stops code op x y z place rest out e n = absurd e
+operator-stops : (code : Code) (op : BinaryOp) (x y z : ℤ) (place : ℕ) (rest : List Value) (out : List ℕ) → Combines op x y z → (¬ (IsInt z)) → Stands code.instrs place (operator op) → Step code (state place (Int y ∷ Int x ∷ rest) out) (Ends (Panicked number_overflow))
+operator-stops code Plus x y z place rest out e n h =
+    at_some _ _ (λ j. Does code j (state place (Int y ∷ Int x ∷ rest) out) (Ends (Panicked number_overflow))) h.0 (inr (subst (λ v. ¬ (IsInt v)) e n, refl))
+operator-stops code Multiply x y z place rest out e n h =
+    at_some _ _ (λ j. Does code j (state place (Int y ∷ Int x ∷ rest) out) (Ends (Panicked number_overflow))) h.0 (inr (subst (λ v. ¬ (IsInt v)) e n, refl))
+operator-stops code op x y z place rest out e n h = absurd e
+
+one-operator : (op : BinaryOp) (x y z : ℤ) → Combines op x y z → length (operator op) ≡ 1
+one-operator Plus x y z e = refl
+one-operator Multiply x y z e = refl
+one-operator op x y z e = absurd e
 
 -- an operator of sums takes any operands to a number
 combine : (op : BinaryOp) (x y : ℤ) → IsSumOp op → (z : ℤ) × Combines op x y z
@@ -52,20 +63,20 @@ module _ (code : Code) where
   abbrev after : ℕ → ℕ → Expr → ℕ
   after first place e = place + length (sum_code first e)
 
-  left-of : (first place : ℕ) (l r : Expr) (op : BinaryOp) → Stands code.instrs place (sum_code first l ++ (sum_code (first + length (constants_of l)) r ++ operator op ∷ [])) → Stands code.constants first (constants_of l ++ constants_of r) → Has first place l
+  left-of : (first place : ℕ) (l r : Expr) (op : BinaryOp) → Stands code.instrs place (sum_code first l ++ (sum_code (first + length (constants_of l)) r ++ operator op)) → Stands code.constants first (constants_of l ++ constants_of r) → Has first place l
   left-of first place l r op h k = (Stands-front code.instrs place _ _ h, Stands-front code.constants first _ _ k)
 
-  right-of : (first place : ℕ) (l r : Expr) (op : BinaryOp) → Stands code.instrs place (sum_code first l ++ (sum_code (first + length (constants_of l)) r ++ operator op ∷ [])) → Stands code.constants first (constants_of l ++ constants_of r) → Has (first + length (constants_of l)) (after first place l) r
+  right-of : (first place : ℕ) (l r : Expr) (op : BinaryOp) → Stands code.instrs place (sum_code first l ++ (sum_code (first + length (constants_of l)) r ++ operator op)) → Stands code.constants first (constants_of l ++ constants_of r) → Has (first + length (constants_of l)) (after first place l) r
   right-of first place l r op h k =
       (Stands-front code.instrs _ _ _ (Stands-back code.instrs place (sum_code first l) _ h), Stands-back code.constants first (constants_of l) _ k)
 
-  operator-of : (first place : ℕ) (l r : Expr) (op : BinaryOp) → Stands code.instrs place (sum_code first l ++ (sum_code (first + length (constants_of l)) r ++ operator op ∷ [])) → slice_get code.instrs (after (first + length (constants_of l)) (after first place l) r) ≡ Some (operator op)
+  operator-of : (first place : ℕ) (l r : Expr) (op : BinaryOp) → Stands code.instrs place (sum_code first l ++ (sum_code (first + length (constants_of l)) r ++ operator op)) → Stands code.instrs (after (first + length (constants_of l)) (after first place l) r) (operator op)
   operator-of first place l r op h =
-      (Stands-back code.instrs (after first place l) (sum_code (first + length (constants_of l)) r) _ (Stands-back code.instrs place (sum_code first l) _ h)).0
+      Stands-back code.instrs (after first place l) (sum_code (first + length (constants_of l)) r) _ (Stands-back code.instrs place (sum_code first l) _ h)
 
-  whole : (first place : ℕ) (l r : Expr) (op : BinaryOp) → after (first + length (constants_of l)) (after first place l) r + 1 ≡ place + length (sum_code first l ++ (sum_code (first + length (constants_of l)) r ++ operator op ∷ []))
-  whole first place l r op =
-      omega (arith, length-append (sum_code first l) (sum_code (first + length (constants_of l)) r ++ operator op ∷ []), length-append (sum_code (first + length (constants_of l)) r) (operator op ∷ []))
+  whole : (first place : ℕ) (l r : Expr) (op : BinaryOp) → length (operator op) ≡ 1 → after (first + length (constants_of l)) (after first place l) r + 1 ≡ place + length (sum_code first l ++ (sum_code (first + length (constants_of l)) r ++ operator op))
+  whole first place l r op one =
+      omega (arith, length-append (sum_code first l) (sum_code (first + length (constants_of l)) r ++ operator op), length-append (sum_code (first + length (constants_of l)) r) (operator op), one)
 
   -- where the sum gives an int, its code pushes it
   pub sum-pushes : (e : Expr) (first place : ℕ) (stack : List Value) (out : List ℕ) (z : ℤ) → Gives e z → Has first place e → LeadsOn code (state place stack out) (state (after first place e) (Int z ∷ stack) out)
@@ -82,9 +93,9 @@ module _ (code : Code) where
       let pr = sum-pushes r k m (Int x ∷ stack) out y gr (right-of first place l r op h.0 h.1) in
       let s = state n (Int y ∷ Int x ∷ stack) out in
       let t = state (n + 1) (Int z ∷ stack) out in
-      let step : Step code s (On t) = at_some _ _ (λ j. Does code j s (On t)) (operator-of first place l r op h.0) (operator-on code op x y z n stack out e i) in
+      let step : Step code s (On t) = operator-on code op x y z n stack out e i (operator-of first place l r op h.0) in
       let all = joined code pl.0 _ _ _ pl.1 (joined code pr.0 _ _ _ pr.1 (one_step code s t step)) in
-      subst (λ p. LeadsOn code (state place stack out) (state p (Int z ∷ stack) out)) (whole first place l r op) all
+      subst (λ p. LeadsOn code (state place stack out) (state p (Int z ∷ stack) out)) (whole first place l r op (one-operator op x y z e)) all
   sum-pushes e first place stack out z g h = absurd g
 
   -- where it overflows, its code panics, having written nothing
@@ -101,7 +112,7 @@ module _ (code : Code) where
       let pr = sum-pushes r k m (Int x ∷ stack) out y gr (right-of first place l r op h.0 h.1) in
       let s = state n (Int y ∷ Int x ∷ stack) out in
       let end : Next = Ends (Panicked number_overflow) in
-      let step : Step code s end = at_some _ _ (λ j. Does code j s end) (operator-of first place l r op h.0) (operator-stops code op x y z n stack out is large) in
+      let step : Step code s end = operator-stops code op x y z n stack out is large (operator-of first place l r op h.0) in
       then_run code pl.0 _ _ _ pl.1 (then_run code pr.0 _ _ _ pr.1 (1, (end, step, (refl, refl))))
   sum-panics e first place stack out o h = absurd o
 

@@ -6,7 +6,7 @@ use Rattle.bal_tree.specs.declared.expr.Expr.{Expr, Postfix, Binary'}
 use Rattle.bal_tree.specs.declared.expr.Postfix.{Primary}
 use Rattle.bal_tree.specs.declared.expr.Primary.{Literal}
 use Rattle.bal_tree.specs.declared.expr.BinaryOp.{BinaryOp}
-use Rattle.bal_tree.specs.declared.expr.BinaryOp.TheVariants.{Multiply}
+use Rattle.bal_tree.specs.declared.expr.BinaryOp.TheVariants.{Multiply, Divide, Remainder, Add, Subtract, Less, LessEqual, Greater, GreaterEqual, Equal, NotEqual, Same, NotSame, And, Or, Elvis}
 use Rattle.bal_tree.specs.declared.def.FileTree.{FileTree}
 use Rattle.bal_tree.specs.declared.def.Def.{Def}
 use Rattle.bal_tree.specs.declared.stmt.Stmt.{Stmt}
@@ -44,16 +44,30 @@ constants_of (Postfix (Primary (Literal (Int n at)))) = ConstantInt n ∷ []
 constants_of (Binary' _ left op _ right at) = constants_of left ++ constants_of right
 constants_of _ = []
 
--- the instruction of an operator of sums
-abbrev pub operator : BinaryOp → Instr
-operator Multiply = Mul
-operator op = AddInstr
+-- the instruction of an operator of sums, and none for others
+abbrev pub operator : BinaryOp → List Instr
+operator Add = AddInstr ∷ []
+operator Multiply = Mul ∷ []
+operator Divide = []
+operator Remainder = []
+operator Subtract = []
+operator Less = []
+operator LessEqual = []
+operator Greater = []
+operator GreaterEqual = []
+operator Equal = []
+operator NotEqual = []
+operator Same = []
+operator NotSame = []
+operator And = []
+operator Or = []
+operator Elvis = []
 
 -- the instructions of a sum whose constants have the numbers from `first` on
 abbrev pub sum_code : ℕ → Expr → List Instr
 sum_code first (Postfix (Primary (Literal (Int n at)))) = Const first ∷ []
 sum_code first (Binary' _ left op _ right at) =
-    sum_code first left ++ (sum_code (first + length (constants_of left)) right ++ operator op ∷ [])
+    sum_code first left ++ (sum_code (first + length (constants_of left)) right ++ operator op)
 sum_code first _ = []
 
 -- ---- statements that print these sums

@@ -93,7 +93,7 @@ impl Draft {
         ensures constants { OnOk result (self.new.constants.items ≡ self.old.constants.items ++ ConstantInt value ∷ []) }
         ensures instrs { OnOk result (self.new.instrs.items ≡ self.old.instrs.items ++ Const (length self.old.constants.items) ∷ []) }
     {
-        let number = number_of(self.constants.len())?;
+        let number = as_number(self.constants.len())?;
         self.constants.push(Constant::Int(value))?;
         self.instrs.push(Instr::Const(number))?;
         Ok(())
@@ -103,7 +103,7 @@ impl Draft {
     fn finish(self, alloc: Global) -> Result<Code, Memory>
         ensures { IfOk result (λ code. (code.constants ≡ self.constants.items) × (code.instrs ≡ self.instrs.items) × StartsAtZero code) }
     {
-        let end = number_of(self.instrs.len())?;
+        let end = as_number(self.instrs.len())?;
         let Draft { constants, instrs } = self;
         let mut units = Vec::new(alloc);
         units.push(Unit { first: 0, end })?;
@@ -118,7 +118,7 @@ impl Draft {
 
 /// A count as a number of the code. A count that no number can hold is want of memory: a source file is too
 /// short to come near.
-fn number_of(count: usize) -> Result<u32, Memory>
+fn as_number(count: usize) -> Result<u32, Memory>
     ensures { IfOk result (λ n. n ≡ count) }
 {
     u32::try_from(count).map_err(|_| Memory)
@@ -139,7 +139,7 @@ fn int_of(e: &Postfix) -> i64
 /// The instruction of an operator of sums.
 fn instr_of(op: BinaryOp) -> Instr
     requires { IsSumOp op }
-    ensures { result ≡ operator op }
+    ensures { operator op ≡ result ∷ [] }
 {
     match op {
         BinaryOp::Add => Instr::Add,
