@@ -2,8 +2,8 @@
 ghost use Rattle.std.specs.Prelude.{◌≡◌};
 ghost use Rattle.bal_base.specs.FaultCode.{number_of};
 
-use crate::lists::{Events, NameList};
 use crate::place::Place;
+use crate::row::{Events, NameList};
 use crate::shape::Shape;
 use crate::text::Name;
 

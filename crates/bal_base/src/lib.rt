@@ -3,7 +3,8 @@
 //! - [`Text`] and [`Name`]: shared texts, seen as their lists of code points.
 //! - [`Memory`], [`Failed`] and [`Stop`]: want of memory, a failed call on the outside, and the two ways
 //!   in which a call stops.
-//! - [`Numbers`], [`Ring`], [`AtomList`], [`Bytes`], [`NameList`] and [`Events`]: lists by name.
+//! - [`Row`]: lists that are made once and then read; [`Numbers`], [`Ring`], [`AtomList`], [`Bytes`],
+//!   [`NameList`] and [`Events`] by name.
 //! - [`Place`] and [`line_column`]: places in a source file.
 //! - [`Shape`] and its parts: finite values as types see them.
 //! - [`FaultCode`], [`Kept`], [`Fault`] and [`Refusal`]: why a source program is refused.
@@ -11,16 +12,16 @@
 #![tactic(auto)]
 
 mod fault;
-mod lists;
 mod place;
+mod row;
 pub mod shape;
 mod stop;
 mod text;
 mod token;
 
 pub use fault::{Event, Fault, FaultCode, Kept, LimitKind, Refusal};
-pub use lists::{AtomList, Bytes, Events, NameList, Numbers, Ring};
 pub use place::{Place, line_column};
+pub use row::{AtomList, Bytes, Events, NameList, Numbers, Ring, Row};
 pub use shape::{Case, Fields, Graph, Shape, Shapes};
 pub use stop::{Failed, Memory, Stop};
 pub use text::{Name, Text};
