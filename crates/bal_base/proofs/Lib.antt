@@ -1,4 +1,7 @@
 pub mod Lines
+pub mod Loops
 pub mod Order
 pub mod Points
 pub mod Rows
+pub mod Tables
+pub mod Tests

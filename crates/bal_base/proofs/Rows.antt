@@ -1,4 +1,5 @@
 -- The facts of a shape's parts, as facts of lists.
+pub use Rattle.bal_base.proofs.Loops.{one_more, at_end}
 use Rattle.std.proofs.Common.{◌≡◌, ℕ, ◌+◌, ◌<◌, ◌≤◌, ◌↔◌, List, length, get_or, take, All, IfSome, IsTrue, Bool, true, refl, sym, subst, ◌∙◌}
 use Rattle.std.proofs.lemmas.List.{take_all}
 use Rattle.std.proofs.lemmas.List.Elements.{All-nil, All-cons, All-head, All-tail, All-more}
@@ -107,17 +108,3 @@ GraphValid-row (Graph' s row) =
 
 pub IsValid-Function : (isolated : Bool) (g : Graph) → IsValid (Function isolated g) ↔ All CaseIsValid (out-Graph g).items.items
 IsValid-Function isolated g = GraphValid-row g
-
--- what a test of the parts says of the whole
-pub by_parts : {X : Type 0} (Q : X → Type 0) (r : Bool) (s v : Shape) (xs ys : X) → s ≡ v → xs ≡ ys → (IsTrue r ↔ Q xs) → (IsValid v ↔ Q ys) → IsTrue r ↔ IsValid s
-by_parts Q r s v xs ys e f t l = (
-  λ h. subst IsValid (sym e) (l.1 (subst Q f (t.0 h))),
-  λ h. t.1 (subst Q (sym f) (l.0 (subst IsValid e h))),
-)
-
--- one more in a loop, and all at its end
-pub one_more : {X : Type 0} (P : X → Type 0) (xs : List X) (i : ℕ) (x : X) → i < length xs → x ≡ get_or xs i x → All P (take i xs) → P x → All P (take (i + 1) xs)
-one_more P xs i x lt e all p = All-more P xs i x lt all (subst P e p)
-
-pub at_end : {X : Type 0} (P : X → Type 0) (xs : List X) (i : ℕ) → length xs ≤ i → All P (take i xs) → IsTrue true ↔ All P xs
-at_end P xs i le all = (λ h. subst (All P) (take_all i xs le) all, λ h. refl)

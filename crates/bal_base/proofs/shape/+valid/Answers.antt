@@ -2,32 +2,30 @@ use Rattle.std.proofs.Common.{IsTrue, All, List, arith}
 use Rattle.bal_base.specs.declared.text.Text.{Text}
 use Rattle.bal_base.specs.declared.shape.Shape.{Shape, List as AList, Mapping, Function, Future}
 use Rattle.bal_base.specs.Valid.{IsFrozen, IsValid, CaseIsValid, KeysRise, AreTexts}
-use Rattle.bal_base.proofs.Rows.{IsValid-List, IsValid-Mapping, IsValid-Function, IsValid-Future, by_parts, one_more, at_end}
+use Rattle.bal_base.proofs.Loops.{one_more, at_end}
+use Rattle.bal_base.proofs.Rows.{IsValid-List, IsValid-Mapping, IsValid-Function, IsValid-Future}
+use Rattle.bal_base.proofs.Tests.{by_read_parts}
 use Rattle.bal_base.proofs.shape.+valid.Goals as goal
 
 pub Shape::is_valid-returns-in-List : goal.Shape::is_valid-returns-in-List
 Shape::is_valid-returns-in-List t c =
     let m = c.in-List.mark in
     let Q : List Shape → Type 0 = λ xs. (IsTrue m → All IsFrozen xs) × All IsValid xs in
-    by_parts Q c.list_valid.result c.args.self.now (AList m c.in-List.items) c.as_slice.result.now c.in-List.items.items.items c.in-List.is c.as_slice.ensures c.list_valid.ensures
-    (IsValid-List m c.in-List.items)
+    by_read_parts IsValid Q c.in-List.is c.as_slice.ensures (IsValid-List m c.in-List.items) c.list_valid.ensures
 
 pub Shape::is_valid-returns-in-Mapping : goal.Shape::is_valid-returns-in-Mapping
 Shape::is_valid-returns-in-Mapping t c =
     let m = c.in-Mapping.mark in
     let Q : List (Text × Shape) → Type 0 = λ fs. AreTexts fs × KeysRise fs × (IsTrue m → All (λ f. IsFrozen f.1) fs) × All (λ f. IsValid f.1) fs in
-    by_parts Q c.mapping_valid.result c.args.self.now (Mapping m c.in-Mapping.fields) c.as_slice-in-Mapping.result.now c.in-Mapping.fields.items.items c.in-Mapping.is c.as_slice-in-Mapping.ensures c.mapping_valid.ensures
-    (IsValid-Mapping m c.in-Mapping.fields)
+    by_read_parts IsValid Q c.in-Mapping.is c.as_slice-in-Mapping.ensures (IsValid-Mapping m c.in-Mapping.fields) c.mapping_valid.ensures
 
 pub Shape::is_valid-returns-in-Function : goal.Shape::is_valid-returns-in-Function
 Shape::is_valid-returns-in-Function t c =
-    by_parts (All CaseIsValid) c.graph_valid.result c.args.self.now (Function c.in-Function.isolated c.in-Function.graph) c.as_slice-in-Function.result.now _ c.in-Function.is c.as_slice-in-Function.ensures c.graph_valid.ensures
-    (IsValid-Function c.in-Function.isolated c.in-Function.graph)
+    by_read_parts IsValid (All CaseIsValid) c.in-Function.is c.as_slice-in-Function.ensures (IsValid-Function c.in-Function.isolated c.in-Function.graph) c.graph_valid.ensures
 
 pub Shape::is_valid-returns-in-Future : goal.Shape::is_valid-returns-in-Future
 Shape::is_valid-returns-in-Future t c =
-    by_parts (All IsValid) c.are_valid.result c.args.self.now (Future c.in-Future.results) c.as_slice-in-Future.result.now c.in-Future.results.items.items c.in-Future.is c.as_slice-in-Future.ensures c.are_valid.ensures
-    (IsValid-Future c.in-Future.results)
+    by_read_parts IsValid (All IsValid) c.in-Future.is c.as_slice-in-Future.ensures (IsValid-Future c.in-Future.results) c.are_valid.ensures
 
 pub valid::are_valid-loop-x-preserved : goal.valid::are_valid-loop-x-preserved
 valid::are_valid-loop-x-preserved t c =
