@@ -30,12 +30,22 @@ impl Model for Text {
 }
 
 impl Text {
-    /// The given text.
+    /// A copy of the given text.
     pub fn new(alloc: Global, text: &str) -> Result<Text, Memory>
         ensures { IfOk result (λ t. t ≡ chars text.now) }
     {
         Ok(Text {
             shared: SharedString::new(alloc, text)?,
+        })
+    }
+
+    /// The given text itself, which isn't copied. `Memory` says that there was none for the block of four
+    /// words in which the text's owners are counted, and then the text is dropped.
+    pub fn from_string(alloc: Global, text: String) -> Result<Text, Memory>
+        ensures { IfOk result (λ t. t ≡ chars (string_bytes text)) }
+    {
+        Ok(Text {
+            shared: SharedString::from_string(alloc, text)?,
         })
     }
 
