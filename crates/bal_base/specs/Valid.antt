@@ -4,6 +4,7 @@ use Rattle.std.specs.declared.cmp.Ordering.TheVariants.{Less}
 use Rattle.std.specs.Ordering.{nat_cmp}
 use Rattle.std.specs.Cmp.Lexicographic.{slice_cmp}
 use Rattle.std.specs.Str.{all_scalars}
+use Rattle.bal_base.specs.Limits.{greatest_int}
 use Rattle.bal_base.specs.declared.text.Text.{Text}
 use Rattle.bal_base.specs.declared.shape.Shape.{Shape, Nil, Bool, Int, Str, List', Mapping', Error', Function, Future', Row_of-Shape, end_of-Shape, more_of-Shape, items-the_row-Shape as shapes_in, Row_of-Fields-items-2 as Row_of-Field, end_of-Fields-items-2 as end_of-Field, more_of-Fields-items-2 as more_of-Field, items-the_row-Fields-items-2 as fields_in}
 use Rattle.bal_base.specs.declared.shape.Case.{Case, Held-Case-result, None', Some'}
@@ -17,11 +18,20 @@ IsFrozen (Int i) = ⊤
 IsFrozen (Str t) = ⊤
 IsFrozen (List' mark _ items) = IsTrue mark
 IsFrozen (Mapping' mark _ fields) = IsTrue mark
-IsFrozen _ = ⊥
+IsFrozen (Error' _ detail) = ⊥
+IsFrozen (Function isolated graph) = ⊥
+IsFrozen (Future' _ results) = ⊥
 
 abbrev pub IsMarkedMapping : Shape → Type 0
+IsMarkedMapping Nil = ⊥
+IsMarkedMapping (Bool b) = ⊥
+IsMarkedMapping (Int i) = ⊥
+IsMarkedMapping (Str t) = ⊥
+IsMarkedMapping (List' mark _ items) = ⊥
 IsMarkedMapping (Mapping' mark _ fields) = IsTrue mark
-IsMarkedMapping _ = ⊥
+IsMarkedMapping (Error' _ detail) = ⊥
+IsMarkedMapping (Function isolated graph) = ⊥
+IsMarkedMapping (Future' _ results) = ⊥
 
 -- each key is below the next, by their code points
 abbrev pub KeysRise : List (Text × Shape) → Type 0
@@ -29,7 +39,7 @@ KeysRise fs = (k : ℕ) (d : Text × Shape) → k + 1 < length fs → slice_cmp 
 
 -- the numbers that an int has, and the numbers of a text's characters
 abbrev pub IsInt : ℤ → Type 0
-IsInt i = (negsuc 9223372036854775807 ≤ℤ i) × (i ≤ℤ pos 9223372036854775807)
+IsInt i = (negsuc greatest_int ≤ℤ i) × (i ≤ℤ pos greatest_int)
 
 abbrev pub IsText : Text → Type 0
 IsText t = all_scalars t ≡ true

@@ -1,6 +1,6 @@
 //! Why a source program is refused, and which limit a run met.
 ghost use Rattle.std.specs.Prelude.{◌≡◌};
-ghost use Rattle.bal_base.specs.FaultCode.{number_of};
+ghost use Rattle.bal_base.specs.FaultCode.{code_number};
 
 use crate::place::Place;
 use crate::row::{Events, NameList};
@@ -106,7 +106,7 @@ pub enum FaultCode {
 impl FaultCode {
     /// The code's number, as it is printed: from 101 to 502.
     pub fn number(self) -> u16
-        ensures { result ≡ number_of self }
+        ensures { result ≡ code_number self }
     {
         match self {
             FaultCode::NotUtf8 => 101,

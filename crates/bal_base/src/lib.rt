@@ -5,6 +5,7 @@
 //!   in which a call stops.
 //! - [`Row`]: lists that are made once and then read; [`Numbers`], [`Ring`], [`AtomList`], [`Bytes`],
 //!   [`NameList`] and [`Events`] by name.
+//! - [`MOST_FILE_BYTES`], [`MOST_ATOMS`] and [`MOST_NESTING`]: limits that several crates keep.
 //! - [`Place`] and [`line_column`]: places in a source file.
 //! - [`Shape`] and its parts: finite values as types see them.
 //! - [`FaultCode`], [`Kept`], [`Fault`] and [`Refusal`]: why a source program is refused.
@@ -12,6 +13,7 @@
 #![tactic(auto)]
 
 mod fault;
+mod limits;
 mod place;
 mod row;
 pub mod shape;
@@ -20,6 +22,7 @@ mod text;
 mod token;
 
 pub use fault::{Event, Fault, FaultCode, Kept, LimitKind, Refusal};
+pub use limits::{MOST_ATOMS, MOST_FILE_BYTES, MOST_NESTING};
 pub use place::{Place, line_column};
 pub use row::{AtomList, Bytes, Events, NameList, Numbers, Ring, Row};
 pub use shape::{Case, Fields, Graph, Shape, Shapes};
