@@ -1,13 +1,14 @@
 -- What stays defined in a larger environment.
 use Rattle.std.proofs.Common.{◌≡◌, ℕ, ◌+◌, ◌<◌, ◌≤◌, ◌++◌, List, [], ◌∷◌, length, All, IfSome, Option, Some, None, arith, length-append, sym, subst}
 use Rattle.std.proofs.lemmas.List.Elements.{All-append, All-cons, All-nil, All-weaker}
+use Rattle.bal_base.specs.declared.limits.TheConstants.{MOST_ATOMS}
 use Rattle.type_model.specs.declared.basic.SemType.{SemType, Basic, Atom, Or', And', Not'}
 use Rattle.type_model.specs.declared.basic.Ty.{Ty}
 use Rattle.type_model.specs.declared.basic.Choice.{Choice}
 use Rattle.type_model.specs.declared.atoms.AtomDef.{AtomDef}
 use Rattle.type_model.specs.declared.atoms.AtomDef.TheVariants.{List as ListAtom, Mapping as MappingAtom, Arrow, Error as ErrorAtom, Future as FutureAtom}
 use Rattle.type_model.specs.Places.{HasDistinctFields}
-use Rattle.type_model.specs.Defined.{NamesBelow, ChoicesBelow, TyBelow, DefBelow, IsDefinedGroup, IsEnv, most_atoms}
+use Rattle.type_model.specs.Defined.{NamesBelow, ChoicesBelow, TyBelow, DefBelow, IsDefinedGroup, IsEnv}
 
 module _ (m n : ℕ) (le : m ≤ n) where
   pub NamesBelow-more : (t : SemType) → NamesBelow m t → NamesBelow n t
@@ -37,7 +38,7 @@ module _ (m n : ℕ) (le : m ≤ n) where
   DefBelow-more (FutureAtom outcome) h = NamesBelow-more outcome h
 
 -- an environment with a group of atoms that is defined over both is an environment
-pub IsEnv-append : (env group : List AtomDef) → IsEnv env → IsDefinedGroup env group → All HasDistinctFields group → length env + length group ≤ most_atoms → IsEnv (env ++ group)
+pub IsEnv-append : (env group : List AtomDef) → IsEnv env → IsDefinedGroup env group → All HasDistinctFields group → length env + length group ≤ MOST_ATOMS → IsEnv (env ++ group)
 IsEnv-append env group e named distinct le =
     let n : ℕ = length (env ++ group) in
     let is : length env + length group ≡ n = sym (length-append env group) in

@@ -2,6 +2,7 @@ pub mod ApplicationLaws
 pub mod Decided
 pub mod DefinedLaws
 pub mod Growth
+pub mod Kept
 pub mod Laws
 pub mod Names
 pub mod PartLaws

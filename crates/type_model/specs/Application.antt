@@ -2,7 +2,7 @@
 use Rattle.std.specs.Prelude.{◌≡◌, List, Option, Some, None, Contains, false}
 use Rattle.bal_base.specs.Shapes.{graph_list}
 use Rattle.bal_base.specs.Valid.{IsValid}
-use Rattle.bal_base.specs.declared.shape.Shape.{Shape, Function, List as ListOf}
+use Rattle.bal_base.specs.declared.shape.Shape.{Shape, Nil, Bool as BoolShape, Int, Str, List as ListOf, List', Mapping', Error', Function, Future'}
 use Rattle.bal_base.specs.declared.shape.Case.{Case}
 use Rattle.type_model.specs.declared.basic.SemType.{SemType, Basic}
 use Rattle.type_model.specs.declared.basic.BasicSet.TheVariants.{FunctionAll, ListAll}
@@ -22,7 +22,14 @@ arguments_of c = ListOf false c.args
 abbrev pub Answers : Shape → Shape → Option Shape → Type 0
 Answers (Function isolated graph) arguments answer =
     (c : Case) × Contains (graph_list graph) c × (arguments_of c ≡ arguments) × (c.result ≡ answer)
-Answers _ arguments answer = ⊥
+Answers Nil arguments answer = ⊥
+Answers (BoolShape b) arguments answer = ⊥
+Answers (Int i) arguments answer = ⊥
+Answers (Str t) arguments answer = ⊥
+Answers (List' mark _ items) arguments answer = ⊥
+Answers (Mapping' mark _ fields) arguments answer = ⊥
+Answers (Error' _ detail) arguments answer = ⊥
+Answers (Future' _ results) arguments answer = ⊥
 
 module _ (env : List AtomDef) where
   abbrev pub IsFunctionType : SemType → Type 0

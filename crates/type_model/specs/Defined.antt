@@ -1,5 +1,6 @@
 -- Which types name only atoms that are defined.
 use Rattle.std.specs.Prelude.{ℕ, ◌+◌, ◌<◌, ◌≤◌, List, length, All, IfSome, ⊤}
+use Rattle.bal_base.specs.declared.limits.TheConstants.{MOST_ATOMS}
 use Rattle.type_model.specs.declared.basic.SemType.{SemType, Basic, Atom, Or', And', Not'}
 use Rattle.type_model.specs.declared.basic.Ty.{Ty}
 use Rattle.type_model.specs.declared.basic.Choice.{Choice}
@@ -34,10 +35,6 @@ DefBelow n (FutureAtom outcome) = NamesBelow n outcome
 abbrev pub IsDefined : List AtomDef → SemType → Type 0
 IsDefined env t = NamesBelow (length env) t
 
--- how many atoms there can be
-abbrev pub most_atoms : ℕ
-most_atoms = 65536
-
 -- every atom that the group names is defined in the environment or in the group
 abbrev pub IsDefinedGroup : List AtomDef → List AtomDef → Type 0
 IsDefinedGroup env group = All (DefBelow (length env + length group)) group
@@ -50,4 +47,4 @@ IsClosed env = All (DefBelow (length env)) env
 pub record IsEnv (env : List AtomDef) : Type 0 where
   pub closed : IsClosed env
   pub distinct : All HasDistinctFields env
-  pub bound : length env ≤ most_atoms
+  pub bound : length env ≤ MOST_ATOMS

@@ -1,7 +1,7 @@
 -- Which shapes are in a type: by recursion on the shape, and for one shape by recursion on the type.
 use Rattle.std.specs.Prelude.{◌≤◌, ℕ, ◌+◌, List, length, IsTrue, ⊤, ◌⊎◌, Option, IsSomeAnd, slice_get, Bool, false}
 use Rattle.bal_base.specs.declared.text.Text.{Text}
-use Rattle.bal_base.specs.declared.shape.Shape.{Shape, List', Mapping', Error', Function, Future', Row_of-Shape, end_of-Shape, more_of-Shape, items-the_row-Shape as shapes_in, Row_of-Fields-items-2 as Row_of-Field, end_of-Fields-items-2 as end_of-Field, more_of-Fields-items-2 as more_of-Field, items-the_row-Fields-items-2 as fields_in}
+use Rattle.bal_base.specs.declared.shape.Shape.{Shape, Nil, Bool as BoolShape, Int, Str, List', Mapping', Error', Function, Future', Row_of-Shape, end_of-Shape, more_of-Shape, items-the_row-Shape as shapes_in, Row_of-Fields-items-2 as Row_of-Field, end_of-Fields-items-2 as end_of-Field, more_of-Fields-items-2 as more_of-Field, items-the_row-Fields-items-2 as fields_in}
 use Rattle.bal_base.specs.declared.shape.Case.{Held-Case-result, None', Some'}
 use Rattle.bal_base.specs.declared.shape.Graph.{Graph, Graph', Row_of-Case, end_of-Case, more_of-Case}
 use Rattle.type_model.specs.declared.basic.SemType.{SemType, Basic, Atom, Or', And', Not'}
@@ -27,27 +27,42 @@ Holds basic atom (Not' _ t) = ¬ (Holds basic atom t)
 -- a list of at least as many items as are fixed, each in the type of its place
 abbrev pub ListFits : List Shape → (List Ty → Option Ty → Type 0) → AtomDef → Type 0
 ListFits items each (ListAtom fixed rest) = (length fixed ≤ length items) × each fixed rest
-ListFits items each _ = ⊥
+ListFits items each (MappingAtom fields rest) = ⊥
+ListFits items each (Arrow args outcome alone) = ⊥
+ListFits items each (ErrorAtom detail) = ⊥
+ListFits items each (FutureAtom outcome) = ⊥
 
 -- a mapping with all required fields, each member in the type of its key
 abbrev pub MappingFits : List (Text × Shape) → (List FieldDef → Option Ty → Type 0) → AtomDef → Type 0
 MappingFits members each (MappingAtom fields rest) = HasRequired fields members × each fields rest
-MappingFits members each _ = ⊥
+MappingFits members each (ListAtom fixed rest) = ⊥
+MappingFits members each (Arrow args outcome alone) = ⊥
+MappingFits members each (ErrorAtom detail) = ⊥
+MappingFits members each (FutureAtom outcome) = ⊥
 
 -- an error with such a detail
 abbrev pub ErrorFits : (SemType → Type 0) → AtomDef → Type 0
 ErrorFits detail_in (ErrorAtom detail) = detail_in detail
-ErrorFits detail_in _ = ⊥
+ErrorFits detail_in (ListAtom fixed rest) = ⊥
+ErrorFits detail_in (MappingAtom fields rest) = ⊥
+ErrorFits detail_in (Arrow args outcome alone) = ⊥
+ErrorFits detail_in (FutureAtom outcome) = ⊥
 
 -- a function, isolated if the atom is, that maps such arguments to such results
 abbrev pub FunctionFits : Bool → (SemType → SemType → Type 0) → AtomDef → Type 0
 FunctionFits isolated maps (Arrow args outcome alone) = (IsTrue alone → IsTrue isolated) × maps args outcome
-FunctionFits isolated maps _ = ⊥
+FunctionFits isolated maps (ListAtom fixed rest) = ⊥
+FunctionFits isolated maps (MappingAtom fields rest) = ⊥
+FunctionFits isolated maps (ErrorAtom detail) = ⊥
+FunctionFits isolated maps (FutureAtom outcome) = ⊥
 
 -- a future with such results
 abbrev pub FutureFits : (SemType → Type 0) → AtomDef → Type 0
 FutureFits each_in (FutureAtom outcome) = each_in outcome
-FutureFits each_in _ = ⊥
+FutureFits each_in (ListAtom fixed rest) = ⊥
+FutureFits each_in (MappingAtom fields rest) = ⊥
+FutureFits each_in (Arrow args outcome alone) = ⊥
+FutureFits each_in (ErrorAtom detail) = ⊥
 
 module _ (env : List AtomDef) where
   -- s is in a type, where `fits` says which definitions of atoms it fits
@@ -62,7 +77,10 @@ module _ (env : List AtomDef) where
     Fits (Error' _ detail) = ErrorFits (InBy detail (Fits detail))
     Fits (Function isolated graph) = FunctionFits isolated (Maps graph)
     Fits (Future' _ results) = FutureFits (AllIn results)
-    Fits _ = λ d. ⊥
+    Fits Nil = λ d. ⊥
+    Fits (BoolShape b) = λ d. ⊥
+    Fits (Int i) = λ d. ⊥
+    Fits (Str t) = λ d. ⊥
 
     -- each item of a list, from the place k on, is in the type of its place
     pub EachIn : {n : _} → Row_of-Shape n → ℕ → List Ty → Option Ty → Type 0

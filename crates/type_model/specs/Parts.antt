@@ -10,11 +10,15 @@ use Rattle.type_model.specs.Inclusion.{IsShapeOf}
 -- the part stands at such a key of the whole
 abbrev pub StandsIn : Keys → Shape → Shape → Type 0
 StandsIn (Index place) (List' mark _ items) part = slice_get (shapes_in _ items) place ≡ Some part
+StandsIn (Index place) _ part = ⊥
 StandsIn AnyIndex (List' mark _ items) part = Contains (shapes_in _ items) part
+StandsIn AnyIndex _ part = ⊥
 StandsIn (Field name) (Mapping' mark _ fields) part = Contains (fields_in _ fields) (name, part)
+StandsIn (Field name) _ part = ⊥
 StandsIn AnyField (Mapping' mark _ fields) part = Contains (map (λ f. f.1) (fields_in _ fields)) part
+StandsIn AnyField _ part = ⊥
 StandsIn Results (Future' _ results) part = Contains (shapes_in _ results) part
-StandsIn _ _ part = ⊥
+StandsIn Results _ part = ⊥
 
 -- the part stands at such a key of some shape of the type
 abbrev pub StandsAt : List AtomDef → SemType → Keys → Shape → Type 0

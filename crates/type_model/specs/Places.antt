@@ -1,12 +1,12 @@
 -- What the definitions of atoms say of single places and keys.
-use Rattle.std.specs.Prelude.{◌≡◌, ◌≢◌, ℕ, List, [], ◌∷◌, IsTrue, ◌⊎◌, Bool, Option, Some, None, All, AllPairs, Any, slice_get, if◌then◌else◌, nat_eq}
+use Rattle.std.specs.Prelude.{◌≡◌, ◌≢◌, ℕ, List, [], ◌∷◌, IsTrue, ◌⊎◌, Bool, Option, Some, None, All, AllPairs, Any, ⊤, slice_get, if◌then◌else◌, nat_eq}
 use Rattle.std.specs.Cmp.Lexicographic.{pointwise}
 use Rattle.bal_base.specs.declared.text.Text.{Text}
 use Rattle.bal_base.specs.declared.shape.Shape.{Shape}
 use Rattle.type_model.specs.declared.basic.Ty.{Ty}
 use Rattle.type_model.specs.declared.atoms.FieldDef.{FieldDef}
 use Rattle.type_model.specs.declared.atoms.AtomDef.{AtomDef}
-use Rattle.type_model.specs.declared.atoms.AtomDef.TheVariants.{Mapping as MappingAtom}
+use Rattle.type_model.specs.declared.atoms.AtomDef.TheVariants.{List as ListAtom, Mapping as MappingAtom, Arrow, Error as ErrorAtom, Future as FutureAtom}
 
 abbrev pub or_rest : Option Ty → Option Ty → Option Ty
 or_rest (Some t) rest = Some t
@@ -32,7 +32,10 @@ HasKey members key = Any (λ m. m.0 ≡ key) members
 abbrev pub HasRequired : List FieldDef → List (Text × Shape) → Type 0
 HasRequired fields members = All (λ f. IsTrue f.optional ⊎ HasKey members f.name) fields
 
--- no two fields of a mapping atom have the same name
+-- no two fields of a mapping atom have the same name; the other atoms have no fields
 abbrev pub HasDistinctFields : AtomDef → Type 0
+HasDistinctFields (ListAtom fixed rest) = ⊤
 HasDistinctFields (MappingAtom fields rest) = AllPairs (λ f g. f.name ≢ g.name) fields
-HasDistinctFields _ = Unit {0}
+HasDistinctFields (Arrow args outcome alone) = ⊤
+HasDistinctFields (ErrorAtom detail) = ⊤
+HasDistinctFields (FutureAtom outcome) = ⊤

@@ -1,22 +1,23 @@
 //! The definitions of atoms, by their numbers.
-ghost use Rattle.std.specs.Prelude.{◌≡◌, [], All};
+ghost use Rattle.std.specs.Prelude.{◌≡◌, ◌+◌, ◌<◌, ◌++◌, [], All, IfOk, OnOk, OnErr, length};
+ghost use Rattle.bal_base.specs.Stops.{IfFault};
 ghost use Rattle.type_model.specs.Places.{HasDistinctFields};
 ghost use Rattle.type_model.specs.Defined.{IsDefinedGroup, IsEnv};
-ghost use Rattle.type_model.specs.Calls.{AddsAtoms};
+ghost use Rattle.type_model.specs.Calls.{KeepsTypes};
 
 use crate::atoms::AtomDef;
-use bal_base::Stop;
+use bal_base::{MOST_ATOMS, Stop};
 use std::alloc::Global;
 use std::marker::Model;
 use thiserror::Error;
 
-/// There would be more than 65,536 atoms.
+/// There would be more than [`MOST_ATOMS`] atoms.
 #[derive(Clone, Copy, Debug, PartialEq, Eq, Error)]
 #[error("there would be more than 65,536 atoms")]
 pub struct AtomLimit;
 
-/// The atoms' definitions, in the order of their numbers from 0. There are at most 65,536, each atom that
-/// a definition names is there, and the fields of each mapping atom have different names.
+/// The atoms' definitions, in the order of their numbers from 0. There are at most [`MOST_ATOMS`], each atom
+/// that a definition names is there, and the fields of each mapping atom have different names.
 #[derive(Debug, Drop)]
 pub struct TypeEnv {
     defs: Vec<AtomDef>,
@@ -39,9 +40,6 @@ impl Model for TypeEnv {
 }
 
 impl TypeEnv {
-    /// How many atoms there can be.
-    pub const MOST_ATOMS: usize = 65_536;
-
     /// No atoms.
     pub fn new(alloc: Global) -> TypeEnv
         ensures { result ≡ [] }
@@ -60,14 +58,19 @@ impl TypeEnv {
     }
 
     /// Numbers a group of atoms, which may name each other, from the number that it gives. `AtomLimit`
-    /// comes exactly where there would be more than 65,536 atoms. After a refusal the atoms are as before.
+    /// comes exactly where there would be more than [`MOST_ATOMS`]. After a refusal the atoms are as before.
     pub fn add(&mut self, defs: Vec<AtomDef>) -> Result<u32, Stop<AtomLimit>>
         requires named { IsDefinedGroup self.old defs.items }
         requires distinct { All HasDistinctFields defs.items }
-        ensures { AddsAtoms self.old self.new defs.items result }
+        ensures first { IfOk result (λ first. first ≡ length self.old) }
+        ensures added { OnOk result (self.new ≡ self.old ++ defs.items) }
+        ensures refused { OnErr result (self.new ≡ self.old) }
+        ensures limit { IfFault result (λ _. MOST_ATOMS < length self.old + length defs.items) }
+        ensures env { IsEnv self.new }
+        ensures kept { KeepsTypes self.old self.new }
     {
         let first = self.defs.len();
-        if Self::MOST_ATOMS - first < defs.len() {
+        if MOST_ATOMS - first < defs.len() {
             return Err(Stop::Fault(AtomLimit));
         }
         let mut defs = defs;

@@ -1,9 +1,13 @@
+ghost use Rattle.std.specs.Prelude.{◌∷◌, []};
+ghost use Rattle.type_model.specs.Places.{HasDistinctFields};
+ghost use Rattle.type_model.specs.Defined.{IsDefined, IsDefinedGroup};
+
 use crate::{
-    AtomDef, AtomDefs, BasicSet, Choice, ChoiceList, FieldDef, FieldList, SemType, Ty, TyList,
-    TypeEnv, TypeList,
+    Answer, AtomDef, AtomLimit, BasicSet, Choice, ChoiceList, FieldDef, FieldList, SemType, Ty,
+    TypeEnv, Types,
 };
-use bal_base::Text;
-use std::alloc::Global;
+use bal_base::{MOST_ATOMS, Memory, Stop, Text};
+use std::alloc::{AllocError, Global};
 
 fn never() -> SemType {
     SemType::Basic(BasicSet::Never)
@@ -38,35 +42,36 @@ fn record(a: Global, first: &str, second: &str, third: &str) -> Option<AtomDef> 
     })
 }
 
-fn futures(a: Global, count: usize) -> Option<Vec<AtomDef>> {
+fn futures(a: Global, count: usize) -> Result<Vec<AtomDef>, AllocError> {
     let mut defs = Vec::new(a);
     for _ in 0..count {
-        defs.push(AtomDef::Future { result: never() }).ok()?;
+        defs.push(AtomDef::Future { result: never() })?;
     }
-    Some(defs)
+    Ok(defs)
 }
 
 /// The number of the first of `count` further atoms.
-fn add(a: Global, env: &mut TypeEnv, count: usize) -> Option<u32> {
+fn add(a: Global, env: &mut TypeEnv, count: usize) -> Result<u32, Stop<AtomLimit>> {
     let defs = futures(a, count)?;
     let atoms = env.defs().len() + defs.len();
     if !AtomDef::are_below(&defs, atoms) || !AtomDef::have_distinct_fields(&defs) {
-        return None;
+        return Err(Stop::Memory);
     }
-    env.add(defs).ok()
+    env.add(defs)
 }
 
 #[test]
 fn there_are_at_most_65536_atoms(rt: HostRuntime) {
     let a = rt.alloc();
     let mut env = TypeEnv::new(a);
+    let refused = Err(Stop::Fault(AtomLimit));
     assert_eq!(rt; env.defs().len(), 0);
-    assert_eq!(rt; add(a, &mut env, 65_537), None);
-    assert_eq!(rt; add(a, &mut env, 2), Some(0));
-    assert_eq!(rt; add(a, &mut env, 65_534), Some(2));
-    assert_eq!(rt; add(a, &mut env, 0), Some(65_536));
-    assert_eq!(rt; add(a, &mut env, 1), None);
-    assert_eq!(rt; env.defs().len(), TypeEnv::MOST_ATOMS);
+    assert_eq!(rt; add(a, &mut env, 65_537), refused);
+    assert_eq!(rt; add(a, &mut env, 2), Ok(0));
+    assert_eq!(rt; add(a, &mut env, 65_534), Ok(2));
+    assert_eq!(rt; add(a, &mut env, 0), Ok(65_536));
+    assert_eq!(rt; add(a, &mut env, 1), refused);
+    assert_eq!(rt; env.defs().len(), MOST_ATOMS);
 }
 
 #[test]
@@ -82,11 +87,29 @@ fn what_an_environment_asks_of_atoms(rt: HostRuntime) {
     assert!(rt; !SemType::Atom(7).names_below(7));
 }
 
-#[test]
-fn lists_give_their_members(rt: HostRuntime) {
-    let a = rt.alloc();
-    let defs = futures(a, 3).expect(&rt, "out of memory");
-    assert_eq!(rt; AtomDefs::of(defs).as_slice().len(), 3);
-    assert!(rt; TypeList::of(Vec::new(a)).as_slice().is_empty());
-    assert!(rt; TyList::of(Vec::new(a)).as_slice().is_empty());
+/// What a caller knows of any implementation: after an atom is added, types over the older atoms may be
+/// asked of as before, and so may the new atom.
+fn asks_after_adding<T: Types>(
+    alloc: Global,
+    types: &mut T,
+    t: &SemType,
+    def: AtomDef,
+) -> Result<bool, Memory>
+    requires defined { IsDefined (T.atoms types.old) t.now }
+    requires named { IsDefinedGroup (T.atoms types.old) (def ∷ []) }
+    requires distinct { HasDistinctFields def }
+{
+    let mut group = Vec::new(alloc);
+    group.push(def)?;
+    let Ok(number) = types.add(alloc, group) else {
+        return Ok(false);
+    };
+    let atom = SemType::Atom(number);
+    let Ok(Answer::Yes) = types.sub(alloc, t, &atom) else {
+        return Ok(false);
+    };
+    let Ok(Answer::Yes) = types.sub(alloc, &atom, t) else {
+        return Ok(false);
+    };
+    Ok(true)
 }
