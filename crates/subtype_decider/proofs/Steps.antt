@@ -1,6 +1,7 @@
 -- Steps of the proof that membership is decided.
-use Rattle.std.proofs.Common.{◌≡◌, ℕ, zero, suc, ◌+◌, ◌<◌, ◌↔◌, ◌⊎◌, ⊎_elim, List, [], ◌∷◌, length, get_or, slice_get, All, IsSomeAnd, IsTrue, Bool, false, refl, sym, subst, ◌∙◌, Option, Some, None, MatchOption, Bor, arith}
+use Rattle.std.proofs.Common.{◌≡◌, ℕ, ◌+◌, ◌<◌, ◌↔◌, ◌⊎◌, ⊎_elim, List, length, get_or, slice_get, IsSomeAnd, false, sym, subst, ◌∙◌, Option, Some, None, MatchOption, Bor, arith}
 use Rattle.std.proofs.lemmas.Bool.{false≢true}
+use Rattle.std.proofs.lemmas.List.{get_or_default}
 use Rattle.bal_base.specs.declared.shape.Shape.{Shape, List as ListOf}
 use Rattle.bal_base.specs.declared.shape.Shapes.{Shapes}
 use Rattle.bal_base.specs.Shapes.{shapes_list}
@@ -17,29 +18,10 @@ use Rattle.type_model.proofs.Same.{both, either, neither, itself}
 use Rattle.type_model.proofs.Unfolding.{Fits-List}
 use Rattle.subtype_decider.specs.Arguments.{HasAllLists, ArgumentsIn}
 
--- what a test of the parts says of the whole
-pub by_parts : {X : Type 0} (Q : X → Type 0) (F : Shape → Type 0) (r : Bool) (s v : Shape) (xs ys : X) → s ≡ v → xs ≡ ys → (IsTrue r ↔ Q xs) → (F v ↔ Q ys) → IsTrue r ↔ F s
-by_parts Q F r s v xs ys e f t l = (
-  λ h. subst F (sym e) (l.1 (subst Q f (t.0 h))),
-  λ h. t.1 (subst Q (sym f) (l.0 (subst F e h))),
-)
-
--- where a test of one element failed, not all pass
-pub one_fails : {X : Type 0} (P : X → Type 0) (xs : List X) (i : ℕ) (x : X) (r : Bool) → i < length xs → x ≡ get_or xs i x → (P x → IsTrue r) → r ≡ false → IsTrue false ↔ All P xs
-one_fails P xs i x r lt is passes fails = (
-  λ h. absurd (false≢true h),
-  λ all. absurd (false≢true (sym fails ∙ passes (subst P (sym is) (all i x lt)))),
-)
-
 -- what is said of a reference to a type that is there
 pub by_ref : (T : Option Ty) (r : Option (Bor Ty)) (P : Ty → Type 0) → MatchOption r (T ≡ None) (λ t. T ≡ Some t.now) → IsSomeAnd r (λ t. P t.now) ↔ IsSomeAnd T P
 by_ref T (Some t) P e = (λ h. subst (λ o. IsSomeAnd o P) (sym e) h, λ h. subst (λ o. IsSomeAnd o P) e h)
 by_ref T None P e = (λ h. absurd h, λ h. subst (λ o. IsSomeAnd o P) e h)
-
-any_default : {X : Type 0} (xs : List X) (i : ℕ) (d e : X) → i < length xs → get_or xs i d ≡ get_or xs i e
-any_default [] i d e lt = absurd (omega (arith, lt))
-any_default (x ∷ xs) zero d e lt = refl
-any_default (x ∷ xs) (suc i) d e lt = any_default xs i d e (omega (arith, lt))
 
 module _ (env : List AtomDef) (fixed : List Ty) (rest : Option Ty) (xs : List Shape) where
   abbrev Item : ℕ → Shape → Type 0
@@ -48,7 +30,7 @@ module _ (env : List AtomDef) (fixed : List Ty) (rest : Option Ty) (xs : List Sh
   -- one more item is in the type of its place
   pub items_more : (n : ℕ) (x : Shape) → n < length xs → x ≡ get_or xs n x → Item n x → ((i : ℕ) (d : Shape) → i < n → Item i (get_or xs i d)) → (i : ℕ) (d : Shape) → i < n + 1 → Item i (get_or xs i d)
   items_more n x lt e h all i d l =
-      ⊎_elim (λ (m : i < n). all i d m) (λ (m : i ≡ n). subst (λ j. Item j (get_or xs j d)) (sym m) (subst (Item n) (e ∙ any_default xs n x d lt) h)) (below_or i n l)
+      ⊎_elim (λ (m : i < n). all i d m) (λ (m : i ≡ n). subst (λ j. Item j (get_or xs j d)) (sym m) (subst (Item n) (e ∙ get_or_default xs n x d lt) h)) (below_or i n l)
     where
       below_or : (a b : ℕ) → a < b + 1 → (a < b) ⊎ (a ≡ b)
       below_or a b l = grind (arith, l)

@@ -1,17 +1,18 @@
 -- How much work a question of membership is.
 use Rattle.std.specs.Prelude.{ℕ, ◌+◌, List, sum_by, Option, Some, None}
 use Rattle.std.specs.Borrow.{Bor}
-use Rattle.type_model.specs.declared.basic.SemType.{SemType, Or', And', Not'}
+use Rattle.type_model.specs.declared.basic.SemType.{SemType, Basic, Atom, Or', And', Not'}
 use Rattle.type_model.specs.declared.basic.Ty.{Ty}
 use Rattle.type_model.specs.declared.atoms.FieldDef.{FieldDef}
 use Rattle.type_model.specs.declared.atoms.AtomDef.{AtomDef}
 use Rattle.type_model.specs.declared.atoms.AtomDef.TheVariants.{List as ListAtom, Mapping as MappingAtom, Arrow, Error as ErrorAtom, Future as FutureAtom}
 
 abbrev pub type_nodes : SemType → ℕ
+type_nodes (Basic set) = 1
+type_nodes (Atom n) = 1
 type_nodes (Or' _ s _ t) = 1 + type_nodes s + type_nodes t
 type_nodes (And' _ s _ t) = 1 + type_nodes s + type_nodes t
 type_nodes (Not' _ t) = 1 + type_nodes t
-type_nodes _ = 1
 
 abbrev pub rest_nodes : Option Ty → ℕ
 rest_nodes (Some t) = type_nodes t.sem

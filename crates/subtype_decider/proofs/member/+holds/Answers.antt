@@ -1,21 +1,22 @@
 use Rattle.std.proofs.Common.{◌≡◌, ◌↔◌, IsSomeAnd, All, List, Option, IsTrue, true, sym, subst, refl, ◌∙◌, arith}
 use Rattle.std.proofs.lemmas.Bool.{false≢true}
 use Rattle.bal_base.specs.declared.text.Text.{Text}
-use Rattle.bal_base.specs.declared.shape.Shape.{Shape, List as ListOf, Mapping, Function, Future}
+use Rattle.bal_base.specs.declared.shape.Shape.{Shape}
 use Rattle.bal_base.specs.declared.shape.Case.{Case}
-use Rattle.bal_base.specs.Shapes.{shapes_list, fields_list, graph_list}
-use Rattle.bal_base.proofs.Rows.{one_more, at_end}
+use Rattle.bal_base.proofs.Loops.{one_more, one_fails, at_end}
+use Rattle.bal_base.proofs.Tests.{by_parts, by_read_parts}
 use Rattle.type_model.specs.declared.basic.Ty.{Ty}
 use Rattle.type_model.specs.declared.atoms.FieldDef.{FieldDef}
-use Rattle.type_model.specs.declared.atoms.AtomDef.TheVariants.{Future as FutureAtom}
+use Rattle.type_model.specs.declared.atoms.AtomDef.TheVariants.{Error as ErrorAtom, Future as FutureAtom}
 use Rattle.type_model.specs.Places.{HasRequired, item_type}
 use Rattle.type_model.specs.Membership.{In, Fits, ListFits, MappingFits, FunctionFits, FutureFits}
 use Rattle.type_model.specs.Elements.{ItemsIn, MemberIn, CaseMaps}
+use Rattle.type_model.proofs.Same.{itself}
 use Rattle.type_model.proofs.Unfolding.{Fits-List, Fits-Mapping, Fits-Function, Fits-Future}
 use Rattle.subtype_decider.specs.Keys.{has_required}
 use Rattle.subtype_decider.specs.Arguments.{ArgumentsIn}
 use Rattle.subtype_decider.proofs.KeyTests.{has_required-exact}
-use Rattle.subtype_decider.proofs.Steps.{by_parts, one_fails, by_ref, items_more, In-arguments}
+use Rattle.subtype_decider.proofs.Steps.{by_ref, items_more, In-arguments}
 use Rattle.subtype_decider.proofs.member.+holds.Goals as goal
 
 -- ---- the parts of a shape
@@ -25,24 +26,29 @@ fits-returns-in-List t c =
     let env = c.args.env.now in
     let d = c.args.def.now in
     let Q : List Shape → Type 0 = λ xs. ListFits xs (ItemsIn env xs) d in
-    by_parts Q (λ s. Fits env s d) c.list_fits.result c.args.shape.now (ListOf c.in-List.mark c.in-List.items) c.as_slice.result.now (shapes_list c.in-List.items) c.in-List.is c.as_slice.ensures c.list_fits.ensures
-    (Fits-List env c.in-List.mark c.in-List.items d)
+    by_read_parts (λ s. Fits env s d) Q c.in-List.is c.as_slice.ensures (Fits-List env c.in-List.mark c.in-List.items d) c.list_fits.ensures
 
 pub fits-returns-in-Mapping : goal.fits-returns-in-Mapping
 fits-returns-in-Mapping t c =
     let env = c.args.env.now in
     let d = c.args.def.now in
     let Q : List (Text × Shape) → Type 0 = λ ms. MappingFits ms (λ fs rest. All (MemberIn env fs rest) ms) d in
-    by_parts Q (λ s. Fits env s d) c.mapping_fits.result c.args.shape.now (Mapping c.in-Mapping.mark c.in-Mapping.fields) c.as_slice-in-Mapping.result.now (fields_list c.in-Mapping.fields) c.in-Mapping.is c.as_slice-in-Mapping.ensures c.mapping_fits.ensures
-    (Fits-Mapping env c.in-Mapping.mark c.in-Mapping.fields d)
+    by_read_parts (λ s. Fits env s d) Q c.in-Mapping.is c.as_slice-in-Mapping.ensures (Fits-Mapping env c.in-Mapping.mark c.in-Mapping.fields d) c.mapping_fits.ensures
 
 pub fits-returns-in-Function : goal.fits-returns-in-Function
 fits-returns-in-Function t c =
     let env = c.args.env.now in
     let d = c.args.def.now in
     let Q : List Case → Type 0 = λ cs. FunctionFits c.in-Function.isolated (λ args outcome. All (CaseMaps env args outcome) cs) d in
-    by_parts Q (λ s. Fits env s d) c.function_fits.result c.args.shape.now (Function c.in-Function.isolated c.in-Function.graph) c.as_slice-in-Function.result.now (graph_list c.in-Function.graph) c.in-Function.is c.as_slice-in-Function.ensures c.function_fits.ensures
-    (Fits-Function env c.in-Function.isolated c.in-Function.graph d)
+    by_read_parts (λ s. Fits env s d) Q c.in-Function.is c.as_slice-in-Function.ensures (Fits-Function env c.in-Function.isolated c.in-Function.graph d) c.function_fits.ensures
+
+pub fits-returns-in-Error-def : goal.fits-returns-in-Error-def
+fits-returns-in-Error-def t c =
+    let env = c.args.env.now in
+    let detail_type = c.in-Error-def.t in
+    let test = subst (λ x. IsTrue c.holds.result ↔ In env x detail_type) c.deref.ensures c.holds.ensures in
+    let is = by_parts (λ s. Fits env s (ErrorAtom detail_type)) c.in-Error.is itself test in
+    subst (λ e. IsTrue c.holds.result ↔ Fits env c.args.shape.now e) (sym c.in-Error-def.is) is
 
 pub fits-returns-in-Future-def : goal.fits-returns-in-Future-def
 fits-returns-in-Future-def t c =
@@ -50,8 +56,7 @@ fits-returns-in-Future-def t c =
     let outcome = c.in-Future-def.result in
     let d = FutureAtom outcome in
     let Q : List Shape → Type 0 = λ xs. FutureFits (λ t'. All (λ x. In env x t') xs) d in
-    let is = by_parts Q (λ s. Fits env s d) c.all_in.result c.args.shape.now (Future c.in-Future.results) c.as_slice-in-Future-def.result.now (shapes_list c.in-Future.results) c.in-Future.is c.as_slice-in-Future-def.ensures c.all_in.ensures
-    (Fits-Future env c.in-Future.results d) in
+    let is = by_read_parts (λ s. Fits env s d) Q c.in-Future.is c.as_slice-in-Future-def.ensures (Fits-Future env c.in-Future.results d) c.all_in.ensures in
     subst (λ e. IsTrue c.all_in.result ↔ Fits env c.args.shape.now e) (sym c.in-Future-def.is) is
 
 -- ---- the items of a list
