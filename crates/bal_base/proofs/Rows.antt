@@ -15,7 +15,7 @@ use Rattle.bal_base.specs.declared.shape.Case.{Case, view-Case-result, Held-Case
 use Rattle.bal_base.specs.declared.shape.Graph.{Graph, Graph', out-Graph, outs-Graph', Row_of-Case, end_of-Case, more_of-Case, items-the_row-Case as cases_in}
 use Rattle.bal_base.specs.Valid.{IsFrozen, IsValid, AreValid, FieldsValid, ResultValid, CasesValid, GraphValid, CaseIsValid, KeysRise, AreTexts}
 
-abbrev row_of : Shape → (n : Count) × Row_of-Shape n
+abbrev pub row_of : Shape → (n : Count) × Row_of-Shape n
 row_of (List' mark _ row) = (_, row)
 row_of (Future' _ row) = (_, row)
 row_of _ = (_, end_of-Shape)
@@ -44,7 +44,7 @@ IsValid-List mark items =
 
 -- ---- the fields of a mapping
 
-abbrev fields_of : Shape → (n : Count) × Row_of-Field n
+abbrev pub fields_of : Shape → (n : Count) × Row_of-Field n
 fields_of (Mapping' mark _ row) = (_, row)
 fields_of _ = (_, end_of-Field)
 
@@ -73,7 +73,7 @@ module _ (mark : Bool) (fields : Fields) where
 
 -- ---- the cases of a graph
 
-abbrev case_of : (s : (the_former (this {0}) Global).Shape) → Row_of-Shape (arity_of (the_former (this {0}) Global) s) → Held-Case-result → Case
+abbrev pub case_of : (s : (the_former (this {0}) Global).Shape) → Row_of-Shape (arity_of (the_former (this {0}) Global) s) → Held-Case-result → Case
 case_of s args result = record { args = record { items = shown-the_row-Shape-0 s args }; result = view-Case-result result }
 
 of_result : (r : Held-Case-result) → ResultValid r → IfSome (view-Case-result r) IsValid

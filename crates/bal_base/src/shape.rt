@@ -87,6 +87,7 @@ impl Graph {
     }
 }
 
+mod copy;
 #[cfg(test)]
 mod tests;
 mod valid;
