@@ -1,6 +1,7 @@
 pub mod Copies
 pub mod Lines
 pub mod Loops
+pub mod Lower
 pub mod Order
 pub mod Points
 pub mod Rows

@@ -1,5 +1,6 @@
 pub mod End
 pub mod FaultCode
+pub mod Levels
 pub mod Limits
 pub mod Place
 pub mod Same
