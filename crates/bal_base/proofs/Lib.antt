@@ -5,5 +5,6 @@ pub mod Lower
 pub mod Order
 pub mod Points
 pub mod Rows
+pub mod SameShapes
 pub mod Tables
 pub mod Tests

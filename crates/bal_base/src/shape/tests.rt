@@ -56,3 +56,29 @@ fn shapes_are_valid_or_not(rt: HostRuntime) -> Result<(), Fail> {
     assert!(rt; !failing.is_frozen());
     Ok(())
 }
+
+/// A shape of every kind in a future.
+fn every_kind(alloc: Global) -> Result<Shape, Memory> {
+    let mut results = Vec::new(alloc);
+    results.push(Shape::Str(Text::new(alloc, "é")?))?;
+    results.push(marked_list(alloc, Shape::Bool(true))?)?;
+    results.push(error(alloc, mapping(alloc, true, ["a", "b"])?)?)?;
+    results.push(failing_function(alloc, Shape::Nil)?)?;
+    Ok(Shape::Future {
+        results: Shapes::of(results),
+    })
+}
+
+#[test]
+fn a_copy_has_each_part(rt: HostRuntime) -> Result<(), Fail> {
+    let alloc = rt.alloc();
+    let shape = every_kind(alloc)?;
+    let copy = shape.copy(alloc)?;
+    drop(shape);
+    let shown = format!(in alloc; "{copy:?}")?;
+    assert_eq!(rt;
+        shown.as_str(),
+        "Future { results: Shapes { items: [Str(\"é\"), List { mark: true, items: Shapes { items: [Bool(true)] } }, Error { detail: Mapping { mark: true, fields: Fields { items: [(\"a\", Nil), (\"b\", Int(-1))] } } }, Function { isolated: false, graph: Graph { items: [Case { args: Shapes { items: [Nil] }, result: None }] } }] } }"
+    );
+    Ok(())
+}
