@@ -1,8 +1,9 @@
 -- Tables of constants: one evaluation over the table shows what holds of each member.
-use Rattle.std.proofs.Common.{◌≡◌, ℕ, zero, suc, Bool, true, false, ◌&&◌, not, List, [], ◌∷◌, Contains, sym, ap, ◌∙◌, arith}
+use Rattle.std.proofs.Common.{◌≡◌, ℕ, zero, suc, Bool, true, false, cond, ◌&&◌, not, List, [], ◌∷◌, Option, Some, Contains, find, sym, ap, ◌∙◌, arith}
 use Rattle.std.specs.List.{list_all}
 use Rattle.std.specs.Str.{bytes_eq}
-use Rattle.std.proofs.lemmas.Bool.{and_parts, both_ways, not-true}
+use Rattle.std.proofs.lemmas.Bool.{and_parts, not-true}
+use Rattle.std.proofs.lemmas.Option.{same_Some}
 use Rattle.std.proofs.lemmas.Slice.Eq.{bytes_eq-Decides}
 
 -- a test that all members of a list pass
@@ -18,19 +19,21 @@ every table complete p all x = list_all-at p table x all (complete x)
 -- no two members are written alike
 abbrev pub all_apart : {X : Type 0} → (X → List ℕ) → List X → Bool
 all_apart text [] = true
-all_apart text (x ∷ xs) = list_all (λ y. not (bytes_eq (text y) (text x))) xs && all_apart text xs
+all_apart text (x ∷ xs) = list_all (λ y. not (bytes_eq (text x) (text y))) xs && all_apart text xs
 
-apart-at : {X : Type 0} (text : X → List ℕ) (xs : List X) (x y : X) → list_all (λ z. not (bytes_eq (text z) (text x))) xs ≡ true → Contains xs y → text y ≡ text x → ⊥
-apart-at text xs x y apart there same =
-    both_ways (bytes_eq (text y) (text x)) (not-true (bytes_eq (text y) (text x)) (list_all-at (λ z. not (bytes_eq (text z) (text x))) xs y apart there)) ((bytes_eq-Decides (text y) (text x)).1 same)
+-- so the first that is written as a member is that member
+pub find-written : {X : Type 0} (text : X → List ℕ) (xs : List X) (x : X) → all_apart text xs ≡ true → Contains xs x → find (λ y. bytes_eq (text y) (text x)) xs ≡ Some x
+find-written text [] x apart (k, lt, e) = absurd (omega arith)
+find-written text (z ∷ zs) x apart (zero, lt, e) =
+    let same : bytes_eq (text z) (text x) ≡ true = (bytes_eq-Decides (text z) (text x)).1 (ap text e) in
+    ap (λ b. cond b (Some z) (find (λ y. bytes_eq (text y) (text x)) zs)) same ∙ ap Some e
+find-written text (z ∷ zs) x apart (suc k, lt, e) =
+    let parts = and_parts (list_all (λ y. not (bytes_eq (text z) (text y))) zs) (all_apart text zs) apart in
+    let there : Contains zs x = (k, omega arith, e) in
+    let other : bytes_eq (text z) (text x) ≡ false = not-true (bytes_eq (text z) (text x)) (list_all-at (λ y. not (bytes_eq (text z) (text y))) zs x parts.0 there) in
+    ap (λ b. cond b (Some z) (find (λ y. bytes_eq (text y) (text x)) zs)) other ∙ find-written text zs x parts.1 there
 
--- so members that are written alike are one
+-- and members that are written alike are one
 pub apart-same : {X : Type 0} (text : X → List ℕ) (xs : List X) (g h : X) → all_apart text xs ≡ true → Contains xs g → Contains xs h → text g ≡ text h → g ≡ h
-apart-same text [] g h apart (k, lt, e) there same = absurd (omega arith)
-apart-same text (x ∷ xs) g h apart (zero, lt, e) (zero, mt, f) same = sym e ∙ f
-apart-same text (x ∷ xs) g h apart (zero, lt, e) (suc k, mt, f) same =
-    absurd (apart-at text xs x h (and_parts (list_all (λ y. not (bytes_eq (text y) (text x))) xs) (all_apart text xs) apart).0 (k, omega arith, f) (sym same ∙ ap text (sym e)))
-apart-same text (x ∷ xs) g h apart (suc k, lt, e) (zero, mt, f) same =
-    absurd (apart-at text xs x g (and_parts (list_all (λ y. not (bytes_eq (text y) (text x))) xs) (all_apart text xs) apart).0 (k, omega arith, e) (same ∙ ap text (sym f)))
-apart-same text (x ∷ xs) g h apart (suc k, lt, e) (suc m, mt, f) same =
-    apart-same text xs g h (and_parts (list_all (λ y. not (bytes_eq (text y) (text x))) xs) (all_apart text xs) apart).1 (k, omega arith, e) (m, omega arith, f) same
+apart-same text xs g h apart has_g has_h same =
+    same_Some g h (sym (find-written text xs g apart has_g) ∙ ap (λ t. find (λ y. bytes_eq (text y) t) xs) same ∙ find-written text xs h apart has_h)

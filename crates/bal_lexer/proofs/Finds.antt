@@ -2,6 +2,7 @@
 use Rattle.std.proofs.Common.{◌≡◌, ℕ, zero, suc, ◌≤◌, Bool, true, false, ◌&&◌, nat_le, List, [], ◌∷◌, Some, None, inl, inr, sym, ap, ◌∙◌, arith}
 use Rattle.std.specs.Prelude.{Contains, find}
 use Rattle.std.specs.List.{list_all}
+use Rattle.bal_base.proofs.Tables.{list_all-at}
 use Rattle.std.proofs.lemmas.Bool.{cases_Bool, and_parts, leb-true}
 
 pub find-none : {X : Type 0} (p : X → Bool) (xs : List X) (y : X) → find p xs ≡ None → Contains xs y → p y ≡ false
@@ -17,11 +18,6 @@ find-some p (y ∷ xs) x some = elim (cases_Bool (p y)) [ inl passes ↦ let e =
 abbrev pub descends : {X : Type 0} → (X → ℕ) → List X → Bool
 descends size [] = true
 descends size (x ∷ xs) = list_all (λ y. nat_le (size y) (size x)) xs && descends size xs
-
-pub list_all-at : {X : Type 0} (p : X → Bool) (xs : List X) (y : X) → list_all p xs ≡ true → Contains xs y → p y ≡ true
-list_all-at p [] y all (k, lt, e) = absurd (omega arith)
-list_all-at p (x ∷ xs) y all (zero, lt, e) = ap p (sym e) ∙ (and_parts (p x) (list_all p xs) all).0
-list_all-at p (x ∷ xs) y all (suc k, lt, e) = list_all-at p xs y (and_parts (p x) (list_all p xs) all).1 (k, omega arith, e)
 
 pub find-largest : {X : Type 0} (size : X → ℕ) (p : X → Bool) (xs : List X) (x y : X) → descends size xs ≡ true → find p xs ≡ Some x → Contains xs y → p y ≡ true → size y ≤ size x
 find-largest size p [] x y order some (k, lt, e) passes = absurd (omega arith)

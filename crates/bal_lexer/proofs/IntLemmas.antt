@@ -9,6 +9,7 @@ use Rattle.std.proofs.lemmas.Bool.{and_parts, and_from, ltb-true, leb-true, lt-l
 use Rattle.std.proofs.lemmas.Bool.Decides.{nat_tests}
 use Rattle.std.proofs.lemmas.Int.{ints}
 use Rattle.unicode_ident.specs.Ident.{is_xid_continue}
+use Rattle.bal_base.specs.Limits.{greatest_int}
 use Rattle.bal_base.specs.declared.token.TokenKind.TheVariants as kind
 use Rattle.bal_lexer.specs.declared.lexeme.Lexeme.TheVariants.{Token}
 use Rattle.bal_lexer.specs.Lexemes.{begins_with}
@@ -27,10 +28,10 @@ is_digit-decimal c digit = grind (arith, nat_tests)
 pub is_digit-hexadecimal : (c : ℕ) → is_ascii_hexdigit c ≡ true → is_digit c 16 ≡ true
 is_digit-hexadecimal c digit = grind (arith, nat_tests)
 
-pub fits-pos : (n : ℕ) → FitsSigned w64 (pos n) → n ≤ 9223372036854775807
+pub fits-pos : (n : ℕ) → FitsSigned w64 (pos n) → n ≤ greatest_int
 fits-pos n fits = omega (arith, ints)
 
-pub fits-from : (n : ℕ) → n ≤ 9223372036854775807 → FitsSigned w64 (pos n)
+pub fits-from : (n : ℕ) → n ≤ greatest_int → FitsSigned w64 (pos n)
 fits-from n small = omega (arith, ints)
 
 pub all-digits : (radix : ℕ) (ds : List ℕ) → radix ≤ 16 → list_all (λ c. is_digit c radix) ds ≡ true → AllDigits radix ds × (all_ascii ds ≡ true)
@@ -57,7 +58,7 @@ OkIff-same (Err e) P Q v to from h = λ q. h (from q)
 
 -- reading digits gives their number where there is a digit and the number is an int
 pub reads-int : {E : Type 0} (radix : ℕ) (s : List ℕ) (r : Result ℤ E) → radix ≤ 16 → IsUtf8 s → list_all (λ c. is_digit c radix) (chars s) ≡ true → ParsesSigned w64 radix s r
-    → OkIff r ((0 < length (chars s)) × (digits_value radix (chars s) ≤ 9223372036854775807)) (pos (digits_value radix (chars s)))
+    → OkIff r ((0 < length (chars s)) × (digits_value radix (chars s) ≤ greatest_int)) (pos (digits_value radix (chars s)))
 reads-int radix s r small text all parses =
     let ds = chars s in
     let parts = all-digits radix ds small all in
@@ -69,19 +70,19 @@ reads-int radix s r small text all parses =
     (subst (λ b. OkIff r (IsNumeral radix (without_leading_sign ds) × FitsSigned w64 (cond b (neg_ℤ (pos (digits_value radix (without_leading_sign ds)))) (pos (digits_value radix (without_leading_sign ds))))) (cond b (neg_ℤ (pos (digits_value radix (without_leading_sign ds)))) (pos (digits_value radix (without_leading_sign ds))))) sign.0 read) in
     OkIff-same r _ _ _ (λ h. (h.0.0, fits-pos _ h.1)) (λ h. ((h.0, parts.0), fits-from _ h.1)) plain
 
-pub int_at-some : (radix : ℕ) (digits after : List ℕ) → begins_with is_xid_continue after ≡ false → 0 < length digits → digits_value radix digits ≤ 9223372036854775807
+pub int_at-some : (radix : ℕ) (digits after : List ℕ) → begins_with is_xid_continue after ≡ false → 0 < length digits → digits_value radix digits ≤ greatest_int
     → int_at radix digits after ≡ Some (Token (kind.Int (pos (digits_value radix digits))), after)
 unfolding int_at
 int_at-some radix digits after ends some small =
-    rw (ends, lt-ltb 0 (length digits) some, le-leb (digits_value radix digits) 9223372036854775807 small) refl
+    rw (ends, lt-ltb 0 (length digits) some, le-leb (digits_value radix digits) greatest_int small) refl
 
-pub int_at-none : (radix : ℕ) (digits after : List ℕ) → ((0 < length digits) × (digits_value radix digits ≤ 9223372036854775807) → ⊥) → int_at radix digits after ≡ None
+pub int_at-none : (radix : ℕ) (digits after : List ℕ) → ((0 < length digits) × (digits_value radix digits ≤ greatest_int) → ⊥) → int_at radix digits after ≡ None
 unfolding int_at
 int_at-none radix digits after bad =
-    elim (cases_Bool ((not (begins_with is_xid_continue after) && nat_lt 0 (length digits)) && nat_le (digits_value radix digits) 9223372036854775807)) [
+    elim (cases_Bool ((not (begins_with is_xid_continue after) && nat_lt 0 (length digits)) && nat_le (digits_value radix digits) greatest_int)) [
       | inl all ↦
-          let parts = and_parts (not (begins_with is_xid_continue after) && nat_lt 0 (length digits)) (nat_le (digits_value radix digits) 9223372036854775807) all in
+          let parts = and_parts (not (begins_with is_xid_continue after) && nat_lt 0 (length digits)) (nat_le (digits_value radix digits) greatest_int) all in
           let front = and_parts (not (begins_with is_xid_continue after)) (nat_lt 0 (length digits)) parts.0 in
-          absurd (bad (ltb-true 0 (length digits) front.1, leb-true (digits_value radix digits) 9223372036854775807 parts.1))
+          absurd (bad (ltb-true 0 (length digits) front.1, leb-true (digits_value radix digits) greatest_int parts.1))
       | inr fails ↦ rw fails refl
     ]

@@ -11,6 +11,7 @@ use Rattle.std.proofs.lemmas.Bool.{cases_Bool, and_parts, or_cases, eqb-true, eq
 use Rattle.std.proofs.lemmas.Bool.Decides.{nat_tests}
 use Rattle.unicode_ident.specs.Ident.{is_xid_continue}
 use Rattle.unicode_ident.proofs.IdentLemmas.{is_xid_continue-ascii}
+use Rattle.bal_base.specs.Limits.{greatest_int}
 use Rattle.bal_base.specs.declared.token.TokenKind.TheVariants as kind
 use Rattle.bal_lexer.specs.declared.lexeme.Lexeme.{Lexeme}
 use Rattle.bal_lexer.specs.declared.lexeme.Lexeme.TheVariants.{LeftOut, Token}
@@ -38,9 +39,9 @@ stops test goes [] ends = refl
 stops test goes (c ∷ cs) ends = elim (cases_Bool (test c)) [ inl passes ↦ absurd (both_ways (is_xid_continue c) ends (goes c passes)) | inr fails ↦ fails ]
 
 -- an int literal with nothing of a word after it
-pub record IsInt (slice after : List ℕ) (n : ℕ) : Type 0 where
+pub record IsBoundedInt (slice after : List ℕ) (n : ℕ) : Type 0 where
   pub literal : IsIntLiteral slice n
-  pub small : n ≤ 9223372036854775807
+  pub small : n ≤ greatest_int
   pub ends : begins_with is_xid_continue after ≡ false
 
 some-digits : (test : ℕ → Bool) (ds : List ℕ) → AreDigits test ds → 0 < length ds
@@ -58,17 +59,17 @@ after_x-ends (c ∷ cs) ends =
       | inr other ↦ rw other refl
     ]
 
-hexadecimal-int : (digits after : List ℕ) (n : ℕ) → AreDigits is_ascii_hexdigit digits → n ≡ digits_value 16 digits → n ≤ 9223372036854775807 → begins_with is_xid_continue after ≡ false
+hexadecimal-int : (digits after : List ℕ) (n : ℕ) → AreDigits is_ascii_hexdigit digits → n ≡ digits_value 16 digits → n ≤ greatest_int → begins_with is_xid_continue after ≡ false
     → hexadecimal_at (digits ++ after) ≡ Some (Token (kind.Int (pos n)), after)
 hexadecimal-int digits after n are value small ends =
     let stop = stops is_ascii_hexdigit hex-continues after ends in
     let ran = run-append is_ascii_hexdigit digits after are.1 stop in
     let rest = after_run-append is_ascii_hexdigit digits after are.1 stop in
-    (λ i. int_at 16 (ran i) (rest i)) ∙ int_at-some 16 digits after ends (some-digits is_ascii_hexdigit digits are) (subst (λ m. m ≤ 9223372036854775807) value small)
+    (λ i. int_at 16 (ran i) (rest i)) ∙ int_at-some 16 digits after ends (some-digits is_ascii_hexdigit digits are) (subst (λ m. m ≤ greatest_int) value small)
     ∙ ap (λ m. Some (Token (kind.Int (pos m)), after)) (sym value)
 
 -- an int literal at the front is read
-literal_at-int : (slice after : List ℕ) (n : ℕ) → IsInt slice after n → literal_at (slice ++ after) ≡ Some (Token (kind.Int (pos n)), after)
+literal_at-int : (slice after : List ℕ) (n : ℕ) → IsBoundedInt slice after n → literal_at (slice ++ after) ≡ Some (Token (kind.Int (pos n)), after)
 literal_at-int slice after n int = go int.literal
   where
     go : IsIntLiteral slice n → literal_at (slice ++ after) ≡ Some (Token (kind.Int (pos n)), after)
@@ -87,7 +88,7 @@ literal_at-int slice after n int = go int.literal
         ap (λ s. literal_at (s ++ after)) is
         ∙ ap (λ b. cond b (zero_at (cs ++ after)) (int_at 10 (run is_ascii_digit (c ∷ (cs ++ after))) (after_run is_ascii_digit (c ∷ (cs ++ after))))) (ne_eqb c 48 first)
         ∙ (λ i. int_at 10 (ran i) (rest i))
-        ∙ int_at-some 10 (c ∷ cs) after int.ends (omega arith) (subst (λ m. m ≤ 9223372036854775807) value' int.small)
+        ∙ int_at-some 10 (c ∷ cs) after int.ends (omega arith) (subst (λ m. m ≤ greatest_int) value' int.small)
         ∙ ap (λ m. Some (Token (kind.Int (pos m)), after)) (sym value')
     go (inr (digits, inl is, are, value)) = ap (λ s. literal_at (s ++ after)) is ∙ hexadecimal-int digits after n are value int.small int.ends
     go (inr (digits, inr is, are, value)) = ap (λ s. literal_at (s ++ after)) is ∙ hexadecimal-int digits after n are value int.small int.ends
@@ -111,14 +112,14 @@ fraction-is (c ∷ d ∷ cs) rest h =
 
 -- what is read as an int is one
 int_at-is : (radix : ℕ) (digits after : List ℕ) (lexeme : Lexeme) (rest : List ℕ) → int_at radix digits after ≡ Some (lexeme, rest)
-    → (lexeme ≡ Token (kind.Int (pos (digits_value radix digits)))) × (rest ≡ after) × (0 < length digits) × (digits_value radix digits ≤ 9223372036854775807) × (begins_with is_xid_continue after ≡ false)
+    → (lexeme ≡ Token (kind.Int (pos (digits_value radix digits)))) × (rest ≡ after) × (0 < length digits) × (digits_value radix digits ≤ greatest_int) × (begins_with is_xid_continue after ≡ false)
 unfolding int_at
 int_at-is radix digits after lexeme rest h =
-    let tests = (not (begins_with is_xid_continue after) && nat_lt 0 (length digits)) && nat_le (digits_value radix digits) 9223372036854775807 in
+    let tests = (not (begins_with is_xid_continue after) && nat_lt 0 (length digits)) && nat_le (digits_value radix digits) greatest_int in
     let parts = cond_some tests (Token (kind.Int (pos (digits_value radix digits))), after) (lexeme, rest) h in
-    let both = and_parts (not (begins_with is_xid_continue after) && nat_lt 0 (length digits)) (nat_le (digits_value radix digits) 9223372036854775807) parts.0 in
+    let both = and_parts (not (begins_with is_xid_continue after) && nat_lt 0 (length digits)) (nat_le (digits_value radix digits) greatest_int) parts.0 in
     let front = and_parts (not (begins_with is_xid_continue after)) (nat_lt 0 (length digits)) both.0 in
-    (sym (ap (λ p. p.0) parts.1), sym (ap (λ p. p.1) parts.1), ltb-true 0 (length digits) front.1, leb-true (digits_value radix digits) 9223372036854775807 both.1, not-true (begins_with is_xid_continue after) front.0)
+    (sym (ap (λ p. p.0) parts.1), sym (ap (λ p. p.1) parts.1), ltb-true 0 (length digits) front.1, leb-true (digits_value radix digits) greatest_int both.1, not-true (begins_with is_xid_continue after) front.0)
 
 -- a literal that was read: its slice and its number
 pub record ReadsInt (text : List ℕ) (lexeme : Lexeme) (rest : List ℕ) : Type 0 where
@@ -126,7 +127,7 @@ pub record ReadsInt (text : List ℕ) (lexeme : Lexeme) (rest : List ℕ) : Type
   pub number : ℕ
   pub split : text ≡ slice ++ rest
   pub is : lexeme ≡ Token (kind.Int (pos number))
-  pub int : IsInt slice rest number
+  pub int : IsBoundedInt slice rest number
 
 nonempty : (ds : List ℕ) → 0 < length ds → ds ≡ [] → ⊥
 nonempty [] some e = absurd (omega arith)
@@ -203,7 +204,7 @@ pub same-length : (text xs ys as' bs : List ℕ) → text ≡ xs ++ as' → text
 same-length text xs ys as' bs p q e =
     omega (arith, ap length (sym p ∙ q), length-append xs as', length-append ys bs, ap length e)
 
-int-of : (text slice after : List ℕ) (n : ℕ) → text ≡ slice ++ after → IsIntLiteral slice n → n ≤ 9223372036854775807 → begins_with is_xid_continue after ≡ false → literal_at text ≡ Some (Token (kind.Int (pos n)), after)
+int-of : (text slice after : List ℕ) (n : ℕ) → text ≡ slice ++ after → IsIntLiteral slice n → n ≤ greatest_int → begins_with is_xid_continue after ≡ false → literal_at text ≡ Some (Token (kind.Int (pos n)), after)
 int-of text slice after n split literal small ends = ap literal_at split ∙ literal_at-int slice after n (record { literal = literal; small = small; ends = ends })
 
 pub first-same : (x y : ℕ) (xs ys : List ℕ) → x ∷ xs ≡ y ∷ ys → x ≡ y

@@ -6,7 +6,6 @@ use Rattle.std.proofs.lemmas.Bool.Decides.{nat_tests}
 use Rattle.unicode_ident.proofs.IdentLemmas.{is_xid_start-ascii}
 use Rattle.bal_base.specs.declared.token.TokenKind.TheVariants as kind
 use Rattle.bal_base.specs.declared.token.Sign.{Sign as SignOf}
-use Rattle.bal_base.specs.declared.token.Sign.TheVariants as sign
 use Rattle.bal_lexer.specs.Spellings.{sign_text}
 use Rattle.bal_lexer.specs.declared.lexeme.Lexeme.{Lexeme}
 use Rattle.bal_lexer.specs.declared.lexeme.Lexeme.TheVariants.{Token}
@@ -15,7 +14,7 @@ use Rattle.bal_lexer.specs.declared.lexeme.Start.TheVariants.{White, LeftOutMark
 use Rattle.bal_lexer.specs.Lexemes.{is_white, starts_word, is_left_out_mark}
 use Rattle.bal_lexer.specs.Firsts.{start_of, AtStart}
 use Rattle.bal_lexer.proofs.Ascii.{all_ascii}
-use Rattle.bal_lexer.proofs.Signs.{sign_ascii}
+use Rattle.bal_lexer.proofs.Signs.{sign_ascii, sign_length}
 
 -- the same of a character of ASCII, with no table
 abbrev pub ascii_start : ℕ → Start
@@ -64,112 +63,13 @@ start-mark c mark = tests-mark (is_white c) (is_left_out_mark c) (is_ascii_digit
 pub start-digit : (c : ℕ) → is_ascii_digit c ≡ true → start_of c ≡ Digit
 start-digit c digit = tests-digit (is_white c) (is_left_out_mark c) (is_ascii_digit c) (c == 34) (c == 35) (starts_word c) (grind (arith, nat_tests)) (grind (arith, nat_tests)) digit
 
--- what a sign begins with: `_` may begin a word, and no other sign may
-abbrev pub sign_start : SignOf → Start
-sign_start sign.Underscore = Word
-sign_start _ = Sign
-
 abbrev pub head : List ℕ → ℕ
 head [] = 0
 head (c ∷ cs) = c
 
-start-sign : (g : SignOf) → ascii_start (head (sign_text g)) ≡ sign_start g
-start-sign sign.OpenBraceBar = refl
-start-sign sign.CloseBraceBar = refl
-start-sign sign.OpenBrace = refl
-start-sign sign.CloseBrace = refl
-start-sign sign.OpenParen = refl
-start-sign sign.CloseParen = refl
-start-sign sign.OpenBracket = refl
-start-sign sign.CloseBracket = refl
-start-sign sign.Semicolon = refl
-start-sign sign.Comma = refl
-start-sign sign.Colon = refl
-start-sign sign.Dot = refl
-start-sign sign.QuestionDot = refl
-start-sign sign.Elvis = refl
-start-sign sign.Question = refl
-start-sign sign.Ellipsis = refl
-start-sign sign.DotDotLess = refl
-start-sign sign.DoubleArrow = refl
-start-sign sign.Arrow = refl
-start-sign sign.LeftArrow = refl
-start-sign sign.FatArrow = refl
-start-sign sign.TripleEqual = refl
-start-sign sign.NotTripleEqual = refl
-start-sign sign.DoubleEqual = refl
-start-sign sign.NotEqual = refl
-start-sign sign.Equal = refl
-start-sign sign.LessEqual = refl
-start-sign sign.GreaterEqual = refl
-start-sign sign.Less = refl
-start-sign sign.Greater = refl
-start-sign sign.DoubleAmpersand = refl
-start-sign sign.DoubleBar = refl
-start-sign sign.Ampersand = refl
-start-sign sign.Bar = refl
-start-sign sign.Not = refl
-start-sign sign.Plus = refl
-start-sign sign.Minus = refl
-start-sign sign.Star = refl
-start-sign sign.Slash = refl
-start-sign sign.Percent = refl
-start-sign sign.PlusEqual = refl
-start-sign sign.MinusEqual = refl
-start-sign sign.StarEqual = refl
-start-sign sign.SlashEqual = refl
-start-sign sign.Underscore = refl
-
 sign-some : (xs : List ℕ) → 0 < length xs → (c : ℕ) × (cs : List ℕ) × (xs ≡ c ∷ cs)
 sign-some [] some = absurd (omega arith)
 sign-some (c ∷ cs) some = (c, cs, refl)
-
-sign_length : (g : SignOf) → nat_lt 0 (length (sign_text g)) ≡ true
-sign_length sign.OpenBraceBar = refl
-sign_length sign.CloseBraceBar = refl
-sign_length sign.OpenBrace = refl
-sign_length sign.CloseBrace = refl
-sign_length sign.OpenParen = refl
-sign_length sign.CloseParen = refl
-sign_length sign.OpenBracket = refl
-sign_length sign.CloseBracket = refl
-sign_length sign.Semicolon = refl
-sign_length sign.Comma = refl
-sign_length sign.Colon = refl
-sign_length sign.Dot = refl
-sign_length sign.QuestionDot = refl
-sign_length sign.Elvis = refl
-sign_length sign.Question = refl
-sign_length sign.Ellipsis = refl
-sign_length sign.DotDotLess = refl
-sign_length sign.DoubleArrow = refl
-sign_length sign.Arrow = refl
-sign_length sign.LeftArrow = refl
-sign_length sign.FatArrow = refl
-sign_length sign.TripleEqual = refl
-sign_length sign.NotTripleEqual = refl
-sign_length sign.DoubleEqual = refl
-sign_length sign.NotEqual = refl
-sign_length sign.Equal = refl
-sign_length sign.LessEqual = refl
-sign_length sign.GreaterEqual = refl
-sign_length sign.Less = refl
-sign_length sign.Greater = refl
-sign_length sign.DoubleAmpersand = refl
-sign_length sign.DoubleBar = refl
-sign_length sign.Ampersand = refl
-sign_length sign.Bar = refl
-sign_length sign.Not = refl
-sign_length sign.Plus = refl
-sign_length sign.Minus = refl
-sign_length sign.Star = refl
-sign_length sign.Slash = refl
-sign_length sign.Percent = refl
-sign_length sign.PlusEqual = refl
-sign_length sign.MinusEqual = refl
-sign_length sign.StarEqual = refl
-sign_length sign.SlashEqual = refl
-sign_length sign.Underscore = refl
 
 head-ascii : (xs : List ℕ) → all_ascii xs ≡ true → 0 < length xs → head xs < 128
 head-ascii [] ascii some = absurd (omega arith)
@@ -185,9 +85,9 @@ pub record Heads (slice after : List ℕ) (lexeme : Lexeme) : Type 0 where
 pub by_start : (start : Start) (slice after : List ℕ) (lexeme : Lexeme) (c : ℕ) (cs : List ℕ) → slice ≡ c ∷ cs → start_of c ≡ start → AtStart start slice after lexeme → Heads slice after lexeme
 by_start start slice after lexeme c cs is begins stands = record { first = c; others = cs; is = is; stands = subst (λ k. AtStart k slice after lexeme) (sym begins) stands }
 
-pub heads-sign : (g : SignOf) (start : Start) → sign_start g ≡ start → (slice after : List ℕ) → slice ≡ sign_text g → AtStart start slice after (Token (kind.Sign g)) → Heads slice after (Token (kind.Sign g))
+pub heads-sign : (g : SignOf) (start : Start) → ascii_start (head (sign_text g)) ≡ start → (slice after : List ℕ) → slice ≡ sign_text g → AtStart start slice after (Token (kind.Sign g)) → Heads slice after (Token (kind.Sign g))
 heads-sign g start begins slice after is stands =
     let some = ltb-true 0 (length (sign_text g)) (sign_length g) in
     let (c, cs, split) = sign-some (sign_text g) some in
     let small : c < 128 = subst (λ d. d < 128) (ap head split) (head-ascii (sign_text g) (sign_ascii g) some) in
-    by_start start slice after (Token (kind.Sign g)) c cs (is ∙ split) (start-ascii c small ∙ ap ascii_start (sym (ap head split)) ∙ start-sign g ∙ begins) stands
+    by_start start slice after (Token (kind.Sign g)) c cs (is ∙ split) (start-ascii c small ∙ ap ascii_start (sym (ap head split)) ∙ begins) stands

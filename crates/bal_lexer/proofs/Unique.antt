@@ -13,6 +13,7 @@ use Rattle.bal_base.specs.declared.token.TokenKind.TheVariants as kind
 use Rattle.bal_base.specs.declared.token.Keyword.{Keyword}
 use Rattle.bal_base.specs.declared.token.Sign.{Sign as SignOf}
 use Rattle.bal_base.specs.declared.token.Sign.TheVariants as sign
+use Rattle.bal_base.proofs.Tables.{list_all-at}
 use Rattle.bal_lexer.specs.Spellings.{keyword_text, sign_text, left_out_words}
 use Rattle.bal_lexer.specs.declared.keyword.TheConstants.{KEYWORDS}
 use Rattle.bal_lexer.specs.declared.lexeme.Lexeme.{Lexeme}
@@ -24,8 +25,8 @@ use Rattle.bal_lexer.specs.Words.{Means}
 use Rattle.bal_lexer.specs.Runs.{after_run}
 use Rattle.bal_lexer.specs.Lexes.{Begins}
 use Rattle.bal_lexer.specs.Firsts.{start_of, AtStart}
-use Rattle.bal_lexer.proofs.Finds.{list_all-at, find-some}
-use Rattle.bal_lexer.proofs.Keywords.{keyword-not_left_out, keyword-no_sign, find_written}
+use Rattle.bal_lexer.proofs.Finds.{find-some}
+use Rattle.bal_lexer.proofs.Keywords.{keyword-not_left_out, keyword-no_sign, find-keyword}
 use Rattle.bal_lexer.proofs.Signs.{no_comment, sign_text-same}
 use Rattle.bal_lexer.proofs.WordKinds.{contains-any}
 use Rattle.bal_lexer.proofs.Runs.{after_run-append}
@@ -61,26 +62,26 @@ bytes_eq-refl xs = (bytes_eq-Decides xs xs).1 refl
 bytes_eq-apart : (xs ys : List ℕ) → xs ≢ ys → bytes_eq xs ys ≡ false
 bytes_eq-apart xs ys apart = false_from_ne_true (bytes_eq xs ys) (λ e. apart ((bytes_eq-Decides xs ys).0 e))
 
-by_parts : (underscore left : Bool) (found : Option Keyword) (word : List ℕ) (lexeme : Lexeme)
+meaning-by_tests : (underscore left : Bool) (found : Option Keyword) (word : List ℕ) (lexeme : Lexeme)
     → bytes_eq word (95 ∷ []) ≡ underscore → list_any (λ w. bytes_eq w word) left_out_words ≡ left → keyword_here word ≡ found
     → cond underscore (Token (kind.Sign sign.Underscore)) (cond left LeftOut (keyword_meaning found word)) ≡ lexeme → meaning word ≡ lexeme
-by_parts underscore left found word lexeme a b c e = (λ i. cond (a i) (Token (kind.Sign sign.Underscore)) (cond (b i) LeftOut (keyword_meaning (c i) word))) ∙ e
+meaning-by_tests underscore left found word lexeme a b c e = (λ i. cond (a i) (Token (kind.Sign sign.Underscore)) (cond (b i) LeftOut (keyword_meaning (c i) word))) ∙ e
 
 means-meaning : (word : List ℕ) (lexeme : Lexeme) → Means word lexeme → meaning word ≡ lexeme
 means-meaning word Gap means = absurd means
 means-meaning word LeftOut listed =
-    by_parts false true (keyword_here word) word LeftOut (not-true (bytes_eq word (95 ∷ [])) (list_all-at (λ w. not (bytes_eq w (95 ∷ []))) left_out_words word left_out_no_sign listed)) (any-contains (λ w. bytes_eq w word) left_out_words word listed (bytes_eq-refl word)) refl refl
+    meaning-by_tests false true (keyword_here word) word LeftOut (not-true (bytes_eq word (95 ∷ [])) (list_all-at (λ w. not (bytes_eq w (95 ∷ []))) left_out_words word left_out_no_sign listed)) (any-contains (λ w. bytes_eq w word) left_out_words word listed (bytes_eq-refl word)) refl refl
 means-meaning word (Token (kind.Word name)) (free, same) = go (keyword_here word) refl
   where
     go : (found : Option Keyword) → keyword_here word ≡ found → meaning word ≡ Token (kind.Word name)
     go (Some k) e = absurd (free.no_keyword k (sym ((bytes_eq-Decides (keyword_text k) word).0 (find-some (λ h. bytes_eq (keyword_text h) word) KEYWORDS k e))))
     go None e =
-        by_parts false false None word (Token (kind.Word name)) (bytes_eq-apart word (95 ∷ []) free.no_sign) (false_from_ne_true (list_any (λ w. bytes_eq w word) left_out_words) (λ any. free.not_left_out (contains-any word left_out_words any))) e (ap (λ n. Token (kind.Word n)) (sym same))
+        meaning-by_tests false false None word (Token (kind.Word name)) (bytes_eq-apart word (95 ∷ []) free.no_sign) (false_from_ne_true (list_any (λ w. bytes_eq w word) left_out_words) (λ any. free.not_left_out (contains-any word left_out_words any))) e (ap (λ n. Token (kind.Word n)) (sym same))
 means-meaning word (Token (kind.Keyword k)) is =
-    by_parts false false (Some k) word (Token (kind.Keyword k)) (ap (λ w. bytes_eq w (95 ∷ [])) is ∙ keyword-no_sign k) (ap (λ v. list_any (λ w. bytes_eq w v) left_out_words) is ∙ keyword-not_left_out k) (here k word is) (known k word)
+    meaning-by_tests false false (Some k) word (Token (kind.Keyword k)) (ap (λ w. bytes_eq w (95 ∷ [])) is ∙ keyword-no_sign k) (ap (λ v. list_any (λ w. bytes_eq w v) left_out_words) is ∙ keyword-not_left_out k) (here k word is) (known k word)
   where
     here : (k : Keyword) (word : List ℕ) → word ≡ keyword_text k → keyword_here word ≡ Some k
-    here k word is = ap (λ v. find (λ h. bytes_eq (keyword_text h) v) KEYWORDS) is ∙ find_written k
+    here k word is = ap (λ v. find (λ h. bytes_eq (keyword_text h) v) KEYWORDS) is ∙ find-keyword k
 
     known : (k : Keyword) (word : List ℕ) → keyword_meaning (Some k) word ≡ Token (kind.Keyword k)
     known k word = refl
@@ -88,7 +89,7 @@ means-meaning word (Token (kind.Int i)) means = absurd means
 means-meaning word (Token (kind.Str text)) means = absurd means
 means-meaning word (Token (kind.Sign s)) (is, underscore) =
     let text : word ≡ 95 ∷ [] = is ∙ ap sign_text underscore in
-    by_parts true (list_any (λ w. bytes_eq w word) left_out_words) (keyword_here word) word (Token (kind.Sign s)) (ap (λ w. bytes_eq w (95 ∷ [])) text) refl refl (ap (λ g. Token (kind.Sign g)) (sym underscore))
+    meaning-by_tests true (list_any (λ w. bytes_eq w word) left_out_words) (keyword_here word) word (Token (kind.Sign s)) (ap (λ w. bytes_eq w (95 ∷ [])) text) refl refl (ap (λ g. Token (kind.Sign g)) (sym underscore))
 
 list_all-back : (p : ℕ → Bool) (xs ys : List ℕ) → list_all p (xs ++ ys) ≡ true → list_all p ys ≡ true
 list_all-back p [] ys all = all

@@ -5,10 +5,11 @@ use Rattle.std.specs.List.{list_any, list_all}
 use Rattle.std.proofs.lemmas.Slice.Eq.{bytes_eq-Decides}
 use Rattle.std.proofs.lemmas.Bool.{both_ways, or_cases, or_parts}
 use Rattle.bal_base.specs.declared.token.Keyword.{Keyword}
+use Rattle.bal_base.proofs.Tables.{list_all-at}
 use Rattle.bal_lexer.specs.Spellings.{keyword_text, left_out_words}
 use Rattle.bal_lexer.specs.declared.keyword.TheConstants.{KEYWORDS}
 use Rattle.bal_lexer.proofs.Ascii.{all_ascii, chars-ascii, bytes-ascii}
-use Rattle.bal_lexer.proofs.Finds.{find-none, find-some, list_all-at}
+use Rattle.bal_lexer.proofs.Finds.{find-none, find-some}
 use Rattle.bal_lexer.proofs.Keywords.{has_keyword, keyword_ascii}
 
 pub keyword-some : (s : List ℕ) (k : Keyword) → find (λ h. bytes_eq (keyword_text h) s) KEYWORDS ≡ Some k → chars s ≡ keyword_text k

@@ -3,6 +3,7 @@ use Rattle.std.specs.Prelude.{◌≡◌, ℕ, ◌≤◌, Bool, false, true, not,
 use Rattle.std.specs.List.{list_all}
 use Rattle.std.specs.Char.{is_ascii_digit}
 use Rattle.unicode_ident.specs.Ident.{is_xid_continue}
+use Rattle.bal_base.specs.Limits.{greatest_int}
 use Rattle.bal_base.specs.declared.token.TokenKind.TheVariants as kind
 use Rattle.bal_base.specs.declared.token.Sign.{Sign as SignOf}
 use Rattle.bal_lexer.specs.Spellings.{sign_text}
@@ -34,7 +35,7 @@ AtStart White slice after lexeme = (lexeme ≡ Gap) × IsWhite slice
 AtStart LeftOutMark slice after lexeme = (lexeme ≡ LeftOut) × IsLeftOutMark slice
 AtStart Digit slice after lexeme =
     ((lexeme ≡ LeftOut) × IsFraction slice)
-    ⊎ ((n : ℕ) × (lexeme ≡ Token (kind.Int (pos n))) × IsIntLiteral slice n × (n ≤ 9223372036854775807) × (begins_with is_xid_continue after ≡ false))
+    ⊎ ((n : ℕ) × (lexeme ≡ Token (kind.Int (pos n))) × IsIntLiteral slice n × (n ≤ greatest_int) × (begins_with is_xid_continue after ≡ false))
 AtStart Quote slice after lexeme = (text : List ℕ) × (lexeme ≡ Token (kind.Str text)) × IsStringLiteral slice text
 AtStart Hash slice after lexeme = (lexeme ≡ Gap) × ((body : List ℕ) × (slice ≡ 35 ∷ body) × (list_all in_line body ≡ true))
 AtStart Word slice after lexeme = IsWord slice × Means slice lexeme

@@ -5,6 +5,7 @@ use Rattle.std.specs.List.{list_all}
 use Rattle.std.specs.Char.{IsScalar, is_ascii_digit, is_ascii_hexdigit}
 use Rattle.std.specs.Str.Parse.{digits_value}
 use Rattle.unicode_ident.specs.Ident.{is_xid_start, is_xid_continue}
+use Rattle.bal_base.specs.Limits.{greatest_int}
 use Rattle.bal_base.specs.declared.token.TokenKind.TheVariants as kind
 use Rattle.bal_base.specs.declared.token.Keyword.{Keyword}
 use Rattle.bal_base.specs.declared.token.Sign.TheVariants as sign
@@ -99,6 +100,6 @@ IsLexeme slice after Gap = IsWhite slice ⊎ IsComment slice
 IsLexeme slice after LeftOut = (IsWord slice × Contains left_out_words slice) ⊎ IsFraction slice ⊎ IsLeftOutMark slice
 IsLexeme slice after (Token (kind.Word name)) = IsWord slice × IsFree slice × (name ≡ slice)
 IsLexeme slice after (Token (kind.Keyword k)) = IsWord slice × (slice ≡ keyword_text k)
-IsLexeme slice after (Token (kind.Int i)) = (n : ℕ) × IsIntLiteral slice n × (n ≤ 9223372036854775807) × (i ≡ pos n) × (begins_with is_xid_continue after ≡ false)
+IsLexeme slice after (Token (kind.Int i)) = (n : ℕ) × IsIntLiteral slice n × (n ≤ greatest_int) × (i ≡ pos n) × (begins_with is_xid_continue after ≡ false)
 IsLexeme slice after (Token (kind.Str text)) = IsStringLiteral slice text
 IsLexeme slice after (Token (kind.Sign s)) = slice ≡ sign_text s

@@ -1,9 +1,11 @@
--- What stands where a digit does.
+-- What stands where a digit does, as `number` reads it. The meaning stands in `Lexemes` (IsIntLiteral, IsFraction):
+-- proofs/NumberFirst shows that this is the longest of those.
 use Rattle.std.specs.Prelude.{ℕ, not, ◌&&◌, ◌||◌, ◌==◌, nat_le, nat_lt, if◌then◌else◌, pos, List, [], ◌∷◌, length, Option, Some, None}
 use Rattle.std.specs.Option.{option_map_or}
 use Rattle.std.specs.Char.{is_ascii_digit, is_ascii_hexdigit}
 use Rattle.std.specs.Str.Parse.{digits_value}
 use Rattle.unicode_ident.specs.Ident.{is_xid_continue}
+use Rattle.bal_base.specs.Limits.{greatest_int}
 use Rattle.bal_base.specs.declared.token.TokenKind.TheVariants as kind
 use Rattle.bal_lexer.specs.declared.lexeme.Lexeme.{Lexeme}
 use Rattle.bal_lexer.specs.declared.lexeme.Lexeme.TheVariants.{LeftOut, Token}
@@ -31,7 +33,7 @@ after_x (c ∷ rest) = if (c == 120) || (c == 88) then Some rest else None
 -- the int that the digits write, if it is one and the literal ends there
 unfoldable pub int_at : ℕ → List ℕ → List ℕ → Option (Lexeme × List ℕ)
 int_at radix digits after =
-    if (not (begins_with is_xid_continue after) && nat_lt 0 (length digits)) && nat_le (digits_value radix digits) 9223372036854775807
+    if (not (begins_with is_xid_continue after) && nat_lt 0 (length digits)) && nat_le (digits_value radix digits) greatest_int
     then Some (Token (kind.Int (pos (digits_value radix digits))), after) else None
 
 -- the same of the hexadecimal digits that the text begins with

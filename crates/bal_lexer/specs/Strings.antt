@@ -1,4 +1,5 @@
--- The pieces of a string literal, read from the left.
+-- The pieces of a string literal, as `string` reads them from the left. The meaning stands in `Lexemes`
+-- (IsStringLiteral, StandsFor): proofs/Pieces and proofs/StringFirst show that this is the same.
 use Rattle.std.specs.Prelude.{◌≡◌, ℕ, ◌&&◌, ◌||◌, ◌==◌, nat_le, nat_lt, if◌then◌else◌, List, [], ◌∷◌, length, Option, Some, None, option_map, option_and_then}
 use Rattle.std.specs.Char.{is_ascii_hexdigit}
 use Rattle.std.specs.Str.Parse.{digits_value}

@@ -1,4 +1,5 @@
--- What a word is.
+-- What a word is, as `word` reads it. The meaning stands in `Lexemes` and `Spellings`: a lemma for each shows that
+-- this is the same.
 use Rattle.std.specs.Prelude.{◌≡◌, ℕ, List, Contains}
 use Rattle.bal_base.specs.declared.token.TokenKind.TheVariants as kind
 use Rattle.bal_base.specs.declared.token.Sign.TheVariants as sign
