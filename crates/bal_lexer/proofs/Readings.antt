@@ -9,11 +9,9 @@ use Rattle.bal_base.specs.declared.token.TokenKind.{TokenKind}
 use Rattle.bal_base.specs.declared.token.Token.{Token as TokenOf}
 use Rattle.bal_base.specs.declared.fault.FaultCode.{FaultCode}
 use Rattle.bal_base.specs.declared.fault.Fault.{Fault}
-use Rattle.bal_base.specs.declared.stop.Stop.{Stop}
-use Rattle.bal_base.specs.declared.stop.Stop.TheVariants as stop
 use Rattle.bal_lexer.specs.declared.lexeme.Lexeme.{Lexeme}
 use Rattle.bal_lexer.specs.declared.lexeme.Lexeme.TheVariants.{Gap, LeftOut, Token}
-use Rattle.bal_lexer.specs.Lexes.{byte_len, Begins, NothingBegins, token_at, LexesFrom, ends, passes, takes, Lexes, RefusesFrom, left_out, bad_token, past_gap, past_token, Refuses, IsFaultAt, IsRefusal, IfFault}
+use Rattle.bal_lexer.specs.Lexes.{byte_len, Begins, NothingBegins, token_at, LexesFrom, ends, passes, takes, Lexes, RefusesFrom, left_out, bad_token, past_gap, past_token, Refuses, IsFaultAt, IsRefusal}
 use Rattle.bal_lexer.specs.Firsts.{First}
 use Rattle.bal_lexer.proofs.Heads.{heads}
 use Rattle.bal_lexer.proofs.Unique.{begins-same}
@@ -146,18 +144,12 @@ pub chars-none : (s : List ℕ) → (length s == 0) ≡ true → chars s ≡ []
 chars-none s empty = ap chars (empty-length s (eqb-true (length s) 0 empty)) ∙ chars-nil
 
 -- an answer that a text is refused is right, and no other is
-pub answer-right : (text : List ℕ) (file : ℕ) (c : FaultCode) (at : ℕ) (stop : Stop Fault) → Refuses text c at → IfFault stop (IsFaultAt file c at) → IfFault stop (IsRefusal text file)
-answer-right text file c at stop.Memory refused answer = tt
-answer-right text file c at (stop.Fault f) refused answer = (at, subst (λ d. Refuses text d at) (sym answer.0) refused, (refl, answer.1, answer.2))
+pub answer-right : (text : List ℕ) (file : ℕ) (c : FaultCode) (at : ℕ) (fault : Fault) → Refuses text c at → IsFaultAt file c at fault → IsRefusal text file fault
+answer-right text file c at fault refused answer = (at, subst (λ d. Refuses text d at) (sym answer.0) refused, (refl, answer.1, answer.2))
 
-pub answer-no_tokens : (text : List ℕ) (c : FaultCode) (at : ℕ) (stop : Stop Fault) → Refuses text c at → (ts : List TokenOf) → Lexes text ts → IfFault stop (λ _. ⊥)
-answer-no_tokens text c at stop.Memory refused ts lexes = tt
-answer-no_tokens text c at (stop.Fault f) refused ts lexes = lexes-no_refusal lexes refused
-
-pub answer-only : (text : List ℕ) (file : ℕ) (c : FaultCode) (at : ℕ) (stop : Stop Fault) → Refuses text c at → IfFault stop (IsFaultAt file c at)
-    → (d : FaultCode) (place : ℕ) → Refuses text d place → IfFault stop (IsFaultAt file d place)
-answer-only text file c at stop.Memory refused answer d place other = tt
-answer-only text file c at (stop.Fault f) refused answer d place other =
+pub answer-only : (text : List ℕ) (file : ℕ) (c : FaultCode) (at : ℕ) (fault : Fault) → Refuses text c at → IsFaultAt file c at fault
+    → (d : FaultCode) (place : ℕ) → Refuses text d place → IsFaultAt file d place fault
+answer-only text file c at fault refused answer d place other =
     let same = refuses-same refused other in
     (answer.0 ∙ same.0, answer.1 ∙ ap (λ p. Some (record { file = file; at = p })) same.1, answer.2)
 

@@ -10,11 +10,9 @@ use Rattle.bal_base.specs.declared.token.Token.{Token as TokenOf}
 use Rattle.bal_base.specs.declared.fault.Fault.{Fault}
 use Rattle.bal_base.specs.declared.fault.FaultCode.{FaultCode}
 use Rattle.bal_base.specs.declared.fault.FaultCode.TheVariants as code
-use Rattle.bal_base.specs.declared.stop.Stop.{Stop}
-use Rattle.bal_base.specs.declared.stop.Stop.TheVariants as stop
 use Rattle.bal_lexer.specs.declared.lexeme.Lexeme.{Lexeme}
 use Rattle.bal_lexer.specs.declared.lexeme.Lexeme.TheVariants.{Gap, LeftOut, Token}
-use Rattle.bal_lexer.specs.Lexes.{byte_len, Begins, LexesFrom, ends, passes, takes, Lexes, AreSpans, RefusesFrom, left_out, bad_token, past_gap, past_token, IsRefusal, IsTokenFault, StandsIn, IfFault}
+use Rattle.bal_lexer.specs.Lexes.{byte_len, Begins, LexesFrom, ends, passes, takes, Lexes, AreSpans, RefusesFrom, left_out, bad_token, past_gap, past_token, IsRefusal, IsTokenFault, StandsIn}
 use Rattle.bal_lexer.proofs.Heads.{heads}
 
 scalars-back : (xs ys : List ℕ) → all_scalars (xs ++ ys) ≡ true → all_scalars ys ≡ true
@@ -78,11 +76,9 @@ codes-from (bad_token at rest some none) = inl refl
 codes-from (past_gap at rest slice after c p b more) = codes-from more
 codes-from (past_token at rest slice after kind c p b more) = codes-from more
 
-pub refusal-place : (bytes : List ℕ) (file : ℕ) (s : Stop Fault) → IsUtf8 bytes → IfFault s (IsRefusal (chars bytes) file) → IfFault s (StandsIn bytes)
-refusal-place bytes file stop.Memory text refused = tt
-refusal-place bytes file (stop.Fault f) text refused =
+pub refusal-place : (bytes : List ℕ) (file : ℕ) (fault : Fault) → IsUtf8 bytes → IsRefusal (chars bytes) file fault → StandsIn bytes fault
+refusal-place bytes file fault text refused =
     subst (λ o. IsSomeAnd o (λ p. (p.at < length bytes) × IsCharBoundary bytes p.at)) (sym refused.2.1) (place-from refused.1 bytes (whole bytes text))
 
-pub refusal-codes : (text : List ℕ) (file : ℕ) (s : Stop Fault) → IfFault s (IsRefusal text file) → IfFault s IsTokenFault
-refusal-codes text file stop.Memory refused = tt
-refusal-codes text file (stop.Fault f) refused = codes-from refused.1
+pub refusal-codes : (text : List ℕ) (file : ℕ) (fault : Fault) → IsRefusal text file fault → IsTokenFault fault
+refusal-codes text file fault refused = codes-from refused.1

@@ -1,13 +1,11 @@
 -- A whole text as tokens, and where a text is refused.
-use Rattle.std.specs.Prelude.{◌≡◌, ◌≢◌, ℕ, ◌+◌, ◌<◌, ◌≤◌, List, [], ◌∷◌, ◌++◌, length, encode_utf8_all, IsCharBoundary, ◌⊎◌, Some, IsSomeAnd, ⊤}
+use Rattle.std.specs.Prelude.{◌≡◌, ◌≢◌, ℕ, ◌+◌, ◌<◌, ◌≤◌, List, [], ◌∷◌, ◌++◌, length, encode_utf8_all, IsCharBoundary, ◌⊎◌, Some, IsSomeAnd}
 use Rattle.bal_base.specs.declared.token.TokenKind.{TokenKind}
 use Rattle.bal_base.specs.declared.token.Token.{Token as TokenOf}
 use Rattle.bal_base.specs.declared.fault.FaultCode.{FaultCode}
 use Rattle.bal_base.specs.declared.fault.FaultCode.TheVariants as code
 use Rattle.bal_base.specs.declared.fault.Fault.{Fault}
 use Rattle.bal_base.specs.declared.fault.Kept.TheVariants as kept
-use Rattle.bal_base.specs.declared.stop.Stop.{Stop}
-use Rattle.bal_base.specs.declared.stop.Stop.TheVariants as stop
 use Rattle.bal_lexer.specs.declared.lexeme.Lexeme.{Lexeme}
 use Rattle.bal_lexer.specs.declared.lexeme.Lexeme.TheVariants.{Gap, LeftOut, Token}
 use Rattle.bal_lexer.specs.Lexemes.{IsLexeme}
@@ -84,8 +82,3 @@ IsTokenFault fault = (fault.code ≡ code.BadToken) ⊎ (fault.code ≡ code.Lef
 -- the fault has a place in the text, where a character begins
 abbrev pub StandsIn : List ℕ → Fault → Type 0
 StandsIn bytes fault = IsSomeAnd fault.at (λ place. (place.at < length bytes) × IsCharBoundary bytes place.at)
-
--- a call that stopped did so for want of memory, or with a fault of which P holds
-abbrev pub IfFault : {F : Type 0} → Stop F → (F → Type 0) → Type 0
-IfFault stop.Memory P = ⊤
-IfFault (stop.Fault f) P = P f

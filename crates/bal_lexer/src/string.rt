@@ -25,7 +25,7 @@ pub(crate) fn string(alloc: Global, s: &str) -> Result<Option<(Text, &str)>, Mem
     match after_char(rest, '"') {
         None => Ok(None),
         Some(after) => {
-            let text = Text::new(alloc, value.as_str())?;
+            let text = Text::from_string(alloc, value)?;
             Ok(Some((text, after)))
         }
     }

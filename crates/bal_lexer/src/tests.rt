@@ -1,7 +1,7 @@
 use crate::keyword::keyword_text;
 use crate::lex;
 use crate::sign::sign_text;
-use bal_base::{Fault, Stop, Token, TokenKind};
+use bal_base::{Fault, MOST_FILE_BYTES, Stop, Token, TokenKind};
 use std::alloc::{AllocError, Global};
 use std::process::Abort;
 use std::test::Fail;
@@ -247,4 +247,40 @@ fn compare(rt: &impl Abort, alloc: Global, cases: &[(&str, &str)]) -> Result<(),
 #[test]
 fn texts_become_tokens(rt: HostRuntime) -> Result<(), Fail> {
     compare(&rt, rt.alloc(), &CASES)
+}
+
+/// How many tokens the text has, if it has tokens.
+fn number_of_tokens(alloc: Global, text: &str) -> Option<usize> {
+    if text.len() > MOST_FILE_BYTES {
+        return None;
+    }
+    match lex(alloc, 0, text) {
+        Ok(tokens) => Some(tokens.len()),
+        Err(_) => None,
+    }
+}
+
+/// The piece as often as it takes to fill the longest file.
+fn filled(alloc: Global, piece: &str) -> Result<String, AllocError> {
+    let mut text = String::with_capacity(alloc, MOST_FILE_BYTES)?;
+    for _ in 0..MOST_FILE_BYTES / 16 {
+        text.push_str(piece)?;
+    }
+    Ok(text)
+}
+
+#[test]
+fn the_longest_file_is_read_whole(rt: HostRuntime) -> Result<(), Fail> {
+    let alloc = rt.alloc();
+    let four_tokens = filled(alloc, "ab 12 \"s\" += //\n")?;
+    assert_eq!(rt; four_tokens.len(), 1_048_576);
+    assert_eq!(rt;
+        number_of_tokens(alloc, four_tokens.as_str()),
+        Some(262_144)
+    );
+    let one_word = filled(alloc, "sixteen_letters_")?;
+    assert_eq!(rt; number_of_tokens(alloc, one_word.as_str()), Some(1));
+    let signs = filled(alloc, "({[;,.?]})<|>!&%")?;
+    assert_eq!(rt; number_of_tokens(alloc, signs.as_str()), Some(1_048_576));
+    Ok(())
 }

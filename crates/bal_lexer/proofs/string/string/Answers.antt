@@ -33,6 +33,6 @@ returns-in-None c =
 
 pub returns : goal.returns
 returns c =
-    let value : c.in_ok-text-in-Some-after_char.text ≡ chars (string_bytes c.loop-c.value) = c.in_ok-text-in-Some-after_char.ensures ∙ ap chars c.as_str.ensures.value in
+    let value : c.in_ok-text-in-Some-after_char.text ≡ chars (string_bytes c.loop-c.value) = c.in_ok-text-in-Some-after_char.ensures in
     subst (λ v. Closes (chars c.args.s.now) v (chars c.in-Some-after_char.after.now)) (sym value)
     (has_read-all (chars c.args.s.now) (chars (string_bytes c.loop-c.value)) (chars c.loop-c.rest.now) (chars c.in-Some-after_char.after.now) c.loop-c.invariant.1 (sym c.in-Some-after_char.ensures))
