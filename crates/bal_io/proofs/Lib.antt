@@ -1,2 +1,5 @@
-pub mod Fronts
+pub mod LineReads
+pub mod LineTakes
 pub mod Lines
+pub mod Reading
+pub mod Writing

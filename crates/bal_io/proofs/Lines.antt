@@ -5,8 +5,12 @@ use Rattle.std.proofs.lemmas.List.Sums.{prefix_len-le-length}
 use Rattle.std.proofs.lemmas.List.{length-take, take_all}
 use Rattle.std.proofs.lemmas.Bool.{ltb-true, ltb-false}
 use Rattle.bal_io.specs.Content.{is_line_feed}
-use Rattle.bal_io.specs.Pieces.{IsPiece}
-use Rattle.bal_io.specs.declared.piece.End.TheVariants.{LineFeed, Full, AllTaken}
+use Rattle.bal_io.specs.Fronts.{IsLineFront}
+use Rattle.bal_io.specs.declared.fronts.Extent.TheVariants.{LineFeed, Full, AllTaken}
+
+-- how many bytes stand before the first line feed
+abbrev pub before_feed : List ℕ → ℕ
+before_feed bytes = position_or_len is_line_feed bytes
 
 prefix_len-take : {X : Type 0} (p : X → Bool) (n : ℕ) (xs : List X) → prefix_len p (take n xs) ≡ min n (prefix_len p xs)
 prefix_len-take p zero xs = omega arith
@@ -48,8 +52,8 @@ pub position_none : {X : Type 0} (p : X → Bool) (xs : List X) → position p x
 position_none p xs h =
     ltb-false (position_or_len p xs) (length xs) (not_found (ltb (position_or_len p xs) (length xs)) (position_or_len p xs) h)
 
-pub IsPiece-line_feed : (bytes : List ℕ) (max at : ℕ) → position is_line_feed (take (max + 1) bytes) ≡ Some at → IsPiece max (take at bytes) LineFeed bytes
-IsPiece-line_feed bytes max at h =
+pub IsLineFront-line_feed : (bytes : List ℕ) (max at : ℕ) → position is_line_feed (take (max + 1) bytes) ≡ Some at → IsLineFront max (take at bytes) LineFeed bytes
+IsLineFront-line_feed bytes max at h =
     let here = position_some is_line_feed (take (max + 1) bytes) at h in
     let whole = position_or_len-take is_line_feed (max + 1) bytes in
     let size = length-take (max + 1) bytes in
@@ -57,16 +61,16 @@ IsPiece-line_feed bytes max at h =
     let same : position_or_len is_line_feed bytes ≡ at = omega (arith, here.0, here.1) in
     (ap (λ n. take n bytes) (sym same), omega (arith, here.1), omega (arith, here.1))
 
-pub IsPiece-full : (bytes : List ℕ) (max : ℕ) → position is_line_feed (take (max + 1) bytes) ≡ None → max < length (take (max + 1) bytes) → IsPiece max (take max bytes) Full bytes
-IsPiece-full bytes max h long =
+pub IsLineFront-full : (bytes : List ℕ) (max : ℕ) → position is_line_feed (take (max + 1) bytes) ≡ None → max < length (take (max + 1) bytes) → IsLineFront max (take max bytes) Full bytes
+IsLineFront-full bytes max h long =
     let none = position_none is_line_feed (take (max + 1) bytes) h in
     let whole = position_or_len-take is_line_feed (max + 1) bytes in
     let size = length-take (max + 1) bytes in
     let first = length-before_first is_line_feed bytes in
     (refl, omega arith)
 
-pub IsPiece-all : (bytes : List ℕ) (max : ℕ) → position is_line_feed (take (max + 1) bytes) ≡ None → length (take (max + 1) bytes) ≤ max → IsPiece max bytes AllTaken bytes
-IsPiece-all bytes max h short =
+pub IsLineFront-all : (bytes : List ℕ) (max : ℕ) → position is_line_feed (take (max + 1) bytes) ≡ None → length (take (max + 1) bytes) ≤ max → IsLineFront max bytes AllTaken bytes
+IsLineFront-all bytes max h short =
     let none = position_none is_line_feed (take (max + 1) bytes) h in
     let whole = position_or_len-take is_line_feed (max + 1) bytes in
     let size = length-take (max + 1) bytes in

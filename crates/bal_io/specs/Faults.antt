@@ -1,5 +1,5 @@
 -- How an object of the outside counts its failed calls.
-use Rattle.std.specs.Prelude.{◌≡◌, ◌<◌, ◌⊎◌, ℕ, Result, Ok, Err}
+use Rattle.std.specs.Prelude.{◌≡◌, ◌<◌, ◌⊎◌, ℕ, Bool, Result, Ok, Err}
 use Rattle.bal_base.specs.declared.stop.Failed.{Failed}
 use Rattle.bal_base.specs.declared.stop.Stop.{Stop}
 use Rattle.bal_base.specs.declared.stop.Stop.TheVariants.{Memory, Fault}
@@ -17,3 +17,8 @@ abbrev pub CountsFaults : {A : Type 0} → ℕ → ℕ → Result A (Stop Failed
 CountsFaults old new (Ok _) = new ≡ old
 CountsFaults old new (Err Memory) = new ≡ old
 CountsFaults old new (Err (Fault _)) = Rises old new
+
+-- which of the two streams a sink of the system writes to, and how many of its calls failed
+pub record StreamFaults : Type 0 where
+  pub diagnostics : Bool
+  pub faults : ℕ

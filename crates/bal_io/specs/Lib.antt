@@ -1,5 +1,6 @@
 pub mod Calls
 pub mod Content
 pub mod Faults
+pub mod Fronts
 pub mod Held
-pub mod Pieces
+pub mod Streams

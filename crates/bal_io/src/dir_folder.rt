@@ -1,5 +1,5 @@
 //! A folder of the system.
-ghost use Rattle.std.specs.Prelude.{◌≡◌, ◌≤◌, ◌+◌, IfOk, vec_len};
+ghost use Rattle.std.specs.Prelude.{◌≡◌, ◌≤◌, ◌+◌, IfOk, IfSome, take, vec_len};
 
 use crate::fault_count::{FaultCount, stop_of};
 use crate::listing::list_package;
@@ -82,7 +82,8 @@ impl<'a, R: Files + AllocGlobal + Clone + Drop> DirFolder<'a, R> {
         let root = self.path;
         let file = name.as_str();
         let path = format!(in alloc; "{root}/{file}")?;
-        read_front(&self.rt, alloc, path.as_str(), max)
+        let file = File::open(&self.rt, path.as_str()).map_err(stop_of)?;
+        read_front(file, alloc, max)
     }
 }
 
@@ -111,18 +112,16 @@ impl<R: Files + AllocGlobal + Clone + Drop> Folder for DirFolder<'_, R> {
 }
 
 /// The first `max + 1` bytes of a file, or all its bytes where there are fewer.
-fn read_front<R: Files>(
-    rt: &R,
-    alloc: Global,
-    path: &str,
-    max: u64,
-) -> Result<Vec<u8>, Stop<Failed>>
+fn read_front<F: Read + Drop>(file: F, alloc: Global, max: u64) -> Result<Vec<u8>, Stop<Failed>>
+    ensures bytes { IfOk result (λ v. IfSome (F.remaining file) (λ all. v.items ≡ take (max + 1) all)) }
     ensures bound { IfOk result (λ v. vec_len v ≤ max + 1) }
 {
-    let file = File::open(rt, path).map_err(stop_of)?;
     let most = max.saturating_add(1);
     let mut bytes = Vec::new(alloc);
     file.take(most).read_to_end(&mut bytes).map_err(stop_of)?;
     bytes.truncate(most as usize);
     Ok(bytes)
 }
+
+#[cfg(test)]
+mod tests;

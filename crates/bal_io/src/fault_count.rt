@@ -1,5 +1,6 @@
 //! How an adapter of the real outside counts its failed calls.
-ghost use Rattle.std.specs.Prelude.{◌≡◌};
+ghost use Rattle.std.specs.Prelude.{◌≡◌, ◌↔◌};
+ghost use Rattle.std.specs.IoError.{error_kind};
 ghost use Rattle.bal_io.specs.Faults.{CountsFaults};
 
 use bal_base::{Failed, Stop};
@@ -40,8 +41,11 @@ impl FaultCount {
     }
 }
 
-/// Why a call stops where the system answers with an error.
-pub(crate) fn stop_of(error: Error) -> Stop<Failed> {
+/// Why a call stops where the system answers with an error: want of memory where the system says so, and
+/// else that the call failed.
+pub(crate) fn stop_of(error: Error) -> Stop<Failed>
+    ensures { (result ≡ Stop.Memory) ↔ (error_kind error ≡ ErrorKind.OutOfMemory) }
+{
     match error.kind() {
         ErrorKind::OutOfMemory => Stop::Memory,
         _ => Stop::Fault(Failed),

@@ -13,12 +13,12 @@
 mod calls;
 mod dir_folder;
 mod fault_count;
+mod fronts;
 mod listing;
 mod mem_folder;
 mod mem_sink;
 mod mem_source;
 mod outside;
-mod piece;
 mod std_sink;
 mod std_source;
 

@@ -5,8 +5,8 @@ ghost use Rattle.bal_io.specs.Content.{IsNameAt, IsFrontAt};
 ghost use Rattle.bal_io.specs.Faults.{CountsFaults};
 
 use crate::calls::{Calls, Fails};
+use crate::fronts::first_bytes;
 use crate::outside::Folder;
-use crate::piece::first_bytes;
 use bal_base::{Bytes, Failed, Name, Stop};
 use std::alloc::Global;
 use std::marker::Model;

@@ -5,8 +5,8 @@ ghost use Rattle.bal_io.specs.Content.{Appends, AppendsFront};
 ghost use Rattle.bal_io.specs.Faults.{CountsFaults};
 
 use crate::calls::{Calls, Fails};
+use crate::fronts::front;
 use crate::outside::Sink;
-use crate::piece::front;
 use bal_base::{Failed, Stop};
 use std::alloc::Global;
 use std::marker::Model;

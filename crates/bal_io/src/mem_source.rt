@@ -5,8 +5,8 @@ ghost use Rattle.bal_io.specs.Content.{ReadsLine};
 ghost use Rattle.bal_io.specs.Faults.{CountsFaults};
 
 use crate::calls::{Calls, Fails};
+use crate::fronts::{FirstLine, first_line};
 use crate::outside::{Line, Source};
-use crate::piece::{FirstLine, first_line};
 use bal_base::{Bytes, Failed, Stop};
 use std::alloc::Global;
 use std::marker::Model;

@@ -1,9 +1,12 @@
 //! The standard input as an input.
-ghost use Rattle.std.specs.Prelude.{◌≡◌, ◌≤◌, length, vec_len, IfOk, IfSome};
+ghost use Rattle.std.specs.Prelude.{◌≡◌, ◌≤◌, length, vec_len, IfOk, IfSome, OnErr};
+ghost use Rattle.bal_io.specs.Content.{ReadsLine, LosesFront};
+ghost use Rattle.bal_io.specs.Fronts.{ReadsMore};
+ghost use Rattle.bal_io.specs.Streams.{IfKnown};
 
 use crate::fault_count::{FaultCount, stop_of};
+use crate::fronts::{Extent, LineFront, front_of_line, without_return};
 use crate::outside::{Line, Source};
-use crate::piece::{End, Piece, first_piece, without_return};
 use bal_base::{Bytes, Failed, Stop};
 use std::alloc::Global;
 use std::io::{BufRead, BufReader, ErrorKind};
@@ -83,12 +86,15 @@ enum Progress {
 }
 
 /// The next line of a reader, as `read_line` gives it.
-pub(crate) fn next_line<B: BufRead>(
+fn next_line<B: BufRead>(
     reader: &mut B,
     alloc: Global,
     max: u64,
 ) -> Result<Option<Line>, Stop<Failed>>
+    ensures line { IfOk result
+        (λ line. IfKnown (ReadsLine max line) (B.remaining reader.old) (B.remaining reader.new)) }
     ensures bound { IfOk result (λ line. IfSome line (λ l. length l.bytes ≤ max)) }
+    ensures err { OnErr result (IfKnown LosesFront (B.remaining reader.old) (B.remaining reader.new)) }
 {
     let mut bytes = Vec::new(alloc);
     for _ in 0..u64::MAX {
@@ -108,7 +114,7 @@ pub(crate) fn next_line<B: BufRead>(
 }
 
 fn line_of(bytes: Vec<u8>, whole: bool) -> Line
-    ensures { result.bytes ≡ bytes.items }
+    ensures { result ≡ record { bytes = bytes.items; whole = whole } }
 {
     Line {
         bytes: Bytes::of(bytes),
@@ -123,7 +129,11 @@ fn read_more<B: BufRead>(
     max: u64,
 ) -> Result<Progress, Stop<Failed>>
     requires { vec_len line.old ≤ max }
-    ensures { vec_len line.new ≤ max }
+    ensures bound { vec_len line.new ≤ max }
+    ensures ok { IfOk result (λ progress. IfKnown (ReadsMore max progress line.old.items line.new.items)
+        (B.remaining reader.old) (B.remaining reader.new)) }
+    ensures err { OnErr result
+        (IfKnown (λ old new. new ≡ old) (B.remaining reader.old) (B.remaining reader.new)) }
 {
     let bytes = match reader.fill_buf() {
         Ok(bytes) => bytes,
@@ -133,14 +143,24 @@ fn read_more<B: BufRead>(
     if bytes.is_empty() {
         return Ok(Progress::AtEnd);
     }
-    let Piece { text, end } = first_piece(bytes, max - line.len() as u64);
+    let LineFront { text, extent } = front_of_line(bytes, max - line.len() as u64);
     line.extend_from_slice(text)?;
     let size = text.len();
-    let (size, progress) = match end {
-        End::LineFeed => (size + 1, Progress::Ended),
-        End::Full => (size, Progress::Cut),
-        End::AllTaken => (size, Progress::GoesOn),
-    };
-    reader.consume(size);
-    Ok(progress)
+    match extent {
+        Extent::LineFeed => {
+            reader.consume(size + 1);
+            Ok(Progress::Ended)
+        }
+        Extent::Full => {
+            reader.consume(size);
+            Ok(Progress::Cut)
+        }
+        Extent::AllTaken => {
+            reader.consume(size);
+            Ok(Progress::GoesOn)
+        }
+    }
 }
+
+#[cfg(test)]
+mod tests;

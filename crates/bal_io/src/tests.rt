@@ -1,10 +1,8 @@
 ghost use Rattle.std.specs.Prelude.{◌≡◌, IfOk, length};
 
-use crate::std_source::next_line;
 use crate::{Folder, Line, MemFolder, MemSink, MemSource, Sink, Source};
 use bal_base::{Bytes, Failed, Name, Stop};
 use std::alloc::Global;
-use std::io::BufReader;
 use std::process::Abort;
 use std::test::Fail;
 
@@ -98,19 +96,6 @@ fn lines_in_memory(rt: HostRuntime) -> Result<(), Fail> {
             assert_line(&rt, line, bytes, *whole);
         }
         assert!(rt; source.read_line(rt.alloc(), case.max)?.is_none());
-    }
-    Ok(())
-}
-
-#[test]
-fn lines_of_a_stream_in_pieces(rt: HostRuntime) -> Result<(), Fail> {
-    for case in &LINES {
-        let mut reader = BufReader::with_capacity(rt.alloc(), 2, case.input)?;
-        for (bytes, whole) in case.lines {
-            let line = next_line(&mut reader, rt.alloc(), case.max)?;
-            assert_line(&rt, line, bytes, *whole);
-        }
-        assert!(rt; next_line(&mut reader, rt.alloc(), case.max)?.is_none());
     }
     Ok(())
 }

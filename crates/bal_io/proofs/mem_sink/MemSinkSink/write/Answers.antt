@@ -1,5 +1,5 @@
 use Rattle.std.proofs.Common.{rules}
-use Rattle.bal_io.proofs.Fronts.{AppendsFront-take}
+use Rattle.bal_io.proofs.Writing.{AppendsFront-take}
 use Rattle.bal_io.proofs.mem_sink.MemSinkSink.write.Goals as goal
 
 pub returns-then-fails-2-clause-err : goal.returns-then-fails-2-clause-err

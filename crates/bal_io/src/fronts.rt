@@ -1,26 +1,26 @@
-//! Pieces of lines.
+//! Fronts of bytes, and of lines.
 ghost use Rattle.std.specs.Prelude.{◌≡◌, ◌≤◌, ◌+◌, length, take, drop, position};
 ghost use Rattle.bal_io.specs.Content.{is_line_feed, GivesLine, without_return as without_return_lem};
-ghost use Rattle.bal_io.specs.Pieces.{IsPiece};
+ghost use Rattle.bal_io.specs.Fronts.{IsLineFront};
 
-/// How a piece of a line ends.
+/// How far the front of a line goes.
 #[derive(Clone, Copy)]
-pub(crate) enum End {
-    /// Before a line feed.
+pub(crate) enum Extent {
+    /// To a line feed, which follows it.
     LineFeed,
-    /// After as many bytes as were asked for, and the line goes on.
+    /// To as many bytes as were asked for, and the line goes on.
     Full,
-    /// Where the bytes end.
+    /// To the end of the bytes.
     AllTaken,
 }
 
 /// The front of some bytes, as far as a line goes.
 #[derive(Clone, Copy)]
-pub(crate) struct Piece<'a> {
+pub(crate) struct LineFront<'a> {
     /// The bytes of the line.
     pub(crate) text: &'a [u8],
-    /// How they end.
-    pub(crate) end: End,
+    /// How far they go.
+    pub(crate) extent: Extent,
 }
 
 /// The first `n` bytes, or all where there are fewer.
@@ -32,6 +32,14 @@ pub(crate) fn front(bytes: &[u8], n: u64) -> &[u8]
     } else {
         bytes
     }
+}
+
+/// The bytes after the first `n`.
+pub(crate) fn after(bytes: &[u8], n: usize) -> &[u8]
+    requires { n ≤ length bytes.now }
+    ensures { result.now ≡ drop n bytes.now }
+{
+    &bytes[n..]
 }
 
 /// The first `max + 1` bytes, or all where there are fewer.
@@ -53,22 +61,22 @@ fn line_feed_at(bytes: &[u8]) -> Option<usize>
 }
 
 /// The first line of the bytes, of which it gives at most `max` bytes.
-pub(crate) fn first_piece(bytes: &[u8], max: u64) -> Piece<'_>
-    ensures { IsPiece max result.text.now result.end bytes.now }
+pub(crate) fn front_of_line(bytes: &[u8], max: u64) -> LineFront<'_>
+    ensures { IsLineFront max result.text.now result.extent bytes.now }
 {
     let seen = first_bytes(bytes, max);
     match line_feed_at(seen) {
-        Some(at) => Piece {
+        Some(at) => LineFront {
             text: &bytes[..at],
-            end: End::LineFeed,
+            extent: Extent::LineFeed,
         },
-        None if seen.len() as u64 > max => Piece {
+        None if seen.len() as u64 > max => LineFront {
             text: &bytes[..max as usize],
-            end: End::Full,
+            extent: Extent::Full,
         },
-        None => Piece {
+        None => LineFront {
             text: bytes,
-            end: End::AllTaken,
+            extent: Extent::AllTaken,
         },
     }
 }
@@ -101,19 +109,19 @@ pub(crate) fn first_line(bytes: &[u8], max: u64) -> FirstLine<'_>
     ensures line { GivesLine max record { bytes = result.text.now; whole = result.whole } bytes.now
         (drop result.size bytes.now) }
 {
-    let Piece { text, end } = first_piece(bytes, max);
-    match end {
-        End::LineFeed => FirstLine {
+    let LineFront { text, extent } = front_of_line(bytes, max);
+    match extent {
+        Extent::LineFeed => FirstLine {
             text: without_return(text),
             size: text.len() + 1,
             whole: true,
         },
-        End::Full => FirstLine {
+        Extent::Full => FirstLine {
             text,
             size: text.len(),
             whole: false,
         },
-        End::AllTaken => FirstLine {
+        Extent::AllTaken => FirstLine {
             text,
             size: text.len(),
             whole: true,
