@@ -1,5 +1,6 @@
 //! An output in memory.
 ghost use Rattle.std.specs.Prelude.{◌≡◌, [], ◌∷◌, IsTrue, OnOk, OnErr, take};
+ghost use Rattle.bal_base.specs.Stops.{IfFault};
 ghost use Rattle.bal_io.specs.Calls.{no_calls, WillFail, has_failed, LogsCall};
 ghost use Rattle.bal_io.specs.Content.{Appends, AppendsFront};
 ghost use Rattle.bal_io.specs.Faults.{CountsFaults};
@@ -77,14 +78,14 @@ impl Sink for MemSink {
 
         // What was written at each answer.
         ensures ok { OnOk result (Appends bytes.now self.old.written self.new.written) }
-        ensures failed { IsTrue (has_failed result)
-            → Appends (take self.old.taken bytes.now) self.old.written self.new.written }
+        ensures failed { IfFault result
+            (λ _. Appends (take self.old.taken bytes.now) self.old.written self.new.written) }
         ensures err { OnErr result (AppendsFront bytes.now self.old.written self.new.written) }
         ensures memory { result ≡ Err Stop.Memory → self.new.written ≡ self.old.written }
 
         // A call that is to fail never succeeds, no other fails, and what it takes alone can want memory.
         ensures not_ok { OnOk result (¬ WillFail self.old.calls) }
-        ensures not_failed { IsTrue (has_failed result) → WillFail self.old.calls }
+        ensures not_failed { IfFault result (λ _. WillFail self.old.calls) }
         ensures due { WillFail self.old.calls → take self.old.taken bytes.now ≡ []
             → IsTrue (has_failed result) }
     {
