@@ -7,4 +7,5 @@ pub mod Laws
 pub mod Names
 pub mod PartLaws
 pub mod Same
+pub mod SameTypes
 pub mod Unfolding

@@ -7,3 +7,4 @@ pub mod Inclusion
 pub mod Membership
 pub mod Parts
 pub mod Places
+pub mod SameType

@@ -1,6 +1,7 @@
 //! Types as sets of shapes.
 //!
-//! - [`BasicSet`], [`SemType`] and [`Ty`]: types, put together of basic sets and atoms by or, and, not.
+//! - [`BasicSet`], [`SemType`] and [`Ty`]: types, put together of basic sets and atoms by or, and, not;
+//!   `copy` gives another.
 //! - [`AtomDef`] and [`FieldDef`]: what an atom stands for. Types recur through atoms alone.
 //! - [`TyList`], [`FieldList`], [`ChoiceList`], [`TypeList`] and [`AtomDefs`]: lists by name.
 //! - [`TypeEnv`]: the atoms' definitions by their numbers, and [`AtomLimit`], when there would be too many.
@@ -11,6 +12,7 @@
 mod answers;
 mod atoms;
 mod basic;
+mod copy;
 mod decide;
 mod defined;
 mod env;
