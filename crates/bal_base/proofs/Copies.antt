@@ -4,7 +4,6 @@ use Rattle.std.specs.List.{AllZip}
 use Rattle.std.proofs.lemmas.List.{take_more}
 use Rattle.std.proofs.lemmas.List.Elements.{AllZip-push}
 use Rattle.bal_base.specs.declared.shape.Shape.TheBlock.{items_shown-the_row-Shape-0, items_shown-the_row-Case-2}
-use Rattle.bal_base.specs.declared.text.Text.{Text}
 use Rattle.bal_base.specs.declared.shape.Shape.{Shape, List as AList, Mapping, Function, Future, Row_of-Shape, end_of-Shape, more_of-Shape, items-the_row-Shape as shapes_in, items_hidden-the_row-Shape-0, Row_of-Fields-items-2 as Row_of-Field, end_of-Fields-items-2 as end_of-Field, more_of-Fields-items-2 as more_of-Field, items-the_row-Fields-items-2 as fields_in, items_hidden-the_row-Fields-items-2-1}
 use Rattle.bal_base.specs.declared.shape.Shapes.{Shapes}
 use Rattle.bal_base.specs.declared.shape.Fields.{Fields}

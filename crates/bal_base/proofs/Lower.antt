@@ -1,5 +1,5 @@
 -- The parts of a shape have fewer levels.
-use Rattle.std.proofs.Common.{◌≡◌, ℕ, ◌+◌, ◌<◌, ◌≤◌, [], ◌∷◌, max, List, Box, Global, Bool, false, All, IfSome, refl, sym, ap, subst, ◌∙◌, arith}
+use Rattle.std.proofs.Common.{◌≡◌, ℕ, ◌+◌, ◌<◌, [], ◌∷◌, max, List, Box, Global, Bool, false, All, IfSome, refl, sym, ap, subst, ◌∙◌, arith}
 use Rattle.std.proofs.lemmas.List.Elements.{All-nil, All-cons}
 use mathlib.Core.Former.{this, arity as arity_of}
 use Rattle.std.specs.formers.vec.Vec.{the_former}

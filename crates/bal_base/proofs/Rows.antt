@@ -1,8 +1,7 @@
 -- The facts of a shape's parts, as facts of lists.
 pub use Rattle.bal_base.proofs.Loops.{one_more, at_end}
-use Rattle.std.proofs.Common.{◌≡◌, ℕ, ◌+◌, ◌<◌, ◌≤◌, ◌↔◌, List, length, get_or, take, All, IfSome, IsTrue, Bool, true, refl, sym, subst, ◌∙◌}
-use Rattle.std.proofs.lemmas.List.{take_all}
-use Rattle.std.proofs.lemmas.List.Elements.{All-nil, All-cons, All-head, All-tail, All-more}
+use Rattle.std.proofs.Common.{◌↔◌, List, All, IfSome, IsTrue, Bool, sym, subst, ◌∙◌}
+use Rattle.std.proofs.lemmas.List.Elements.{All-nil, All-cons, All-head, All-tail}
 use mathlib.Core.Former.{Count, this, arity as arity_of}
 use Rattle.std.specs.formers.vec.Vec.{the_former}
 use Rattle.std.proofs.Common.{Global}

@@ -1,8 +1,7 @@
 -- Shapes that are the same are valid together and have as many levels.
-use Rattle.std.proofs.Common.{◌≡◌, ℕ, ◌+◌, ◌<◌, List, [], ◌∷◌, map, max, length, get_or, IsTrue, All, refl, sym, ap, subst, ◌∙◌, arith}
+use Rattle.std.proofs.Common.{◌≡◌, ℕ, ◌+◌, List, ◌∷◌, map, max, length, get_or, IsTrue, All, refl, sym, ap, subst, ◌∙◌, arith}
 use Rattle.std.proofs.Math.ListN.{get_or-map, length-map}
 use Rattle.std.proofs.lemmas.List.Elements.{All-nil, All-cons, All-head, All-tail}
-use Rattle.std.specs.declared.cmp.Ordering.TheVariants.{Less}
 use Rattle.std.specs.Ordering.{nat_cmp}
 use Rattle.std.specs.Cmp.Lexicographic.{slice_cmp}
 use Rattle.bal_base.specs.declared.text.Text.{Text}
@@ -106,11 +105,10 @@ frozen-fields n m (more_of-Field key x rest) (more_of-Field key' y rest') h all 
     All-cons FrozenField (key', y) _ (IsFrozen-same x y h.1 (All-head FrozenField (key, x) _ all)) (frozen-fields _ _ rest rest' h.2 (All-tail FrozenField (key, x) _ all))
 
 -- the same fields have the same keys
-keys_of : List (Text × Shape) → List Text
-keys_of = map (λ f. f.0)
+abbrev pub keys_of : List (Text × Shape) → List Text
+keys_of fs = map (λ f. f.0) fs
 
-keys-same : (n m : _) (row : Row_of-Field n) (row' : Row_of-Field m) → FieldsSame row row' → keys_of (fields_in n row) ≡ keys_of (fields_in m row')
-unfolding keys_of
+pub keys-same : (n m : _) (row : Row_of-Field n) (row' : Row_of-Field m) → FieldsSame row row' → keys_of (fields_in n row) ≡ keys_of (fields_in m row')
 keys-same n m end_of-Field end_of-Field h = refl
 keys-same n m end_of-Field (more_of-Field key' y rest') h = absurd h
 keys-same n m (more_of-Field key x rest) end_of-Field h = absurd h
@@ -127,7 +125,6 @@ texts-fields n m (more_of-Field key x rest) (more_of-Field key' y rest') h all =
     All-cons TextField (key', y) _ (subst IsText h.0 (All-head TextField (key, x) _ all)) (texts-fields _ _ rest rest' h.2 (All-tail TextField (key, x) _ all))
 
 rise-same : (fs gs : List (Text × Shape)) → keys_of fs ≡ keys_of gs → KeysRise fs → KeysRise gs
-unfolding keys_of
 rise-same fs gs same rise k d lt =
     let key : (j : ℕ) → (get_or gs j d).0 ≡ (get_or fs j d).0 = λ j. sym (get_or-map (λ f. f.0) gs j d) ∙ ap (λ ks. get_or ks j d.0) (sym same) ∙ get_or-map (λ f. f.0) fs j d in
     let long : length fs ≡ length gs = sym (length-map fs (λ f. f.0)) ∙ ap length same ∙ length-map gs (λ f. f.0) in

@@ -1,10 +1,6 @@
 -- What a test of the parts says of the whole.
 use Rattle.std.proofs.Common.{◌≡◌, ◌↔◌, IsTrue, Bool, sym, subst}
 
--- a test decides what is equivalent to what it decides
-pub by_same : {A W : Type 0} (r : Bool) → IsTrue r ↔ A → W ↔ A → IsTrue r ↔ W
-by_same r t same = (λ h. same.1 (t.0 h), λ w. t.1 (same.0 w))
-
 -- F of the value v is what is said of its parts, and the test decides that
 pub by_parts : {S Q : Type 0} (F : S → Type 0) {s v : S} {r : Bool} → s ≡ v → (F v ↔ Q) → (IsTrue r ↔ Q) → IsTrue r ↔ F s
 by_parts F is unfolds test = (λ h. subst F (sym is) (unfolds.1 (test.0 h)), λ h. test.1 (unfolds.0 (subst F is h)))

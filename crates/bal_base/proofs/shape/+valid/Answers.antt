@@ -1,6 +1,6 @@
 use Rattle.std.proofs.Common.{IsTrue, All, List, arith}
 use Rattle.bal_base.specs.declared.text.Text.{Text}
-use Rattle.bal_base.specs.declared.shape.Shape.{Shape, List as AList, Mapping, Function, Future}
+use Rattle.bal_base.specs.declared.shape.Shape.{Shape}
 use Rattle.bal_base.specs.Valid.{IsFrozen, IsValid, CaseIsValid, KeysRise, AreTexts}
 use Rattle.bal_base.proofs.Loops.{one_more, at_end}
 use Rattle.bal_base.proofs.Rows.{IsValid-List, IsValid-Mapping, IsValid-Function, IsValid-Future}
