@@ -1,6 +1,7 @@
 -- Which file of a folder is compiled, and what compiling it comes to.
 use Rattle.std.specs.Prelude.{◌≡◌, ◌≤◌, ◌<◌, ◌+◌, ℕ, List, Option, Some, None, IfSome, Result, Ok, Err, length, map, slice_get, codes, ⊤, Vec}
 use Rattle.std.specs.Global.{Global}
+use Rattle.bal_base.specs.declared.limits.TheConstants.{MOST_FILE_BYTES}
 use Rattle.bal_base.specs.declared.stop.Stop.{Stop}
 use Rattle.bal_base.specs.declared.stop.Stop.TheVariants.{Memory, Fault}
 use Rattle.bal_io.specs.Content.{IsNameAt, IsFrontAt}
@@ -30,13 +31,9 @@ IsMainAt files k = IsNameAt files k main_name × ((j : ℕ) → j < k → IsName
 abbrev pub IsMainFile : Files → List ℕ → Type 0
 IsMainFile files bytes = (k : ℕ) × IsMainAt files k × (slice_get (map (λ f. f.1) files) k ≡ Some bytes)
 
--- the most bytes that a source file may have
-abbrev pub longest_file : ℕ
-longest_file = 1048576
-
 -- the bytes are those of a program with this tree, and not too many
 abbrev pub IsProgram : List ℕ → FileTree → Type 0
-IsProgram bytes tree = (length bytes ≤ longest_file) × FileReads bytes tree
+IsProgram bytes tree = (length bytes ≤ MOST_FILE_BYTES) × FileReads bytes tree
 
 -- ---- what compiling comes to
 
@@ -71,7 +68,7 @@ IsSearched files None = HasNoMain files
 
 -- the bytes of that file, as far as one byte more than a file may have
 abbrev pub IsFrontOfMain : Files → Option (Vec ℕ Global) → Type 0
-IsFrontOfMain files (Some front) = (k : ℕ) × IsMainAt files k × IsFrontAt files k (longest_file + 1) front.items
+IsFrontOfMain files (Some front) = (k : ℕ) × IsMainAt files k × IsFrontAt files k (MOST_FILE_BYTES + 1) front.items
 IsFrontOfMain files None = HasNoMain files
 
 abbrev pub IsBuiltFrom : List ℕ → Result Built (Stop LoadFault) → Type 0

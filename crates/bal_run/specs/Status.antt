@@ -1,6 +1,6 @@
 -- The numbers and the texts of the statuses.
 use Rattle.std.specs.Prelude.{◌≡◌, ◌⊎◌, ◌++◌, ℕ, List, [], ◌∷◌, Option, Some, None, codes, decimal, encode_utf8_all}
-use Rattle.bal_base.specs.FaultCode as fault_code
+use Rattle.bal_base.specs.FaultCode.{code_number}
 use Rattle.bal_base.specs.declared.fault.FaultCode.{FaultCode}
 use Rattle.bal_base.specs.declared.fault.FaultCode.TheVariants.{NoMain, Syntax}
 use Rattle.bal_base.specs.declared.fault.Kept.TheVariants.{Nothing}
@@ -57,7 +57,7 @@ at_place r None text = text
 -- `FILE:LINE:COLUMN: CODE WORDS`, with a line end
 abbrev pub refusal_text : Refusal → List ℕ → List ℕ
 refusal_text r words =
-    at_place r r.fault.at (decimal (fault_code.number_of r.fault.code) ++ (codes " " ++ (words ++ 10 ∷ [])))
+    at_place r r.fault.at (decimal (code_number r.fault.code) ++ (codes " " ++ (words ++ 10 ∷ [])))
 
 -- the text for the diagnostics of a status that comes so far, with its line end; a program that is done says nothing
 abbrev pub HasText : Status → List ℕ → Type 0

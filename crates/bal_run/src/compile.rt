@@ -7,12 +7,9 @@ ghost use Rattle.bal_run.specs.Files.{CountsFolderFaults, Compiled, IsBuiltFrom,
 use crate::lower::lower;
 use crate::reading::read_file;
 use crate::status::Built;
-use bal_base::{Failed, Name, Stop};
+use bal_base::{Failed, MOST_FILE_BYTES, Name, Stop};
 use bal_io::Folder;
 use std::alloc::Global;
-
-/// The most bytes that a source file may have.
-const LONGEST_FILE: usize = 1_048_576;
 
 /// Why a folder does not compile.
 #[derive(Clone, Copy, Debug, PartialEq, Eq)]
@@ -42,7 +39,7 @@ pub fn compile<F: Folder>(alloc: Global, folder: &mut F) -> Result<Built, Stop<L
 fn program(alloc: Global, bytes: &[u8]) -> Result<Built, Stop<LoadFault>>
     ensures { IsBuiltFrom bytes.now result }
 {
-    if bytes.len() > LONGEST_FILE {
+    if bytes.len() > MOST_FILE_BYTES {
         return Err(Stop::Fault(LoadFault::NotOfForm));
     }
     let Some(tree) = read_file(alloc, bytes)? else {
@@ -58,7 +55,7 @@ fn main_front<F: Folder>(alloc: Global, folder: &mut F) -> Result<Option<Vec<u8>
     ensures front { IfOk result (λ front. IfSome (F.files folder.old) (λ files. IsFrontOfMain files front)) }
 {
     match find_main(alloc, folder)? {
-        Some(main) => Ok(Some(folder.read(alloc, main, LONGEST_FILE as u64)?)),
+        Some(main) => Ok(Some(folder.read(alloc, main, MOST_FILE_BYTES as u64)?)),
         None => Ok(None),
     }
 }

@@ -1,5 +1,5 @@
 use Rattle.std.proofs.Common.{◌≡◌, ◌∷◌, ◌++◌, [], codes, decimal, string_bytes, sym, ap, subst, ◌∙◌}
-use Rattle.bal_base.specs.FaultCode as fault_code
+use Rattle.bal_base.specs.FaultCode.{code_number}
 use Rattle.bal_run.specs.Status.{at_place}
 use Rattle.bal_run.proofs.Texts.{bytes-of}
 use Rattle.bal_run.proofs.report.refusal_text.Goals as goal
@@ -9,7 +9,7 @@ returns-in_ok-format-in-Some c =
     let r = c.args.refusal.now in
     let words = c.words_of-words.result.now in
     let text = c.in_ok-format-in-Some.field-0 in
-    let number = fault_code.number_of r.fault.code in
+    let number = code_number r.fault.code in
     let file = bytes-of c.as_str-file.result.now r.file c.as_str-file.utf8 c.as_str-file.ensures.value in (
       words,
       c.words_of-words.ensures,
