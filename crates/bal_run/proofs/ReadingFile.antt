@@ -10,7 +10,6 @@ use Rattle.bal_tree.specs.declared.expr.Call.{Function' as FunctionCall'}
 use Rattle.bal_tree.specs.declared.expr.Primary.{Literal}
 use Rattle.bal_tree.specs.declared.action.Rhs.TheVariants.{Expr as Expression}
 use Rattle.bal_tree.specs.declared.stmt.Stmt.{Stmt, Rhs}
-use Rattle.bal_tree.specs.declared.stmt.Stmts.{Stmts}
 use Rattle.bal_tree.specs.declared.def.FileTree.{FileTree}
 use Rattle.bal_tree.specs.declared.def.Def.{Def}
 use Rattle.bal_tree.specs.declared.def.Def.TheVariants.{Function}
@@ -18,7 +17,6 @@ use Rattle.bal_tree.specs.declared.def.Body.{Body}
 use Rattle.bal_tree.specs.declared.def.Body.TheVariants.{Block}
 use Rattle.bal_run.specs.Evaluation.{IsPrintln, Prints, PrintsBy, HasStmts, IsMain}
 use Rattle.bal_run.specs.Sums.{IsSum, PrintsSum, IsSumProgram}
-use Rattle.bal_tree.specs.Lists.{stmts_list}
 use Rattle.bal_run.specs.Form.{place_of, LiteralReads, ProductReads, SumReads, CallAt, PrintsAt, StmtsRead, IsBodyOf, IsMainFunction, FileReads}
 
 literal_is_sum : (size : ℕ) (bytes : List ℕ) (e : Expr) (rest : List ℕ) → LiteralReads size bytes e rest → IsSum e
@@ -52,11 +50,11 @@ stmts_print size bytes (stmt ∷ stmts) rest h =
       stmts_print size h.0 stmts rest h.2,
     )
 
-has_stmts : (stmts : Stmts) (start end : Place) (body : Body) → IsBodyOf stmts start end body → HasStmts body (stmts_list stmts)
-has_stmts stmts start end (Block initial workers rest close at) h = (ap stmts_list h.0, h.1, h.2)
+has_stmts : (stmts : List Stmt) (start end : Place) (body : Body) → IsBodyOf stmts start end body → HasStmts body stmts
+has_stmts stmts start end (Block initial workers rest close at) h = (h.0, h.1, h.2)
 has_stmts stmts start end body h = absurd h
 
-is_main : (stmts : Stmts) (at name start end : Place) (main : Def) → IsMainFunction stmts at name start end main → IsMain (stmts_list stmts) main
+is_main : (stmts : List Stmt) (at name start end : Place) (main : Def) → IsMainFunction stmts at name start end main → IsMain stmts main
 is_main stmts at name start end (Function f) h = (h.0, ap (λ w. w.name) h.2, has_stmts stmts start end f.body h.5)
 is_main stmts at name start end main h = absurd h
 
@@ -66,8 +64,8 @@ is_sum_program bytes tree h =
     let main = h.4 in
     let stmts = main.4 in (
       h.2,
-      stmts_list stmts,
+      stmts,
       h.6,
       is_main stmts (place_of size h.0) (place_of size main.0) (place_of size main.1) (place_of size main.3) h.2 main.9,
-      stmts_print size main.2 (stmts_list stmts) main.3 main.8.0,
+      stmts_print size main.2 stmts main.3 main.8.0,
     )

@@ -1,11 +1,16 @@
 -- Sums of literals: the operators bind as the grammar says, and what is left behind is what the readers leave.
-use Rattle.std.proofs.Common.{◌≡◌, ◌≤◌, ◌+◌, ℕ, zero, suc, List, ◌++◌, Option, Some, None, length, drop, refl, sym, ap, ◌∙◌, subst, codes, arith}
+use Rattle.std.proofs.Common.{ℤ, rules, ◌≡◌, ◌≤◌, ◌+◌, ℕ, zero, suc, List, ◌++◌, Option, Some, None, length, drop, refl, sym, ap, ◌∙◌, subst, codes, arith}
 use Rattle.std.specs.Prelude.{option_and_then}
 use Rattle.std.specs.Option.{option_map_or}
-use Rattle.bal_tree.specs.declared.expr.Expr.{Expr, Postfix, Binary'}
+use Rattle.bal_tree.specs.declared.expr.Expr.{Expr, Postfix, Binary, Binary'}
 use Rattle.bal_tree.specs.declared.expr.Postfix.{Primary}
 use Rattle.bal_tree.specs.declared.expr.Primary.{Literal}
-use Rattle.bal_tree.specs.ExprPieces.{expr_pieces}
+use Rattle.bal_tree.specs.NamePieces.{literal_pieces}
+use Rattle.std.specs.Global.{Box}
+use Rattle.bal_tree.specs.declared.expr.BinaryOp.{BinaryOp}
+use Rattle.bal_tree.specs.Pieces.{starts, sign, ◌&◌}
+use Rattle.bal_tree.specs.ExprPieces.{expr_pieces, binary_sign}
+use Rattle.bal_tree.proofs.ExprLayers.{expr_layers}
 use Rattle.bal_tree.specs.Places.{BeginsAt}
 use Rattle.bal_base.specs.declared.place.Place.{Place}
 use Rattle.bal_tree.specs.declared.expr.BinaryOp.TheVariants.{Add, Multiply}
@@ -35,17 +40,34 @@ pub sum_of_product : (size : ℕ) (bytes : List ℕ) (e : Expr) (rest : List ℕ
 sum_of_product size bytes (Binary' _ left Add _ right at) rest h = absurd h
 sum_of_product size bytes e rest h = h
 
+-- where a literal and an operator's expression begin
+int-pieces : (n : ℤ) (at : Place) → expr_pieces (Postfix (Primary (Literal (Int n at)))) ≡ literal_pieces (Int n at)
+int-pieces n at = search (rules, expr_layers)
+
+binary-pieces : (l : Box Expr) (op : BinaryOp) (r : Box Expr) (at : Place) → expr_pieces (Binary l op r at) ≡ starts at & expr_pieces l.value & sign (binary_sign op) & expr_pieces r.value
+binary-pieces l op r at = search (rules, expr_layers)
+
+binary-begins : (l : Box Expr) (op : BinaryOp) (r : Box Expr) (at place : Place) → BeginsAt (expr_pieces (Binary l op r at)) place ≡ (at ≡ place)
+binary-begins l op r at place = ap (λ p. BeginsAt p place) (binary-pieces l op r at)
+
 literal_place : (size : ℕ) (bytes : List ℕ) (e : Expr) (rest : List ℕ) (at : Place) → LiteralReads size bytes e rest → BeginsAt (expr_pieces e) at → at ≡ place_of size bytes
-literal_place size bytes (Postfix (Primary (Literal (Int n place)))) rest at h b = sym b ∙ h.3
+literal_place size bytes (Postfix (Primary (Literal (Int n place)))) rest at h b =
+    let begins : place ≡ at = subst (λ p. BeginsAt p at) (int-pieces n place) b in sym begins ∙ h.3
 literal_place size bytes e rest at h b = absurd h
 
 product_place : (size : ℕ) (bytes : List ℕ) (e : Expr) (rest : List ℕ) (at : Place) → ProductReads size bytes e rest → BeginsAt (expr_pieces e) at → at ≡ place_of size bytes
 product_place size bytes (Postfix e) rest at h b = literal_place size bytes (Postfix e) rest at h b
-product_place size bytes (Binary' _ left Multiply _ right place) rest at h b = sym b ∙ h.5
+product_place size bytes (Binary' s left Multiply t right place) rest at h b =
+    let l : Box Expr = record { ptr = s.ptr; alloc = s.alloc; value = left } in
+    let r : Box Expr = record { ptr = t.ptr; alloc = t.alloc; value = right } in
+    sym (subst (λ (X : Type 0). X) (binary-begins l Multiply r place at) b) ∙ h.5
 product_place size bytes e rest at h b = absurd h
 
 sum_place : (size : ℕ) (bytes : List ℕ) (e : Expr) (rest : List ℕ) (at : Place) → SumReads size bytes e rest → BeginsAt (expr_pieces e) at → at ≡ place_of size bytes
-sum_place size bytes (Binary' _ left Add _ right place) rest at h b = sym b ∙ h.5
+sum_place size bytes (Binary' s left Add t right place) rest at h b =
+    let l : Box Expr = record { ptr = s.ptr; alloc = s.alloc; value = left } in
+    let r : Box Expr = record { ptr = t.ptr; alloc = t.alloc; value = right } in
+    sym (subst (λ (X : Type 0). X) (binary-begins l Add r place at) b) ∙ h.5
 sum_place size bytes e rest at h b = product_place size bytes e rest at h b
 
 pub product_times : (size : ℕ) (bytes star factor rest : List ℕ) (e left right : Expr) → IsBinary e left Multiply right → ProductReads size bytes left star → Lexeme (codes "*") 0 star factor → LiteralReads size factor right rest → ProductReads size bytes e rest × (literals e ≡ literals left + 1)

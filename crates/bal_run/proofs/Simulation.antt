@@ -16,7 +16,6 @@ use Rattle.bal_tree.specs.declared.def.Def.TheVariants.{Function}
 use Rattle.bal_tree.specs.declared.def.Body.{Body}
 use Rattle.bal_tree.specs.declared.def.Body.TheVariants.{Block}
 use Rattle.bal_run.specs.Evaluation.{Evaluates, Gives, Overflows, Prints, PrintsBy, Runs, IsMain, HasStmts}
-use Rattle.bal_tree.specs.Lists.{defs_list}
 use Rattle.bal_run.specs.Sums.{IsSum, PrintsSum}
 use Rattle.stack_code.specs.declared.value.Value.TheVariants.{Nil, Int}
 use Rattle.stack_code.specs.declared.instr.Constant.TheVariants.{Nil as ConstantNil}
@@ -132,7 +131,7 @@ same-statements (Function f) ss ts h k = by f.body h.2 k.2
     by body p q = absurd p
 same-statements main ss ts h k = absurd h
 
-main-of : (tree : FileTree) (ss ts : List Stmt) → IsMainOf tree ss → (k : ℕ) (d : Def) → k < length (defs_list tree.defs) → get_or (defs_list tree.defs) k d ≡ d → IsMain ts d → ss ≡ ts
+main-of : (tree : FileTree) (ss ts : List Stmt) → IsMainOf tree ss → (k : ℕ) (d : Def) → k < length tree.defs.items → get_or tree.defs.items k d ≡ d → IsMain ts d → ss ≡ ts
 main-of tree ss ts (main, one, is, all) k d lt at h =
     let zero_is : k ≡ 0 = omega (arith, ap length one) in
     let found : main ≡ d = sym (λ i. get_or (one i) (zero_is i) d) ∙ at in

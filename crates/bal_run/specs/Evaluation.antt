@@ -19,7 +19,6 @@ use Rattle.bal_tree.specs.declared.def.Def.{Def}
 use Rattle.bal_tree.specs.declared.def.Def.TheVariants.{Function}
 use Rattle.bal_tree.specs.declared.def.Body.{Body}
 use Rattle.bal_tree.specs.declared.def.Body.TheVariants.{Block}
-use Rattle.bal_tree.specs.Lists.{stmts_list, workers_list, defs_list}
 use Rattle.stack_code.specs.Outcome.{Given, Outcome}
 
 -- ---- expressions
@@ -77,7 +76,7 @@ Runs (s ∷ ss) outcome =
 -- ---- programs
 
 abbrev pub HasStmts : Body → List Stmt → Type 0
-HasStmts (Block stmts workers rest close at) list = (stmts_list stmts ≡ list) × (workers_list workers ≡ []) × (stmts_list rest ≡ [])
+HasStmts (Block stmts workers rest close at) list = (stmts.items ≡ list) × (workers.items ≡ []) × (rest.items ≡ [])
 HasStmts _ list = ⊥
 
 -- the definition is that of a public function `main` with these statements
@@ -87,4 +86,4 @@ IsMain stmts _ = ⊥
 
 -- the evaluation of the program comes to this outcome
 abbrev pub Evaluates : FileTree → Given → Outcome → Type 0
-Evaluates tree given outcome = (stmts : List Stmt) × Any (IsMain stmts) (defs_list tree.defs) × Runs stmts outcome
+Evaluates tree given outcome = (stmts : List Stmt) × Any (IsMain stmts) tree.defs.items × Runs stmts outcome

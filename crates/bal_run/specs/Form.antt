@@ -17,14 +17,12 @@ use Rattle.bal_tree.specs.declared.expr.Call.{Function' as FunctionCall', items-
 use Rattle.bal_tree.specs.declared.expr.Primary.{Literal, Name}
 use Rattle.bal_tree.specs.declared.action.Rhs.TheVariants.{Expr as Expression}
 use Rattle.bal_tree.specs.declared.stmt.Stmt.{Stmt, Rhs}
-use Rattle.bal_tree.specs.declared.stmt.Stmts.{Stmts}
 use Rattle.bal_tree.specs.declared.def.FileTree.{FileTree}
 use Rattle.bal_tree.specs.declared.def.Import.{Import}
 use Rattle.bal_tree.specs.declared.def.Def.{Def}
 use Rattle.bal_tree.specs.declared.def.Def.TheVariants.{Function}
 use Rattle.bal_tree.specs.declared.def.Body.{Body}
 use Rattle.bal_tree.specs.declared.def.Body.TheVariants.{Block}
-use Rattle.bal_tree.specs.Lists.{words_list, params_list, stmts_list, workers_list, imports_list, defs_list}
 
 -- ---- tokens
 
@@ -153,19 +151,19 @@ BlockReads size bytes stmts brace rest = StmtsRead size bytes stmts brace × Lex
 abbrev pub IsIoImport : Place → Place → Place → Import → Type 0
 IsIoImport at first second i =
     (i.first ≡ record { name = codes "ballerina"; at = first }) × (i.second ≡ Some (record { name = codes "io"; at = second }))
-    × (words_list i.more ≡ []) × (i.prefix ≡ None) × (i.at ≡ at)
+    × (i.more.items ≡ []) × (i.prefix ≡ None) × (i.at ≡ at)
 
 abbrev pub HasNoParams : Params → Type 0
-HasNoParams p = (params_list p.params ≡ []) × (p.rest ≡ None)
+HasNoParams p = (p.params.items ≡ []) × (p.rest ≡ None)
 
 -- a body of these statements alone, with the places of its braces
-abbrev pub IsBodyOf : Stmts → Place → Place → Body → Type 0
+abbrev pub IsBodyOf : List Stmt → Place → Place → Body → Type 0
 IsBodyOf stmts start end (Block initial workers rest close at) =
-    (initial ≡ stmts) × (workers_list workers ≡ []) × (stmts_list rest ≡ []) × (close ≡ end) × (at ≡ start)
+    (initial.items ≡ stmts) × (workers.items ≡ []) × (rest.items ≡ []) × (close ≡ end) × (at ≡ start)
 IsBodyOf stmts start end _ = ⊥
 
 -- `public function main()` at this place, with the places of its name and of its braces
-abbrev pub IsMainFunction : Stmts → Place → Place → Place → Place → Def → Type 0
+abbrev pub IsMainFunction : List Stmt → Place → Place → Place → Place → Def → Type 0
 IsMainFunction stmts at name start end (Function f) =
     (f.public ≡ true) × (f.isolated ≡ false) × (f.name ≡ record { name = codes "main"; at = name }) × HasNoParams f.params
     × (f.result ≡ None) × IsBodyOf stmts start end f.body × (f.at ≡ at)
@@ -181,9 +179,9 @@ ImportReads size bytes i rest =
 -- `public function main() {`, statements, and `}` at the end
 abbrev pub MainReads : ℕ → List ℕ → Def → Type 0
 MainReads size bytes main =
-    (name brace inside close : List ℕ) × (stmts : Stmts)
+    (name brace inside close : List ℕ) × (stmts : List Stmt)
     × Lexemes main_opening bytes name × Lexemes main_name_line name brace × Lexeme (codes "{") 0 brace inside
-    × BlockReads size inside (stmts_list stmts) close []
+    × BlockReads size inside stmts close []
     × IsMainFunction stmts (place_of size bytes) (place_of size name) (place_of size brace) (place_of size close) main
 
 -- white space, the import, and `main`
@@ -193,5 +191,5 @@ FileReads bytes tree =
     let start = after_space bytes in
     (header : List ℕ) × (import : Import) × (main : Def)
     × ImportReads size start import header × MainReads size header main
-    × (imports_list tree.imports ≡ import ∷ []) × (defs_list tree.defs ≡ main ∷ [])
+    × (tree.imports.items ≡ import ∷ []) × (tree.defs.items ≡ main ∷ [])
     × (tree.at ≡ place_of size start)

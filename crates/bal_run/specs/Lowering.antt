@@ -11,7 +11,6 @@ use Rattle.bal_tree.specs.declared.def.FileTree.{FileTree}
 use Rattle.bal_tree.specs.declared.def.Def.{Def}
 use Rattle.bal_tree.specs.declared.stmt.Stmt.{Stmt}
 use Rattle.bal_run.specs.Evaluation.{Evaluates, IsMain, Prints}
-use Rattle.bal_tree.specs.Lists.{defs_list}
 use Rattle.bal_run.specs.Sums.{IsSum, PrintsSum}
 use Rattle.stack_code.specs.declared.instr.Constant.{Constant}
 use Rattle.stack_code.specs.declared.instr.Constant.TheVariants.{Int as ConstantInt}
@@ -31,7 +30,7 @@ pub record Simulates (tree : FileTree) (code : Code) : Type 0 where
 -- the file's one definition is `main` with these statements, which print sums
 abbrev pub IsMainOf : FileTree → List Stmt → Type 0
 IsMainOf tree stmts =
-    (main : Def) × (defs_list tree.defs ≡ main ∷ []) × IsMain stmts main × AllByRecursion PrintsSum stmts
+    (main : Def) × (tree.defs.items ≡ main ∷ []) × IsMain stmts main × AllByRecursion PrintsSum stmts
 
 -- a run begins at the first instruction
 abbrev pub StartsAtZero : Code → Type 0

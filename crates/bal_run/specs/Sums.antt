@@ -12,7 +12,6 @@ use Rattle.bal_tree.specs.declared.stmt.Stmt.{Stmt}
 use Rattle.bal_tree.specs.declared.def.FileTree.{FileTree}
 use Rattle.bal_tree.specs.declared.def.Def.{Def}
 use Rattle.bal_run.specs.Evaluation.{Prints, PrintsBy, IsMain}
-use Rattle.bal_tree.specs.Lists.{defs_list}
 
 -- `+` and `*`
 abbrev pub IsSumOp : BinaryOp → Type 0
@@ -36,4 +35,4 @@ PrintsSum s = (e : Expr) × Prints s e × IsSum e
 -- the file's one definition is `main`, and its statements print sums
 abbrev pub IsSumProgram : FileTree → Type 0
 IsSumProgram tree =
-    (main : Def) × (stmts : List Stmt) × (defs_list tree.defs ≡ main ∷ []) × IsMain stmts main × AllByRecursion PrintsSum stmts
+    (main : Def) × (stmts : List Stmt) × (tree.defs.items ≡ main ∷ []) × IsMain stmts main × AllByRecursion PrintsSum stmts

@@ -4,7 +4,6 @@ ghost use Rattle.bal_tree.specs.declared.def.FileTree.{FileTree};
 ghost use Rattle.bal_run.specs.Sums.{IsSumProgram};
 ghost use Rattle.bal_tree.specs.declared.def.Def.{Def};
 ghost use Rattle.bal_tree.specs.declared.def.Import.{Import};
-ghost use Rattle.bal_run.specs.Files.{longest_file};
 ghost use Rattle.bal_run.specs.Form.{IsIoImport, IsMainFunction, ImportReads, MainReads, FileReads};
 
 mod lexeme;
@@ -12,11 +11,8 @@ mod literal;
 mod statement;
 mod sum;
 
-use bal_base::{Memory, Name, Place};
-use bal_tree::{
-    Body, Def, Defs, FileTree, FunctionDef, Import, Imports, ParamList, Params, Stmts, Word, Words,
-    Workers,
-};
+use bal_base::{MOST_FILE_BYTES, Memory, Name, Place};
+use bal_tree::{Body, Def, FileTree, FunctionDef, Import, Params, Stmt, Word};
 use lexeme::{
     import_first, import_second, import_word, lexeme, main_name_line, main_opening, place,
     skip_space,
@@ -39,7 +35,7 @@ fn io_import(alloc: Global, at: Place, first: Place, second: Place) -> Result<Im
             name: module,
             at: second,
         }),
-        more: Words::of(Vec::new(alloc)),
+        more: Vec::new(alloc),
         prefix: None,
         at,
     })
@@ -48,13 +44,13 @@ fn io_import(alloc: Global, at: Place, first: Place, second: Place) -> Result<Im
 /// The function `main` with these statements, and the places of its name and of its braces.
 fn main_function(
     alloc: Global,
-    stmts: Stmts,
+    stmts: Vec<Stmt>,
     at: Place,
     name: Place,
     start: Place,
     end: Place,
 ) -> Result<Def, Memory>
-    ensures { IfOk result (IsMainFunction stmts at name start end) }
+    ensures { IfOk result (IsMainFunction stmts.items at name start end) }
 {
     let main = Name::new(alloc, "main")?;
     Ok(Def::Function(FunctionDef {
@@ -65,14 +61,14 @@ fn main_function(
             at: name,
         },
         params: Params {
-            params: ParamList::of(Vec::new(alloc)),
+            params: Vec::new(alloc),
             rest: None,
         },
         result: None,
         body: Body::Block {
             stmts,
-            workers: Workers::of(Vec::new(alloc)),
-            rest: Stmts::of(Vec::new(alloc)),
+            workers: Vec::new(alloc),
+            rest: Vec::new(alloc),
             close: end,
             at: start,
         },
@@ -85,7 +81,7 @@ fn main_function(
 /// where each sum has up to 100 int literals, joined by `+` and `*`. Takes time linear in the number of bytes, and
 /// no memory but for the tree.
 pub fn read_file(alloc: Global, bytes: &[u8]) -> Result<Option<FileTree>, Memory>
-    requires { length bytes.now ≤ longest_file }
+    requires { length bytes.now ≤ MOST_FILE_BYTES }
     ensures read { IfOk result (λ o. IfSome o (FileReads bytes.now)) }
     ensures sums { IfOk result (λ o. IfSome o IsSumProgram) }
     ensures none { IfOk result (λ o. IfNone o ((tree : FileTree) → FileReads bytes.now tree → ⊥)) }
@@ -99,8 +95,8 @@ pub fn read_file(alloc: Global, bytes: &[u8]) -> Result<Option<FileTree>, Memory
         return Ok(None);
     };
     Ok(Some(FileTree {
-        imports: Imports::of(vec![in alloc; import]?),
-        defs: Defs::of(vec![in alloc; main]?),
+        imports: vec![in alloc; import]?,
+        defs: vec![in alloc; main]?,
         at: place(size, start),
     }))
 }
@@ -150,10 +146,9 @@ fn main(alloc: Global, size: u32, bytes: &[u8]) -> Result<Option<Def>, Memory>
         return Ok(None);
     }
     let (start, end) = (place(size, brace), place(size, body.brace));
-    let stmts = Stmts::of(body.stmts);
     let main = main_function(
         alloc,
-        stmts,
+        body.stmts,
         place(size, bytes),
         place(size, name),
         start,

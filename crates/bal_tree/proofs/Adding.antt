@@ -1,11 +1,86 @@
--- Adding the tokens of one part after those of another.
-use Rattle.std.proofs.Common.{◌≡◌, List, [], ◌∷◌, ◌++◌, refl, ap, append_assoc}
-use Rattle.bal_tree.specs.Pieces.{Piece, token, starts, kinds}
+-- Adding the tokens of one part behind those of another, in a row and in a loop.
+use Rattle.std.proofs.Common.{◌≡◌, ℕ, zero, suc, ◌+◌, ◌<◌, List, [], ◌∷◌, ◌++◌, length, get_or, take, map, refl, sym, ap, ◌∙◌, append_assoc, arith, Bool, true, false, Option, None, Some}
+use Rattle.std.proofs.Math.Bool.{not}
+use Rattle.std.proofs.Math.Dec.{eqb, ltb, eqb-suc-zero}
+use Rattle.std.proofs.lemmas.Bool.{lt-ltb}
+use Rattle.std.proofs.lemmas.List.{append-nil, map-append, take_more}
+use Rattle.std.specs.Global.{Box}
+use Rattle.bal_base.specs.declared.token.TokenKind.{TokenKind}
+use Rattle.bal_base.specs.declared.token.TokenKind.TheVariants.{Sign as SignKind}
+use Rattle.bal_base.specs.declared.token.Sign.{Sign}
+use Rattle.bal_base.specs.declared.token.Sign.TheVariants.{Comma}
+use Rattle.bal_tree.specs.Pieces.{Pieces, ◌&◌, sign_if, if_there, if_boxed, kinds, joined, behind, separated, Adds}
+use Rattle.bal_tree.specs.TypePieces.{with_last, with_last_boxed}
 
-pub kinds-append : (p q : List Piece) → kinds (p ++ q) ≡ kinds p ++ kinds q
-kinds-append [] q = refl
-kinds-append (token k ∷ p) q = ap (λ ks. k ∷ ks) (kinds-append p q)
-kinds-append (starts at ∷ p) q = kinds-append p q
+pub adds-both : (old mid new : List TokenKind) (p q : Pieces) → Adds old p mid → Adds mid q new → Adds old (p & q) new
+adds-both old mid new p q h k = k ∙ ap (λ ts. ts ++ kinds q) h ∙ append_assoc old (kinds p) (kinds q)
 
--- what a function needs that adds several parts one after another
-pub ruleset adding = (kinds-append, append_assoc)
+-- ---- one more part of a list
+
+joined-push : (ps : List Pieces) (q : Pieces) → kinds (joined (ps ++ q ∷ [])) ≡ kinds (joined ps & q)
+joined-push [] q = append-nil (kinds q)
+joined-push (p ∷ ps) q = ap (λ ks. kinds p ++ ks) (joined-push ps q) ∙ sym (append_assoc (kinds p) (kinds (joined ps)) (kinds q))
+
+behind-push : (s : Sign) (ps : List Pieces) (q : Pieces) → kinds (behind s (ps ++ q ∷ [])) ≡ kinds (behind s ps) ++ SignKind s ∷ kinds q
+behind-push s [] q = ap (λ ks. SignKind s ∷ ks) (append-nil (kinds q))
+behind-push s (p ∷ ps) q =
+    ap (λ ks. SignKind s ∷ (kinds p ++ ks)) (behind-push s ps q) ∙ ap (λ ks. SignKind s ∷ ks) (sym (append_assoc (kinds p) (kinds (behind s ps)) (SignKind s ∷ kinds q)))
+
+abbrev is_some_part : List Pieces → Bool
+is_some_part [] = false
+is_some_part (p ∷ ps) = true
+
+separated-push : (s : Sign) (ps : List Pieces) (q : Pieces) → kinds (separated s (ps ++ q ∷ [])) ≡ kinds (separated s ps & sign_if (is_some_part ps) s & q)
+separated-push s [] q = append-nil (kinds q)
+separated-push s (p ∷ ps) q = ap (λ ks. kinds p ++ ks) (behind-push s ps q) ∙ sym (append_assoc (kinds p) (kinds (behind s ps)) (SignKind s ∷ kinds q))
+
+module _ {X : Type 0} (f : X → Pieces) where
+  map-more : (xs : List X) (i : ℕ) (x : X) → i < length xs → x ≡ get_or xs i x → map f (take (i + 1) xs) ≡ map f (take i xs) ++ f x ∷ []
+  map-more xs i x lt is =
+      ap (map f) (take_more xs i x lt ∙ ap (λ y. take i xs ++ y ∷ []) (sym is)) ∙ map-append f (take i xs) (x ∷ [])
+
+  some_before : (xs : List X) (i : ℕ) → i < length xs → is_some_part (map f (take i xs)) ≡ ltb 0 i
+  some_before [] i lt = absurd (omega (arith, lt))
+  some_before (y ∷ ys) zero lt = refl
+  some_before (y ∷ ys) (suc i) lt = sym (lt-ltb 0 (suc i) (omega arith))
+
+  some_at_all : (xs : List X) → is_some_part (map f xs) ≡ not (eqb (length xs) 0)
+  some_at_all [] = refl
+  some_at_all (y ∷ ys) = sym (ap not (eqb-suc-zero (length ys)))
+
+  -- a step of a loop that adds the parts one behind the other
+  pub joined-more : (xs : List X) (i : ℕ) (x : X) (old mid new : List TokenKind) → i < length xs → x ≡ get_or xs i x → Adds old (joined (map f (take i xs))) mid → Adds mid (f x) new → Adds old (joined (map f (take (i + 1) xs))) new
+  joined-more xs i x old mid new lt is before next =
+      let ps = map f (take i xs) in
+      adds-both old mid new (joined ps) (f x) before next ∙ ap (λ ks. old ++ ks) (sym (ap (λ parts. kinds (joined parts)) (map-more xs i x lt is) ∙ joined-push ps (f x)))
+
+  -- a step of a loop that adds each part behind a sign
+  pub behind-more : (s : Sign) (xs : List X) (i : ℕ) (x : X) (old mid new : List TokenKind) → i < length xs → x ≡ get_or xs i x → Adds old (behind s (map f (take i xs))) mid → new ≡ mid ++ SignKind s ∷ kinds (f x) → Adds old (behind s (map f (take (i + 1) xs))) new
+  behind-more s xs i x old mid new lt is before next =
+      let ps = map f (take i xs) in
+      next ∙ ap (λ ts. ts ++ SignKind s ∷ kinds (f x)) before ∙ append_assoc old (kinds (behind s ps)) (SignKind s ∷ kinds (f x))
+      ∙ ap (λ ks. old ++ ks) (sym (ap (λ parts. kinds (behind s parts)) (map-more xs i x lt is) ∙ behind-push s ps (f x)))
+
+  -- a step of a loop that adds the sign and each part, and no sign before the first
+  pub separated-more : (s : Sign) (xs : List X) (i : ℕ) (x : X) (a b c d : List TokenKind) → i < length xs → x ≡ get_or xs i x → Adds a (separated s (map f (take i xs))) b → Adds b (sign_if (ltb 0 i) s) c → Adds c (f x) d → Adds a (separated s (map f (take (i + 1) xs))) d
+  separated-more s xs i x a b c d lt is before sign here =
+      let ps = map f (take i xs) in
+      adds-both a b d (separated s ps) (sign_if (ltb 0 i) s & f x) before (adds-both b c d (sign_if (ltb 0 i) s) (f x) sign here)
+      ∙ ap (λ ks. a ++ ks) (sym (ap (λ parts. kinds (separated s parts)) (map-more xs i x lt is) ∙ separated-push s ps (f x) ∙ ap (λ some. kinds (separated s ps & sign_if some s & f x)) (some_before xs i lt)))
+
+  -- ---- a list and what takes the rest behind it: the comma is there unless the list is empty
+
+  last_part : {Y : Type 0} (g : Y → Pieces) (xs : List X) (y : Y) → kinds (separated Comma (map f xs ++ g y ∷ [])) ≡ kinds (separated Comma (map f xs) & sign_if (not (eqb (length xs) 0)) Comma & g y)
+  last_part g xs y =
+      separated-push Comma (map f xs) (g y) ∙ ap (λ some. kinds (separated Comma (map f xs) & sign_if some Comma & g y)) (some_at_all xs)
+
+  pub with_last-kinds : {Y : Type 0} (g : Y → Pieces) (xs : List X) (rest : Option Y) → kinds (separated Comma (with_last g (map f xs) rest)) ≡ kinds (separated Comma (map f xs) & if_there (λ y. sign_if (not (eqb (length xs) 0)) Comma & g y) rest)
+  with_last-kinds g xs None = sym (append-nil (kinds (separated Comma (map f xs))))
+  with_last-kinds g xs (Some y) = last_part g xs y
+
+  pub with_last_boxed-kinds : {Y : Type 0} (g : Y → Pieces) (xs : List X) (rest : Option (Box Y)) → kinds (separated Comma (with_last_boxed g (map f xs) rest)) ≡ kinds (separated Comma (map f xs) & if_boxed (λ y. sign_if (not (eqb (length xs) 0)) Comma & g y) rest)
+  with_last_boxed-kinds g xs None = sym (append-nil (kinds (separated Comma (map f xs))))
+  with_last_boxed-kinds g xs (Some y) = last_part g xs y.value
+
+-- what a function needs that adds several parts one behind the other
+pub ruleset adding = (append_assoc, append-nil, with_last-kinds, with_last_boxed-kinds)

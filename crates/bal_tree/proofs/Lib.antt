@@ -1,11 +1,6 @@
 pub mod Adding
-pub mod ExprRows
-pub mod FormedRows
-pub mod Forming
-pub mod Joining
-pub mod Listing
-pub mod StmtFacts
-pub mod StmtRows
-pub mod Testing
-pub mod TypeRows
-pub mod TypeTests
+pub mod ExprLayers
+pub mod Forms
+pub mod Spelling
+pub mod StmtLayers
+pub mod TypeLayers

@@ -1,30 +1,48 @@
--- Parts of expressions, written out: what stands before others, in a list, or may be absent.
-use Rattle.std.specs.Prelude.{Bool, List, [], ◌∷◌, ◌++◌, Option, None, Some}
-use Rattle.std.specs.Global.{Box}
-use Rattle.bal_base.specs.declared.token.Keyword.TheVariants.{Function as FunctionKey, Isolated, Returns}
-use Rattle.bal_base.specs.declared.token.Sign.TheVariants.{Colon, Comma, Equal as EqualSign}
-use Rattle.bal_tree.specs.declared.params.Params.{Params}
-use Rattle.bal_tree.specs.declared.types.TypeTree.{TypeTree}
-use Rattle.bal_tree.specs.declared.expr.Expr.{Expr}
-use Rattle.bal_tree.specs.declared.expr.Member.{Member}
-use Rattle.bal_tree.specs.declared.expr.Detail.{Detail}
-use Rattle.bal_tree.specs.Pieces.{Piece, starts, key, key_if, sign}
-use Rattle.bal_tree.specs.NamePieces.{word_pieces}
-use Rattle.bal_tree.specs.TypePieces.{type_pieces, params_pieces}
-use Rattle.bal_tree.specs.ExprPieces.{expr_pieces, key_pieces}
+-- The parts of expressions, from left to right.
+use Rattle.std.specs.Prelude.{List, [], ◌∷◌, ◌++◌}
+use Rattle.bal_tree.specs.declared.expr.Call.TheOpen as layer
+use Rattle.bal_tree.specs.Parts.{Part, outside, inside, between, each_inside, part_if}
+use Rattle.bal_tree.specs.ExprLayers.{CallOf, ExprOf, KeyOf, PostfixOf, PrimaryOf, DetailOf, MemberOf}
 
--- `function (T a) returns R`, where `isolated` may stand before it
-abbrev pub function_head_pieces : Bool → Params → TypeTree → List Piece
-function_head_pieces isolated params result =
-    key_if isolated Isolated ++ key FunctionKey ∷ params_pieces params ++ key Returns ∷ type_pieces result
+module _ {A : Type 0} where
+  abbrev pub expr_parts : ExprOf A → List (Part A)
+  expr_parts (layer.Postfix e) = outside e ∷ []
+  expr_parts (layer.Prefix op operand at) = outside operand.value ∷ []
+  expr_parts (layer.Cast t operand at) = outside operand.value ∷ []
+  expr_parts (layer.Binary left op right at) = outside left.value ∷ outside right.value ∷ []
+  expr_parts (layer.TypeTest operand t at) = outside operand.value ∷ []
+  expr_parts (layer.Conditional condition middle last at) =
+      outside condition.value ∷ between middle.value ∷ outside last.value ∷ []
+  expr_parts (layer.Trap operand at) = outside operand.value ∷ []
+  expr_parts (layer.«Expr::Function» isolated params result value at) = outside value.value ∷ []
 
--- `, e`, or nothing
-abbrev pub optional_cause : Option (Box Expr) → List Piece
-optional_cause None = []
-optional_cause (Some e) = sign Comma ∷ expr_pieces e.value
+  abbrev pub postfix_parts : PostfixOf A → List (Part A)
+  postfix_parts (layer.Primary e) = outside e ∷ []
+  postfix_parts (layer.Call e) = outside e ∷ []
+  postfix_parts (layer.Field base field at) = outside base.value ∷ []
+  postfix_parts (layer.OptionalField base field at) = outside base.value ∷ []
+  postfix_parts (layer.Index base index at) = outside base.value ∷ inside index.value ∷ []
 
-abbrev pub member_pieces : Member → List Piece
-member_pieces m = starts m.at ∷ key_pieces m.key ++ sign Colon ∷ expr_pieces m.value
+  abbrev pub call_parts : CallOf A → List (Part A)
+  call_parts (layer.«Call::Function» callee args at) = outside callee.value ∷ each_inside args.items
+  call_parts (layer.Method receiver method args at) = outside receiver.value ∷ each_inside args.items
 
-abbrev pub detail_pieces : Detail → List Piece
-detail_pieces d = starts d.at ∷ word_pieces d.name ++ sign EqualSign ∷ expr_pieces d.value
+  abbrev pub primary_parts : PrimaryOf A → List (Part A)
+  primary_parts (layer.Literal l) = []
+  primary_parts (layer.Name n) = []
+  primary_parts (layer.Parens inner at) = inside inner.value ∷ []
+  primary_parts (layer.List items at) = each_inside items.items
+  primary_parts (layer.Mapping members at) = each_inside members.items
+  primary_parts (layer.Error message cause details at) =
+      inside message.value ∷ part_if inside cause ++ each_inside details.items
+
+  abbrev pub key_parts : KeyOf A → List (Part A)
+  key_parts (layer.Word w) = []
+  key_parts (layer.Str text at) = []
+  key_parts (layer.Computed value at) = inside value.value ∷ []
+
+  abbrev pub member_parts : MemberOf A → List (Part A)
+  member_parts m = outside m.key ∷ outside m.value.value ∷ []
+
+  abbrev pub detail_parts : DetailOf A → List (Part A)
+  detail_parts d = outside d.value.value ∷ []

@@ -1,25 +1,29 @@
--- Expressions, written out.
-use Rattle.std.specs.Prelude.{List, [], ◌∷◌, ◌++◌}
+-- Expressions, written out: one line for each form, in which the parts are already written out.
+use Rattle.std.specs.Prelude.{List, Bool}
 use Rattle.bal_base.specs.declared.token.TokenKind.TheVariants.{Str as StrKind}
-use Rattle.bal_base.specs.declared.token.Keyword.TheVariants.{Check as CheckKey, CheckPanic as CheckPanicKey, Is, Trap as TrapKey, Function as FunctionKey, Isolated, Returns, Error as ErrorKey}
+use Rattle.bal_base.specs.declared.token.Keyword.TheVariants.{Check as CheckKey, CheckPanic as CheckPanicKey, Is, Trap as TrapKey, Error as ErrorKey}
 use Rattle.bal_base.specs.declared.token.Sign.{Sign}
-use Rattle.bal_base.specs.declared.token.Sign.TheVariants.{Minus, Not as NotSign, Star, Slash, Percent, Plus, Less as LessSign, LessEqual as LessEqualSign, Greater as GreaterSign, GreaterEqual as GreaterEqualSign, DoubleEqual, NotEqual as NotEqualSign, TripleEqual, NotTripleEqual, DoubleAmpersand, DoubleBar, Elvis as ElvisSign, Question, Colon, FatArrow, OpenParen, CloseParen, OpenBracket, CloseBracket, OpenBrace, CloseBrace, Dot, QuestionDot, Comma, Equal as EqualSign}
+use Rattle.bal_base.specs.declared.token.Sign.TheVariants.{Minus, Not as NotSign, Star, Slash, Percent, Plus, Less as LessSign, LessEqual as LessEqualSign, Greater as GreaterSign, GreaterEqual as GreaterEqualSign, DoubleEqual, NotEqual as NotEqualSign, TripleEqual, NotTripleEqual, DoubleAmpersand, DoubleBar, Elvis as ElvisSign, Question, Colon, OpenParen, CloseParen, OpenBracket, CloseBracket, OpenBrace, CloseBrace, Dot, QuestionDot, Comma, FatArrow, Equal as EqualSign}
+use Rattle.bal_tree.specs.declared.params.Params.{Params}
+use Rattle.bal_tree.specs.declared.types.TypeTree.{TypeTree}
 use Rattle.bal_tree.specs.declared.expr.PrefixOp.{PrefixOp}
 use Rattle.bal_tree.specs.declared.expr.PrefixOp.TheVariants.{Negate, Not, Check, CheckPanic}
 use Rattle.bal_tree.specs.declared.expr.BinaryOp.{BinaryOp}
 use Rattle.bal_tree.specs.declared.expr.BinaryOp.TheVariants.{Multiply, Divide, Remainder, Add, Subtract, Less, LessEqual, Greater, GreaterEqual, Equal, NotEqual, Same, NotSame, And, Or, Elvis}
-use Rattle.bal_tree.specs.declared.expr.Expr.{Expr, Postfix, Prefix', Cast', Binary', TypeTest', Conditional', Trap', Function' as AnonymousFunction'}
-use Rattle.bal_tree.specs.declared.expr.Postfix.{Postfix as PostfixTree, Primary, Call, Field', OptionalField', Index'}
-use Rattle.bal_tree.specs.declared.expr.Call.{Call as CallTree, Function', Method', Row_of-Expr, end_of-Expr, more_of-Expr}
-use Rattle.bal_tree.specs.declared.expr.Primary.{Primary as PrimaryTree, Literal, Name, Parens', List', Mapping, Error', Held-Primary-Error-1 as HeldExpr, None' as NoExpr, Some' as SomeExpr}
-use Rattle.bal_tree.specs.declared.expr.Key.{Key, Word, Str, Computed'}
-use Rattle.bal_tree.specs.declared.expr.Members.{Members', Row_of-Member, end_of-Member, more_of-Member}
-use Rattle.bal_tree.specs.declared.expr.Details.{Details', Row_of-Detail, end_of-Detail, more_of-Detail}
-use Rattle.bal_tree.specs.Pieces.{Piece, token, starts, key, key_if, sign, behind, separated}
+use Rattle.bal_tree.specs.declared.expr.Call.{Call}
+use Rattle.bal_tree.specs.declared.expr.Call.TheOpen as layer
+use Rattle.bal_tree.specs.declared.expr.Expr.{Expr}
+use Rattle.bal_tree.specs.declared.expr.Key.{Key}
+use Rattle.bal_tree.specs.declared.expr.Postfix.{Postfix}
+use Rattle.bal_tree.specs.declared.expr.Primary.{Primary}
+use Rattle.bal_tree.specs.declared.expr.Detail.{Detail}
+use Rattle.bal_tree.specs.declared.expr.Member.{Member}
+use Rattle.bal_tree.specs.Pieces.{Pieces, token, starts, ◌&◌, key, sign, if_boxed, behind, separated}
 use Rattle.bal_tree.specs.NamePieces.{word_pieces, name_pieces, literal_pieces}
-use Rattle.bal_tree.specs.TypePieces.{type_pieces, params_pieces}
+use Rattle.bal_tree.specs.TypePieces.{in_angles, returning, function_word, type_pieces, params_pieces}
+use Rattle.bal_tree.specs.ExprLayers.{CallOf, ExprOf, KeyOf, PostfixOf, PrimaryOf, DetailOf, MemberOf, ExprSteps, of_call, of_expr, of_key, of_postfix, of_primary, of_detail, of_member}
 
-abbrev pub prefix_op : PrefixOp → Piece
+abbrev pub prefix_op : PrefixOp → Pieces
 prefix_op Negate = sign Minus
 prefix_op Not = sign NotSign
 prefix_op Check = key CheckKey
@@ -43,67 +47,94 @@ binary_sign And = DoubleAmpersand
 binary_sign Or = DoubleBar
 binary_sign Elvis = ElvisSign
 
-abbrev mutual
-  pub expr_pieces : Expr → List Piece
-  expr_pieces (Postfix e) = postfix_pieces e
-  expr_pieces (Prefix' op _ operand at) = starts at ∷ prefix_op op ∷ expr_pieces operand
-  expr_pieces (Cast' t _ operand at) = starts at ∷ sign LessSign ∷ type_pieces t.value ++ sign GreaterSign ∷ expr_pieces operand
-  expr_pieces (Binary' _ left op _ right at) = starts at ∷ expr_pieces left ++ sign (binary_sign op) ∷ expr_pieces right
-  expr_pieces (TypeTest' _ operand t at) = starts at ∷ expr_pieces operand ++ key Is ∷ type_pieces t.value
-  expr_pieces (Conditional' _ condition _ middle _ last at) =
-      starts at ∷ expr_pieces condition ++ sign Question ∷ expr_pieces middle ++ sign Colon ∷ expr_pieces last
-  expr_pieces (Trap' _ operand at) = starts at ∷ key TrapKey ∷ expr_pieces operand
-  expr_pieces (AnonymousFunction' isolated params result _ value at) =
-      starts at ∷ key_if isolated Isolated ++ key FunctionKey ∷ params_pieces params ++ key Returns ∷ type_pieces result.value
-      ++ sign FatArrow ∷ expr_pieces value
+-- `is T`
+abbrev pub type_test : TypeTree → Pieces
+type_test t = key Is & type_pieces t
 
-  pub postfix_pieces : PostfixTree → List Piece
-  postfix_pieces (Primary e) = primary_pieces e
-  postfix_pieces (Call e) = call_pieces e
-  postfix_pieces (Field' _ base field at) = starts at ∷ postfix_pieces base ++ sign Dot ∷ word_pieces field
-  postfix_pieces (OptionalField' _ base field at) = starts at ∷ postfix_pieces base ++ sign QuestionDot ∷ word_pieces field
-  postfix_pieces (Index' _ base _ index at) =
-      starts at ∷ postfix_pieces base ++ sign OpenBracket ∷ expr_pieces index ++ sign CloseBracket ∷ []
+-- `function (T a) returns R`, where `isolated` may stand before it
+abbrev pub function_head : Bool → Params → TypeTree → Pieces
+function_head isolated params result = function_word isolated & params_pieces params & returning (type_pieces result)
 
-  pub call_pieces : CallTree → List Piece
-  call_pieces (Function' _ callee _ args at) =
-      starts at ∷ postfix_pieces callee ++ sign OpenParen ∷ separated Comma (each_expr args) ++ sign CloseParen ∷ []
-  call_pieces (Method' _ receiver method _ args at) =
-      starts at ∷ postfix_pieces receiver ++ sign Dot ∷ word_pieces method ++ sign OpenParen
-      ∷ separated Comma (each_expr args) ++ sign CloseParen ∷ []
+-- `(a, b)`
+abbrev pub arguments : List Pieces → Pieces
+arguments args = sign OpenParen & separated Comma args & sign CloseParen
 
-  pub primary_pieces : PrimaryTree → List Piece
-  primary_pieces (Literal l) = literal_pieces l
-  primary_pieces (Name n) = name_pieces n
-  primary_pieces (Parens' _ inner at) = starts at ∷ sign OpenParen ∷ expr_pieces inner ++ sign CloseParen ∷ []
-  primary_pieces (List' _ items at) =
-      starts at ∷ sign OpenBracket ∷ separated Comma (each_expr items) ++ sign CloseBracket ∷ []
-  primary_pieces (Mapping (Members' _ members) at) =
-      starts at ∷ sign OpenBrace ∷ separated Comma (each_member members) ++ sign CloseBrace ∷ []
-  primary_pieces (Error' _ message cause (Details' _ details) at) =
-      starts at ∷ key ErrorKey ∷ sign OpenParen ∷ expr_pieces message ++ cause_pieces cause
-      ++ behind Comma (each_detail details) ++ sign CloseParen ∷ []
+-- `, e`
+abbrev pub as_next : Pieces → Pieces
+as_next e = sign Comma & e
 
-  pub each_expr : {n : _} → Row_of-Expr n → List (List Piece)
-  each_expr end_of-Expr = []
-  each_expr (more_of-Expr e rest) = expr_pieces e ∷ each_expr rest
+abbrev pub expr_step : ExprOf Pieces → Pieces
+expr_step (layer.Postfix e) = e
+expr_step (layer.Prefix op operand at) = starts at & prefix_op op & operand.value
+expr_step (layer.Cast t operand at) = starts at & in_angles (type_pieces t.value) & operand.value
+expr_step (layer.Binary left op right at) = starts at & left.value & sign (binary_sign op) & right.value
+expr_step (layer.TypeTest operand t at) = starts at & operand.value & type_test t.value
+expr_step (layer.Conditional condition middle last at) =
+    starts at & condition.value & sign Question & middle.value & sign Colon & last.value
+expr_step (layer.Trap operand at) = starts at & key TrapKey & operand.value
+expr_step (layer.«Expr::Function» isolated params result value at) =
+    starts at & function_head isolated params result.value & sign FatArrow & value.value
 
-  -- `, e`, or nothing
-  pub cause_pieces : HeldExpr → List Piece
-  cause_pieces NoExpr = []
-  cause_pieces (SomeExpr _ e) = sign Comma ∷ expr_pieces e
+abbrev pub postfix_step : PostfixOf Pieces → Pieces
+postfix_step (layer.Primary e) = e
+postfix_step (layer.Call e) = e
+postfix_step (layer.Field base field at) = starts at & base.value & sign Dot & word_pieces field
+postfix_step (layer.OptionalField base field at) = starts at & base.value & sign QuestionDot & word_pieces field
+postfix_step (layer.Index base index at) = starts at & base.value & sign OpenBracket & index.value & sign CloseBracket
 
-  pub key_pieces : Key → List Piece
-  key_pieces (Word w) = word_pieces w
-  key_pieces (Str text at) = starts at ∷ token (StrKind text) ∷ []
-  key_pieces (Computed' _ e at) = starts at ∷ sign OpenBracket ∷ expr_pieces e ++ sign CloseBracket ∷ []
+abbrev pub call_step : CallOf Pieces → Pieces
+call_step (layer.«Call::Function» callee args at) = starts at & callee.value & arguments args.items
+call_step (layer.Method receiver method args at) =
+    starts at & receiver.value & sign Dot & word_pieces method & arguments args.items
 
-  pub each_member : {n : _} → Row_of-Member n → List (List Piece)
-  each_member end_of-Member = []
-  each_member (more_of-Member k value at rest) =
-      (starts at ∷ key_pieces k ++ sign Colon ∷ expr_pieces value) ∷ each_member rest
+abbrev pub primary_step : PrimaryOf Pieces → Pieces
+primary_step (layer.Literal l) = literal_pieces l
+primary_step (layer.Name n) = name_pieces n
+primary_step (layer.Parens inner at) = starts at & sign OpenParen & inner.value & sign CloseParen
+primary_step (layer.List items at) = starts at & sign OpenBracket & separated Comma items.items & sign CloseBracket
+primary_step (layer.Mapping members at) = starts at & sign OpenBrace & separated Comma members.items & sign CloseBrace
+primary_step (layer.Error message cause details at) =
+    starts at & key ErrorKey & sign OpenParen & message.value & if_boxed as_next cause & behind Comma details.items & sign CloseParen
 
-  pub each_detail : {n : _} → Row_of-Detail n → List (List Piece)
-  each_detail end_of-Detail = []
-  each_detail (more_of-Detail name value at rest) =
-      (starts at ∷ word_pieces name ++ sign EqualSign ∷ expr_pieces value) ∷ each_detail rest
+abbrev pub key_step : KeyOf Pieces → Pieces
+key_step (layer.Word w) = word_pieces w
+key_step (layer.Str text at) = starts at & token (StrKind text)
+key_step (layer.Computed value at) = starts at & sign OpenBracket & value.value & sign CloseBracket
+
+abbrev pub member_step : MemberOf Pieces → Pieces
+member_step m = starts m.at & m.key & sign Colon & m.value.value
+
+abbrev pub detail_step : DetailOf Pieces → Pieces
+detail_step d = starts d.at & word_pieces d.name & sign EqualSign & d.value.value
+
+abbrev pub writing : ExprSteps Pieces
+writing = record {
+  expr = expr_step;
+  postfix = postfix_step;
+  call = call_step;
+  primary = primary_step;
+  key = key_step;
+  member = member_step;
+  detail = detail_step;
+}
+
+abbrev pub expr_pieces : Expr → Pieces
+expr_pieces = of_expr writing
+
+abbrev pub postfix_pieces : Postfix → Pieces
+postfix_pieces = of_postfix writing
+
+abbrev pub call_pieces : Call → Pieces
+call_pieces = of_call writing
+
+abbrev pub primary_pieces : Primary → Pieces
+primary_pieces = of_primary writing
+
+abbrev pub key_pieces : Key → Pieces
+key_pieces = of_key writing
+
+abbrev pub member_pieces : Member → Pieces
+member_pieces = of_member writing
+
+abbrev pub detail_pieces : Detail → Pieces
+detail_pieces = of_detail writing

@@ -1,66 +1,62 @@
--- The levels of expressions, from the tightest to the loosest.
-use Rattle.std.specs.Prelude.{ℕ}
+-- The levels of expressions, from the tightest to the loosest, and the operands that an operator takes.
+use Rattle.std.specs.Prelude.{ℕ, Bool, ◌&&◌, nat_lt, nat_le}
+use Rattle.bal_tree.specs.declared.level.Level.{Level}
+use Rattle.bal_tree.specs.declared.level.Level.TheVariants.{Postfix, Prefix, Product, Sum, Comparison, Equality, Conjunction, Disjunction, Elvis as ElvisLevel, Conditional, Loosest}
+use Rattle.bal_tree.specs.declared.level.Grouping.{Grouping}
+use Rattle.bal_tree.specs.declared.level.Grouping.TheVariants.{ToLeft, ToRight, NotAtAll}
 use Rattle.bal_tree.specs.declared.expr.BinaryOp.{BinaryOp}
 use Rattle.bal_tree.specs.declared.expr.BinaryOp.TheVariants.{Multiply, Divide, Remainder, Add, Subtract, Less, LessEqual, Greater, GreaterEqual, Equal, NotEqual, Same, NotSame, And, Or, Elvis}
-use Rattle.bal_tree.specs.declared.expr.Expr.{Expr, Postfix, Prefix', Cast', Binary', TypeTest', Conditional', Trap', Function'}
 
-abbrev pub postfix_level : ℕ
-postfix_level = 0
+abbrev pub rank : Level → ℕ
+rank Postfix = 0
+rank Prefix = 1
+rank Product = 2
+rank Sum = 3
+rank Comparison = 4
+rank Equality = 5
+rank Conjunction = 6
+rank Disjunction = 7
+rank ElvisLevel = 8
+rank Conditional = 9
+rank Loosest = 10
 
-abbrev pub prefix_level : ℕ
-prefix_level = 1
+unfoldable pub is_tighter : Level → Level → Bool
+is_tighter a b = nat_lt (rank a) (rank b)
 
-abbrev pub product_level : ℕ
-product_level = 2
+unfoldable pub is_no_looser : Level → Level → Bool
+is_no_looser a b = nat_le (rank a) (rank b)
 
-abbrev pub sum_level : ℕ
-sum_level = 3
+-- how an operator binds: its level, and how operators of the level group
+pub record Binding : Type 0 where
+  pub level : Level
+  pub grouping : Grouping
 
-abbrev pub comparison_level : ℕ
-comparison_level = 4
+abbrev pub to_left : Level → Binding
+to_left l = record { level = l; grouping = ToLeft }
 
-abbrev pub equality_level : ℕ
-equality_level = 5
+abbrev pub binding : BinaryOp → Binding
+binding Multiply = to_left Product
+binding Divide = to_left Product
+binding Remainder = to_left Product
+binding Add = to_left Sum
+binding Subtract = to_left Sum
+binding Less = record { level = Comparison; grouping = NotAtAll }
+binding LessEqual = record { level = Comparison; grouping = NotAtAll }
+binding Greater = record { level = Comparison; grouping = NotAtAll }
+binding GreaterEqual = record { level = Comparison; grouping = NotAtAll }
+binding Equal = to_left Equality
+binding NotEqual = to_left Equality
+binding Same = to_left Equality
+binding NotSame = to_left Equality
+binding And = to_left Conjunction
+binding Or = to_left Disjunction
+binding Elvis = record { level = ElvisLevel; grouping = ToRight }
 
-abbrev pub conjunction_level : ℕ
-conjunction_level = 6
+-- operands of these levels may stand on the two sides of an operator of this level
+abbrev pub takes_by : Grouping → Level → Level → Level → Bool
+takes_by ToLeft l left right = is_no_looser left l && is_tighter right l
+takes_by ToRight l left right = is_tighter left l && is_no_looser right l
+takes_by NotAtAll l left right = is_tighter left l && is_tighter right l
 
-abbrev pub disjunction_level : ℕ
-disjunction_level = 7
-
-abbrev pub elvis_level : ℕ
-elvis_level = 8
-
-abbrev pub conditional_level : ℕ
-conditional_level = 9
-
-abbrev pub loosest_level : ℕ
-loosest_level = 10
-
-abbrev pub op_level : BinaryOp → ℕ
-op_level Multiply = product_level
-op_level Divide = product_level
-op_level Remainder = product_level
-op_level Add = sum_level
-op_level Subtract = sum_level
-op_level Less = comparison_level
-op_level LessEqual = comparison_level
-op_level Greater = comparison_level
-op_level GreaterEqual = comparison_level
-op_level Equal = equality_level
-op_level NotEqual = equality_level
-op_level Same = equality_level
-op_level NotSame = equality_level
-op_level And = conjunction_level
-op_level Or = disjunction_level
-op_level Elvis = elvis_level
-
-abbrev pub level : Expr → ℕ
-level (Postfix e) = postfix_level
-level (Prefix' op _ operand at) = prefix_level
-level (Cast' t _ operand at) = prefix_level
-level (Binary' _ left op _ right at) = op_level op
-level (TypeTest' _ operand t at) = comparison_level
-level (Conditional' _ condition _ middle _ last at) = conditional_level
-level (Trap' _ operand at) = loosest_level
-level (Function' isolated params result _ value at) = loosest_level
+unfoldable pub takes : BinaryOp → Level → Level → Bool
+takes op left right = takes_by (binding op).grouping (binding op).level left right

@@ -1,25 +1,35 @@
--- These tokens read as this tree.
-use Rattle.std.specs.Prelude.{◌≡◌, ℕ, ⊤, List, [], ◌∷◌}
-use Rattle.bal_base.specs.declared.place.Place.{Place}
+-- Which tokens of the file with this number read as which tree: it is well formed, and the tokens are its own and behind them
+-- the rest.
+use Rattle.std.specs.Prelude.{◌≡◌, ℕ, true, false, List, []}
 use Rattle.bal_base.specs.declared.token.Token.{Token}
+use Rattle.bal_tree.specs.declared.types.TypeTree.{TypeTree}
+use Rattle.bal_tree.specs.declared.expr.Expr.{Expr}
+use Rattle.bal_tree.specs.declared.stmt.Stmt.{Stmt}
+use Rattle.bal_tree.specs.declared.def.Def.{Def}
 use Rattle.bal_tree.specs.declared.def.FileTree.{FileTree}
-use Rattle.bal_tree.specs.Pieces.{Piece, token, starts}
-use Rattle.bal_tree.specs.DefPieces.{file_pieces}
-use Rattle.bal_tree.specs.WellFormed.{WellFormed}
+use Rattle.bal_tree.specs.TypePieces.{type_pieces}
+use Rattle.bal_tree.specs.TypeRules.{type_is_formed}
+use Rattle.bal_tree.specs.ExprPieces.{expr_pieces}
+use Rattle.bal_tree.specs.ExprRules.{expr_is_formed}
+use Rattle.bal_tree.specs.StmtPieces.{stmt_pieces}
+use Rattle.bal_tree.specs.StmtRules.{stmt_is_formed}
+use Rattle.bal_tree.specs.DefPieces.{def_pieces, file_pieces}
+use Rattle.bal_tree.specs.DefRules.{def_is_formed, file_is_formed}
+use Rattle.bal_tree.specs.Spells.{Spells}
 
--- the place of the first of these tokens of the file with this number; where there is none, the file's start
-abbrev pub first_place : ℕ → List Token → Place
-first_place file [] = record { file = file; at = 0 }
-first_place file (t ∷ tokens) = record { file = file; at = t.at }
+module _ (file : ℕ) where
+  abbrev pub ReadsType : List Token → TypeTree → List Token → Type 0
+  ReadsType tokens t rest = (type_is_formed t false ≡ true) × Spells file (type_pieces t) tokens rest
 
--- the tokens of the pieces are these tokens, and each place is that of the token behind it
-abbrev pub Matches : ℕ → List Piece → List Token → Type 0
-Matches file [] [] = ⊤
-Matches file (starts at ∷ pieces) tokens = (at ≡ first_place file tokens) × Matches file pieces tokens
-Matches file (token kind ∷ pieces) (t ∷ tokens) = (t.kind ≡ kind) × Matches file pieces tokens
-Matches file _ _ = ⊥
+  abbrev pub ReadsExpr : List Token → Expr → List Token → Type 0
+  ReadsExpr tokens e rest = (expr_is_formed e false ≡ true) × Spells file (expr_pieces e) tokens rest
 
--- the tokens of the file with this number read as the tree: it is well formed, its tokens are these, and each
--- part of it has the place of its first token
-abbrev pub Reads : ℕ → List Token → FileTree → Type 0
-Reads file tokens tree = WellFormed tree × Matches file (file_pieces tree) tokens
+  abbrev pub ReadsStmt : List Token → Stmt → List Token → Type 0
+  ReadsStmt tokens s rest = (stmt_is_formed s ≡ true) × Spells file (stmt_pieces s) tokens rest
+
+  abbrev pub ReadsDef : List Token → Def → List Token → Type 0
+  ReadsDef tokens d rest = (def_is_formed d ≡ true) × Spells file (def_pieces d) tokens rest
+
+  -- all the tokens
+  abbrev pub Reads : List Token → FileTree → Type 0
+  Reads tokens f = (file_is_formed f ≡ true) × Spells file (file_pieces f) tokens []

@@ -1,46 +1,44 @@
--- The parts of type descriptors that code takes on their own: lists, options, and what stands in brackets.
-use Rattle.std.specs.Prelude.{List, [], ◌∷◌, ◌++◌, Option, None, Some, Bool}
-use Rattle.std.specs.declared.boxed.Box.{Box}
-use Rattle.std.specs.declared.alloc.Global.{Global}
-use Rattle.bal_base.specs.declared.token.Keyword.TheVariants.{Record as RecordKey, Function as FunctionKey, Isolated as IsolatedKey}
-use Rattle.bal_base.specs.declared.token.Sign.TheVariants.{Comma, Less, Greater, OpenBrace, CloseBrace, Ellipsis, Semicolon, Question}
-use Rattle.bal_tree.specs.declared.types.TypeTree.{TypeTree}
-use Rattle.bal_tree.specs.declared.types.PrimaryType.{Held-PrimaryType-Error-0 as HeldType, None' as NoType, Some' as SomeType, back-PrimaryType-Error-0 as the_held}
-use Rattle.bal_tree.specs.declared.types.FieldTree.{FieldTree}
-use Rattle.bal_tree.specs.declared.types.FieldTrees.{FieldTrees}
-use Rattle.bal_tree.specs.declared.types.ParamType.{ParamType}
-use Rattle.bal_tree.specs.declared.params.Param.{Param}
-use Rattle.bal_tree.specs.Pieces.{Piece, starts, key, key_if, sign, sign_if}
-use Rattle.bal_tree.specs.NamePieces.{word_pieces}
-use Rattle.bal_tree.specs.TypePieces.{type_pieces, fields_pieces, optional_word, rest_param_pieces}
+-- The parts of type descriptors, from left to right.
+use Rattle.std.specs.Prelude.{List, [], ◌∷◌, ◌++◌}
+use Rattle.bal_tree.specs.declared.types.IntersectionType.TheOpen as layer
+use Rattle.bal_tree.specs.Parts.{Part, outside, inside, each_inside, part_if}
+use Rattle.bal_tree.specs.TypeLayers.{IntersectionTypeOf, PostfixTypeOf, PrimaryTypeOf, TypeTreeOf, FieldTreeOf, ParamTypeOf, ParamTypesOf}
 
--- an optional type, as the trees hold it
-abbrev pub held : Option (Box TypeTree Global) → HeldType
-held t = the_held t
+module _ {A : Type 0} where
+  abbrev pub type_parts : TypeTreeOf A → List (Part A)
+  type_parts (layer.Intersection t) = outside t ∷ []
+  type_parts (layer.Union left right at) = outside left.value ∷ outside right.value ∷ []
 
-abbrev pub in_angles : TypeTree → List Piece
-in_angles t = sign Less ∷ type_pieces t ++ sign Greater ∷ []
+  abbrev pub intersection_parts : IntersectionTypeOf A → List (Part A)
+  intersection_parts (layer.Postfix t) = outside t ∷ []
+  intersection_parts (layer.Both left right at) = outside left.value ∷ outside right.value ∷ []
 
-abbrev pub open_record_pieces : FieldTrees → List Piece
-open_record_pieces fields = key RecordKey ∷ sign OpenBrace ∷ fields_pieces fields ++ sign CloseBrace ∷ []
+  abbrev pub postfix_parts : PostfixTypeOf A → List (Part A)
+  postfix_parts (layer.Primary t) = outside t ∷ []
+  postfix_parts (layer.Optional of at) = outside of.value ∷ []
+  postfix_parts (layer.Array member at) = outside member.value ∷ []
+  postfix_parts (layer.FixedArray member n at) = outside member.value ∷ []
 
-abbrev pub function_word : Bool → List Piece
-function_word isolated = key_if isolated IsolatedKey ++ key FunctionKey ∷ []
+  abbrev pub primary_parts : PrimaryTypeOf A → List (Part A)
+  primary_parts (layer.Builtin b at) = []
+  primary_parts (layer.Literal l) = []
+  primary_parts (layer.Negative n at) = []
+  primary_parts (layer.Parens inner at) = inside inner.value ∷ []
+  primary_parts (layer.Name n) = []
+  primary_parts (layer.Map member at) = outside member.value ∷ []
+  primary_parts (layer.Future result at) = outside result.value ∷ []
+  primary_parts (layer.Error detail at) = part_if outside detail
+  primary_parts (layer.Tuple members rest at) = each_inside members.items ++ part_if inside rest
+  primary_parts (layer.ClosedRecord fields rest at) = each_inside fields.items ++ part_if inside rest
+  primary_parts (layer.OpenRecord fields at) = each_inside fields.items
+  primary_parts (layer.AnyFunction isolated at) = []
+  primary_parts (layer.Function isolated params result at) = inside params ∷ part_if outside result
 
-abbrev pub field_pieces : FieldTree → List Piece
-field_pieces f = starts f.at ∷ type_pieces f.ty ++ word_pieces f.name ++ sign_if f.optional Question ++ sign Semicolon ∷ []
+  abbrev pub field_parts : FieldTreeOf A → List (Part A)
+  field_parts f = outside f.ty.value ∷ []
 
-abbrev pub param_type_pieces : ParamType → List Piece
-param_type_pieces p = starts p.at ∷ type_pieces p.ty ++ optional_word p.name
+  abbrev pub param_type_parts : ParamTypeOf A → List (Part A)
+  param_type_parts p = outside p.ty.value ∷ []
 
--- ---- what stands behind a list, after a comma unless the list is empty
-
--- `T...`, or nothing
-abbrev pub rest_type_pieces : Bool → HeldType → List Piece
-rest_type_pieces comma NoType = []
-rest_type_pieces comma (SomeType _ t) = sign_if comma Comma ++ type_pieces t ++ sign Ellipsis ∷ []
-
--- `T... a`, or nothing
-abbrev pub last_param_pieces : Bool → Option Param → List Piece
-last_param_pieces comma None = []
-last_param_pieces comma (Some p) = sign_if comma Comma ++ rest_param_pieces p
+  abbrev pub param_types_parts : ParamTypesOf A → List (Part A)
+  param_types_parts p = each_inside p.params.items ++ part_if inside p.rest

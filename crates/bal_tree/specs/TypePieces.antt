@@ -1,24 +1,25 @@
--- Type descriptors and parameters, written out.
-use Rattle.std.specs.Prelude.{List, [], ◌∷◌, ◌++◌, Option, None, Some, map}
+-- Type descriptors and parameters, written out: one line for each form, in which the parts are already written out.
+use Rattle.std.specs.Prelude.{List, [], ◌∷◌, ◌++◌, Bool, Option, None, Some, map}
+use Rattle.std.specs.Global.{Box}
 use Rattle.bal_base.specs.declared.token.TokenKind.TheVariants.{Int as IntKind}
 use Rattle.bal_base.specs.declared.token.Keyword.{Keyword}
 use Rattle.bal_base.specs.declared.token.Keyword.TheVariants.{Int as IntKey, String as StringKey, Boolean as BooleanKey, Byte as ByteKey, Any as AnyKey, AnyData as AnyDataKey, Never as NeverKey, ReadOnly as ReadOnlyKey, Map as MapKey, Future as FutureKey, Error as ErrorKey, Record as RecordKey, Function as FunctionKey, Isolated as IsolatedKey, Returns as ReturnsKey}
 use Rattle.bal_base.specs.declared.token.Sign.TheVariants.{Bar, Ampersand, Question, OpenBracket, CloseBracket, Minus, OpenParen, CloseParen, Less, Greater, OpenBrace, CloseBrace, OpenBraceBar, CloseBraceBar, Ellipsis, Semicolon, Comma}
-use Rattle.bal_tree.specs.declared.name.Word.{Word}
-use Rattle.bal_tree.specs.declared.types.TypeTree.{TypeTree, Intersection, Union'}
-use Rattle.bal_tree.specs.declared.types.IntersectionType.{IntersectionType, Postfix, Both'}
-use Rattle.bal_tree.specs.declared.types.PostfixType.{PostfixType, Primary, Optional', Array', FixedArray'}
-use Rattle.bal_tree.specs.declared.types.PrimaryType.{PrimaryType, Builtin, Literal, Negative, Parens', Name, Map', Future', Error', Tuple', ClosedRecord', OpenRecord, AnyFunction, Function', Held-PrimaryType-Error-0 as HeldType, None' as NoType, Some' as SomeType, Row_of-TypeTree, end_of-TypeTree, more_of-TypeTree}
 use Rattle.bal_tree.specs.declared.types.BuiltinType.{BuiltinType}
 use Rattle.bal_tree.specs.declared.types.BuiltinType.TheVariants.{Int, String, Boolean, Byte, Any, AnyData, Never, ReadOnly}
-use Rattle.bal_tree.specs.declared.types.FieldTrees.{FieldTrees, FieldTrees', Row_of-FieldTree, end_of-FieldTree, more_of-FieldTree}
-use Rattle.bal_tree.specs.declared.types.ParamTypeList.{ParamTypeList', Row_of-ParamType, end_of-ParamType, more_of-ParamType}
-use Rattle.bal_tree.specs.declared.types.ParamTypes.{ParamTypes, ParamTypes'}
+use Rattle.bal_tree.specs.declared.types.IntersectionType.{IntersectionType}
+use Rattle.bal_tree.specs.declared.types.IntersectionType.TheOpen as layer
+use Rattle.bal_tree.specs.declared.types.PostfixType.{PostfixType}
+use Rattle.bal_tree.specs.declared.types.PrimaryType.{PrimaryType}
+use Rattle.bal_tree.specs.declared.types.TypeTree.{TypeTree}
+use Rattle.bal_tree.specs.declared.types.FieldTree.{FieldTree}
+use Rattle.bal_tree.specs.declared.types.ParamType.{ParamType}
+use Rattle.bal_tree.specs.declared.types.ParamTypes.{ParamTypes}
 use Rattle.bal_tree.specs.declared.params.Param.{Param}
 use Rattle.bal_tree.specs.declared.params.Params.{Params}
-use Rattle.bal_tree.specs.Lists.{params_list}
-use Rattle.bal_tree.specs.Pieces.{Piece, token, starts, key, key_if, sign, sign_if, joined, separated, with_rest}
+use Rattle.bal_tree.specs.Pieces.{Pieces, token, starts, ◌&◌, key, key_if, sign, sign_if, if_there, if_boxed, joined, separated}
 use Rattle.bal_tree.specs.NamePieces.{word_pieces, name_pieces, literal_pieces}
+use Rattle.bal_tree.specs.TypeLayers.{IntersectionTypeOf, PostfixTypeOf, PrimaryTypeOf, TypeTreeOf, FieldTreeOf, ParamTypeOf, ParamTypesOf, TypeSteps, of_intersection_type, of_postfix_type, of_primary_type, of_type_tree, of_field_tree, of_param_type, of_param_types}
 
 abbrev pub builtin_key : BuiltinType → Keyword
 builtin_key Int = IntKey
@@ -30,96 +31,114 @@ builtin_key AnyData = AnyDataKey
 builtin_key Never = NeverKey
 builtin_key ReadOnly = ReadOnlyKey
 
-abbrev pub optional_word : Option Word → List Piece
-optional_word None = []
-optional_word (Some w) = word_pieces w
+-- `<T>`
+abbrev pub in_angles : Pieces → Pieces
+in_angles t = sign Less & t & sign Greater
 
-abbrev mutual
-  pub type_pieces : TypeTree → List Piece
-  type_pieces (Intersection t) = intersection_pieces t
-  type_pieces (Union' _ left _ right at) = starts at ∷ type_pieces left ++ sign Bar ∷ intersection_pieces right
+-- `returns T`
+abbrev pub returning : Pieces → Pieces
+returning t = key ReturnsKey & t
 
-  pub intersection_pieces : IntersectionType → List Piece
-  intersection_pieces (Postfix t) = postfix_type_pieces t
-  intersection_pieces (Both' _ left _ right at) = starts at ∷ intersection_pieces left ++ sign Ampersand ∷ postfix_type_pieces right
+-- `T...`
+abbrev pub as_rest : Pieces → Pieces
+as_rest t = t & sign Ellipsis
 
-  pub postfix_type_pieces : PostfixType → List Piece
-  postfix_type_pieces (Primary t) = primary_type_pieces t
-  postfix_type_pieces (Optional' _ of at) = starts at ∷ postfix_type_pieces of ++ sign Question ∷ []
-  postfix_type_pieces (Array' _ member at) = starts at ∷ postfix_type_pieces member ++ sign OpenBracket ∷ sign CloseBracket ∷ []
-  postfix_type_pieces (FixedArray' _ member n at) =
-      starts at ∷ postfix_type_pieces member ++ sign OpenBracket ∷ token (IntKind n) ∷ sign CloseBracket ∷ []
+-- `function`, behind `isolated` where it is there
+abbrev pub function_word : Bool → Pieces
+function_word isolated = key_if isolated IsolatedKey & key FunctionKey
 
-  pub primary_type_pieces : PrimaryType → List Piece
-  primary_type_pieces (Builtin b at) = starts at ∷ key (builtin_key b) ∷ []
-  primary_type_pieces (Literal l) = literal_pieces l
-  primary_type_pieces (Negative n at) = starts at ∷ sign Minus ∷ token (IntKind n) ∷ []
-  primary_type_pieces (Parens' _ inner at) = starts at ∷ sign OpenParen ∷ type_pieces inner ++ sign CloseParen ∷ []
-  primary_type_pieces (Name n) = name_pieces n
-  primary_type_pieces (Map' _ member at) = starts at ∷ key MapKey ∷ sign Less ∷ type_pieces member ++ sign Greater ∷ []
-  primary_type_pieces (Future' _ result at) = starts at ∷ key FutureKey ∷ sign Less ∷ type_pieces result ++ sign Greater ∷ []
-  primary_type_pieces (Error' detail at) = starts at ∷ key ErrorKey ∷ detail_type_pieces detail
-  primary_type_pieces (Tuple' _ members rest at) =
-      starts at ∷ sign OpenBracket ∷ listed_types (each_type members) rest ++ sign CloseBracket ∷ []
-  primary_type_pieces (ClosedRecord' fields rest at) =
-      starts at ∷ key RecordKey ∷ sign OpenBraceBar ∷ fields_pieces fields ++ rest_field_pieces rest ++ sign CloseBraceBar ∷ []
-  primary_type_pieces (OpenRecord fields at) =
-      starts at ∷ key RecordKey ∷ sign OpenBrace ∷ fields_pieces fields ++ sign CloseBrace ∷ []
-  primary_type_pieces (AnyFunction isolated at) = starts at ∷ key_if isolated IsolatedKey ++ key FunctionKey ∷ []
-  primary_type_pieces (Function' isolated params result at) =
-      starts at ∷ key_if isolated IsolatedKey ++ key FunctionKey ∷ param_types_pieces params ++ result_pieces result
+-- the members of a list, and what takes the rest as the last of them
+module _ {X : Type 0} (f : X → Pieces) where
+  abbrev pub with_last : List Pieces → Option X → List Pieces
+  with_last parts None = parts
+  with_last parts (Some x) = parts ++ f x ∷ []
 
-  pub each_type : {n : _} → Row_of-TypeTree n → List (List Piece)
-  each_type end_of-TypeTree = []
-  each_type (more_of-TypeTree t rest) = type_pieces t ∷ each_type rest
+  abbrev pub with_last_boxed : List Pieces → Option (Box X) → List Pieces
+  with_last_boxed parts None = parts
+  with_last_boxed parts (Some x) = parts ++ f x.value ∷ []
 
-  -- `<T>`, or nothing
-  pub detail_type_pieces : HeldType → List Piece
-  detail_type_pieces NoType = []
-  detail_type_pieces (SomeType _ t) = sign Less ∷ type_pieces t ++ sign Greater ∷ []
+abbrev pub type_step : TypeTreeOf Pieces → Pieces
+type_step (layer.Intersection t) = t
+type_step (layer.Union left right at) = starts at & left.value & sign Bar & right.value
 
-  -- `returns T`, or nothing
-  pub result_pieces : HeldType → List Piece
-  result_pieces NoType = []
-  result_pieces (SomeType _ t) = key ReturnsKey ∷ type_pieces t
+abbrev pub intersection_step : IntersectionTypeOf Pieces → Pieces
+intersection_step (layer.Postfix t) = t
+intersection_step (layer.Both left right at) = starts at & left.value & sign Ampersand & right.value
 
-  -- a list, and behind it `T...` where there is a rest
-  pub listed_types : List (List Piece) → HeldType → List Piece
-  listed_types parts NoType = separated Comma parts
-  listed_types parts (SomeType _ t) = with_rest parts (type_pieces t ++ sign Ellipsis ∷ [])
+abbrev pub postfix_step : PostfixTypeOf Pieces → Pieces
+postfix_step (layer.Primary t) = t
+postfix_step (layer.Optional of at) = starts at & of.value & sign Question
+postfix_step (layer.Array member at) = starts at & member.value & sign OpenBracket & sign CloseBracket
+postfix_step (layer.FixedArray member n at) = starts at & member.value & sign OpenBracket & token (IntKind n) & sign CloseBracket
 
-  -- `T...;`, or nothing
-  pub rest_field_pieces : HeldType → List Piece
-  rest_field_pieces NoType = []
-  rest_field_pieces (SomeType _ t) = type_pieces t ++ sign Ellipsis ∷ sign Semicolon ∷ []
+abbrev pub primary_step : PrimaryTypeOf Pieces → Pieces
+primary_step (layer.Builtin b at) = starts at & key (builtin_key b)
+primary_step (layer.Literal l) = literal_pieces l
+primary_step (layer.Negative n at) = starts at & sign Minus & token (IntKind n)
+primary_step (layer.Parens inner at) = starts at & sign OpenParen & inner.value & sign CloseParen
+primary_step (layer.Name n) = name_pieces n
+primary_step (layer.Map member at) = starts at & key MapKey & in_angles member.value
+primary_step (layer.Future result at) = starts at & key FutureKey & in_angles result.value
+primary_step (layer.Error detail at) = starts at & key ErrorKey & if_boxed in_angles detail
+primary_step (layer.Tuple members rest at) =
+    starts at & sign OpenBracket & separated Comma (with_last_boxed as_rest members.items rest) & sign CloseBracket
+primary_step (layer.ClosedRecord fields rest at) =
+    starts at & key RecordKey & sign OpenBraceBar & joined fields.items & if_boxed (λ t. as_rest t & sign Semicolon) rest
+    & sign CloseBraceBar
+primary_step (layer.OpenRecord fields at) = starts at & key RecordKey & sign OpenBrace & joined fields.items & sign CloseBrace
+primary_step (layer.AnyFunction isolated at) = starts at & function_word isolated
+primary_step (layer.Function isolated params result at) =
+    starts at & function_word isolated & params & if_boxed returning result
 
-  pub fields_pieces : FieldTrees → List Piece
-  fields_pieces (FieldTrees' _ fields) = joined (each_field fields)
+abbrev pub field_step : FieldTreeOf Pieces → Pieces
+field_step f = starts f.at & f.ty.value & word_pieces f.name & sign_if f.optional Question & sign Semicolon
 
-  pub each_field : {n : _} → Row_of-FieldTree n → List (List Piece)
-  each_field end_of-FieldTree = []
-  each_field (more_of-FieldTree t name optional at rest) =
-      (starts at ∷ type_pieces t ++ word_pieces name ++ sign_if optional Question ++ sign Semicolon ∷ []) ∷ each_field rest
+abbrev pub param_type_step : ParamTypeOf Pieces → Pieces
+param_type_step p = starts p.at & p.ty.value & if_there word_pieces p.name
 
-  pub param_types_pieces : ParamTypes → List Piece
-  param_types_pieces (ParamTypes' (ParamTypeList' _ params) rest) =
-      sign OpenParen ∷ listed_types (each_param_type params) rest ++ sign CloseParen ∷ []
+abbrev pub param_types_step : ParamTypesOf Pieces → Pieces
+param_types_step p = sign OpenParen & separated Comma (with_last_boxed as_rest p.params.items p.rest) & sign CloseParen
 
-  pub each_param_type : {n : _} → Row_of-ParamType n → List (List Piece)
-  each_param_type end_of-ParamType = []
-  each_param_type (more_of-ParamType t name at rest) = (starts at ∷ type_pieces t ++ optional_word name) ∷ each_param_type rest
+abbrev pub writing : TypeSteps Pieces
+writing = record {
+  type_tree = type_step;
+  intersection_type = intersection_step;
+  postfix_type = postfix_step;
+  primary_type = primary_step;
+  field_tree = field_step;
+  param_type = param_type_step;
+  param_types = param_types_step;
+}
+
+abbrev pub type_pieces : TypeTree → Pieces
+type_pieces = of_type_tree writing
+
+abbrev pub intersection_pieces : IntersectionType → Pieces
+intersection_pieces = of_intersection_type writing
+
+abbrev pub postfix_type_pieces : PostfixType → Pieces
+postfix_type_pieces = of_postfix_type writing
+
+abbrev pub primary_type_pieces : PrimaryType → Pieces
+primary_type_pieces = of_primary_type writing
+
+abbrev pub field_pieces : FieldTree → Pieces
+field_pieces = of_field_tree writing
+
+abbrev pub param_type_pieces : ParamType → Pieces
+param_type_pieces = of_param_type writing
+
+abbrev pub param_types_pieces : ParamTypes → Pieces
+param_types_pieces = of_param_types writing
 
 -- ---- the parameters of a function
 
-abbrev pub param_pieces : Param → List Piece
-param_pieces p = starts p.at ∷ type_pieces p.ty.value ++ word_pieces p.name
+abbrev pub param_pieces : Param → Pieces
+param_pieces p = starts p.at & type_pieces p.ty.value & word_pieces p.name
 
-abbrev pub rest_param_pieces : Param → List Piece
-rest_param_pieces p = starts p.at ∷ type_pieces p.ty.value ++ sign Ellipsis ∷ word_pieces p.name
+abbrev pub rest_param_pieces : Param → Pieces
+rest_param_pieces p = starts p.at & as_rest (type_pieces p.ty.value) & word_pieces p.name
 
-abbrev pub listed_params : List (List Piece) → Option Param → List Piece
-listed_params parts None = separated Comma parts
-listed_params parts (Some p) = with_rest parts (rest_param_pieces p)
-
-abbrev pub params_pieces : Params → List Piece
-params_pieces p = sign OpenParen ∷ listed_params (map param_pieces (params_list p.params)) p.rest ++ sign CloseParen ∷ []
+abbrev pub params_pieces : Params → Pieces
+params_pieces p =
+    sign OpenParen & separated Comma (with_last rest_param_pieces (map param_pieces p.params.items) p.rest) & sign CloseParen

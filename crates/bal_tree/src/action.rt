@@ -1,11 +1,11 @@
 //! Actions: what workers do to one another, and what may stand at the right of an assignment.
 ghost use Rattle.std.specs.Prelude.{◌≡◌};
-ghost use Rattle.bal_tree.specs.Lists.{wait_members_list};
 ghost use Rattle.bal_tree.specs.Places.{BeginsAt};
+ghost use Rattle.bal_tree.specs.ActionRules.{sending as how_it_sends, may_stand_before as stands_before};
 ghost use Rattle.bal_tree.specs.ActionPieces.{rhs_pieces, action_pieces, peer_pieces};
 
 use crate::expr::{Call, Expr};
-use crate::name::{QualifiedName, QualifiedNames, Word};
+use crate::name::{QualifiedName, Word};
 use bal_base::Place;
 
 /// What may stand at the right of an assignment.
@@ -45,12 +45,12 @@ pub enum Action {
     },
     /// `wait f`, or an alternate wait, `wait f|g`.
     WaitAny {
-        names: QualifiedNames,
+        names: Vec<QualifiedName>,
         at: Place,
     },
     /// `wait {a: f, b: g}`
     WaitAll {
-        members: WaitMembers,
+        members: Vec<WaitMember>,
         at: Place,
     },
     /// `flush A`
@@ -89,6 +89,32 @@ impl Action {
             Action::Send { at, .. } | Action::SyncSend { at, .. } => *at,
         }
     }
+
+    /// How the action sends, behind any words.
+    pub fn sending(&self) -> Sending
+        ensures { result ≡ how_it_sends self.now }
+    {
+        match self {
+            Action::Prefix { action, .. } => action.sending(),
+            Action::Send { .. } => Sending::Async,
+            Action::SyncSend { .. } => Sending::Sync,
+            Action::Start { .. } | Action::WaitAny { .. } | Action::WaitAll { .. } => {
+                Sending::Nothing
+            }
+            Action::Flush { .. } | Action::Receive { .. } => Sending::Nothing,
+        }
+    }
+}
+
+/// How an action sends, behind any words.
+#[derive(Clone, Copy, Debug, PartialEq, Eq)]
+pub enum Sending {
+    /// It is no send.
+    Nothing,
+    /// By `->`.
+    Async,
+    /// By `->>`.
+    Sync,
 }
 
 /// A word before an action.
@@ -100,6 +126,24 @@ pub enum ActionOp {
     CheckPanic,
     /// `trap`
     Trap,
+}
+
+impl ActionOp {
+    /// Whether the word may stand before an action that sends so.
+    pub fn may_stand_before(self, sending: Sending) -> bool
+        ensures { result ≡ stands_before self sending }
+    {
+        match self {
+            ActionOp::Check | ActionOp::CheckPanic => match sending {
+                Sending::Nothing | Sending::Sync => true,
+                Sending::Async => false,
+            },
+            ActionOp::Trap => match sending {
+                Sending::Nothing => true,
+                Sending::Async | Sending::Sync => false,
+            },
+        }
+    }
 }
 
 /// The worker at the other end of a message.
@@ -129,26 +173,4 @@ pub struct WaitMember {
     pub key: Word,
     pub name: QualifiedName,
     pub at: Place,
-}
-
-/// Members of a multiple wait.
-#[derive(Drop)]
-pub struct WaitMembers {
-    items: Vec<WaitMember>,
-}
-
-impl WaitMembers {
-    /// The list of the vector's members.
-    pub fn of(items: Vec<WaitMember>) -> WaitMembers
-        ensures { wait_members_list result ≡ items.items }
-    {
-        WaitMembers { items }
-    }
-
-    /// The members, in order.
-    pub fn as_slice(&self) -> &[WaitMember]
-        ensures { result.now ≡ wait_members_list self.now }
-    {
-        self.items.as_slice()
-    }
 }

@@ -1,16 +1,11 @@
 //! Which trees are well formed, topic by topic. Each function tells whether its part is, and takes no memory.
-ghost use Rattle.std.specs.Prelude.{◌↔◌, IsTrue};
-ghost use Rattle.bal_tree.specs.WellFormed.{WellFormed};
+ghost use Rattle.std.specs.Prelude.{◌≡◌};
+ghost use Rattle.bal_tree.specs.DefRules.{file_is_formed};
 
 mod actions;
 mod defs;
-mod ends;
 mod exprs;
-mod levels;
-mod names;
 mod stmts;
-mod type_ends;
-mod type_names;
 mod types;
 
 use crate::def::FileTree;
@@ -20,7 +15,7 @@ use crate::def::FileTree;
 /// linear in the tree's size but for conditional expressions in the middle of others, and a stack as deep as
 /// the tree.
 pub fn well_formed(tree: &FileTree) -> bool
-    ensures { IsTrue result ↔ WellFormed tree.now }
+    ensures { result ≡ file_is_formed tree.now }
 {
     defs::file(tree)
 }

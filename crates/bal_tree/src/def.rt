@@ -1,21 +1,19 @@
 //! Files, imports and definitions.
-ghost use Rattle.std.specs.Prelude.{◌≡◌};
-ghost use Rattle.bal_tree.specs.Lists.{imports_list, defs_list, workers_list};
 ghost use Rattle.bal_tree.specs.Places.{BeginsAt};
 ghost use Rattle.bal_tree.specs.DefPieces.{def_pieces, body_pieces};
 
 use crate::expr::Expr;
-use crate::name::{ConstValue, Word, Words};
+use crate::name::{ConstValue, Word};
 use crate::params::Params;
-use crate::stmt::{Block, Stmts};
+use crate::stmt::{Block, Stmt};
 use crate::types::TypeTree;
 use bal_base::Place;
 
 /// A source file.
 #[derive(Drop)]
 pub struct FileTree {
-    pub imports: Imports,
-    pub defs: Defs,
+    pub imports: Vec<Import>,
+    pub defs: Vec<Def>,
     pub at: Place,
 }
 
@@ -24,7 +22,7 @@ pub struct FileTree {
 pub struct Import {
     pub first: Word,
     pub second: Option<Word>,
-    pub more: Words,
+    pub more: Vec<Word>,
     pub prefix: Option<Word>,
     pub at: Place,
 }
@@ -104,9 +102,9 @@ pub struct FunctionDef {
 pub enum Body {
     /// Statements between braces: the initial ones, the named workers, and the rest of the default worker's.
     Block {
-        stmts: Stmts,
-        workers: Workers,
-        rest: Stmts,
+        stmts: Vec<Stmt>,
+        workers: Vec<Worker>,
+        rest: Vec<Stmt>,
         /// The place of the closing brace.
         close: Place,
         at: Place,
@@ -136,70 +134,4 @@ pub struct Worker {
     pub result: Option<Box<TypeTree>>,
     pub body: Block,
     pub at: Place,
-}
-
-/// Imports, as those of a file.
-#[derive(Drop)]
-pub struct Imports {
-    items: Vec<Import>,
-}
-
-impl Imports {
-    /// The list of the vector's members.
-    pub fn of(items: Vec<Import>) -> Imports
-        ensures { imports_list result ≡ items.items }
-    {
-        Imports { items }
-    }
-
-    /// The members, in order.
-    pub fn as_slice(&self) -> &[Import]
-        ensures { result.now ≡ imports_list self.now }
-    {
-        self.items.as_slice()
-    }
-}
-
-/// Definitions, as those of a file.
-#[derive(Drop)]
-pub struct Defs {
-    items: Vec<Def>,
-}
-
-impl Defs {
-    /// The list of the vector's members.
-    pub fn of(items: Vec<Def>) -> Defs
-        ensures { defs_list result ≡ items.items }
-    {
-        Defs { items }
-    }
-
-    /// The members, in order.
-    pub fn as_slice(&self) -> &[Def]
-        ensures { result.now ≡ defs_list self.now }
-    {
-        self.items.as_slice()
-    }
-}
-
-/// Named workers, as those of a function.
-#[derive(Drop)]
-pub struct Workers {
-    items: Vec<Worker>,
-}
-
-impl Workers {
-    /// The list of the vector's members.
-    pub fn of(items: Vec<Worker>) -> Workers
-        ensures { workers_list result ≡ items.items }
-    {
-        Workers { items }
-    }
-
-    /// The members, in order.
-    pub fn as_slice(&self) -> &[Worker]
-        ensures { result.now ≡ workers_list self.now }
-    {
-        self.items.as_slice()
-    }
 }

@@ -1,6 +1,9 @@
 //! Expressions: operators over suffixed primary expressions.
+#![tactic(auto, using(crate::proofs::ExprLayers::expr_layers))]
+
 ghost use Rattle.std.specs.Prelude.{◌≡◌};
-ghost use Rattle.bal_tree.specs.Lists.{exprs_list, members_list, details_list};
+ghost use Rattle.bal_tree.specs.declared.expr.Detail.{out-Detail};
+ghost use Rattle.bal_tree.specs.declared.expr.Member.{out-Member};
 ghost use Rattle.bal_tree.specs.Places.{BeginsAt};
 ghost use Rattle.bal_tree.specs.ExprPieces.{expr_pieces, postfix_pieces, call_pieces, primary_pieces, key_pieces};
 
@@ -175,14 +178,14 @@ pub enum Call {
     /// `f(a, b)`
     Function {
         callee: Box<Postfix>,
-        args: Exprs,
+        args: Vec<Expr>,
         at: Place,
     },
     /// `e.f(a, b)`
     Method {
         receiver: Box<Postfix>,
         method: Word,
-        args: Exprs,
+        args: Vec<Expr>,
         at: Place,
     },
 }
@@ -213,19 +216,19 @@ pub enum Primary {
     },
     /// `[a, b]`
     List {
-        items: Exprs,
+        items: Vec<Expr>,
         at: Place,
     },
     /// `{a: x, "b": y, [c]: z}`
     Mapping {
-        members: Members,
+        members: Vec<Member>,
         at: Place,
     },
     /// `error(message, cause, a = x)`, where the cause and the details may be absent.
     Error {
         message: Box<Expr>,
         cause: Option<Box<Expr>>,
-        details: Details,
+        details: Vec<Detail>,
         at: Place,
     },
 }
@@ -249,8 +252,19 @@ impl Primary {
 #[derive(Drop)]
 pub struct Member {
     pub key: Key,
-    pub value: Expr,
+    pub value: Box<Expr>,
     pub at: Place,
+}
+
+impl Member {
+    /// The member with this key and this value.
+    pub fn new(key: Key, value: Box<Expr>, at: Place) -> Member
+        ensures key { (out-Member result).key ≡ key }
+        ensures value { (out-Member result).value ≡ value }
+        ensures at { (out-Member result).at ≡ at }
+    {
+        Member { key, value, at }
+    }
 }
 
 /// The key of a member of a mapping constructor.
@@ -282,75 +296,17 @@ impl Key {
 #[derive(Drop)]
 pub struct Detail {
     pub name: Word,
-    pub value: Expr,
+    pub value: Box<Expr>,
     pub at: Place,
 }
 
-/// Expressions, as the arguments of a call.
-#[cycle(expr)]
-#[derive(Drop)]
-pub struct Exprs {
-    items: Vec<Expr>,
-}
-
-impl Exprs {
-    /// The list of the vector's members.
-    pub fn of(items: Vec<Expr>) -> Exprs
-        ensures { exprs_list result ≡ items.items }
+impl Detail {
+    /// The detail with this name and this value.
+    pub fn new(name: Word, value: Box<Expr>, at: Place) -> Detail
+        ensures name { (out-Detail result).name ≡ name }
+        ensures value { (out-Detail result).value ≡ value }
+        ensures at { (out-Detail result).at ≡ at }
     {
-        Exprs { items }
-    }
-
-    /// The members, in order.
-    pub fn as_slice(&self) -> &[Expr]
-        ensures { result.now ≡ exprs_list self.now }
-    {
-        self.items.as_slice()
-    }
-}
-
-/// Members of a mapping constructor.
-#[cycle(expr)]
-#[derive(Drop)]
-pub struct Members {
-    items: Vec<Member>,
-}
-
-impl Members {
-    /// The list of the vector's members.
-    pub fn of(items: Vec<Member>) -> Members
-        ensures { members_list result ≡ items.items }
-    {
-        Members { items }
-    }
-
-    /// The members, in order.
-    pub fn as_slice(&self) -> &[Member]
-        ensures { result.now ≡ members_list self.now }
-    {
-        self.items.as_slice()
-    }
-}
-
-/// Details of an error constructor.
-#[cycle(expr)]
-#[derive(Drop)]
-pub struct Details {
-    items: Vec<Detail>,
-}
-
-impl Details {
-    /// The list of the vector's members.
-    pub fn of(items: Vec<Detail>) -> Details
-        ensures { details_list result ≡ items.items }
-    {
-        Details { items }
-    }
-
-    /// The members, in order.
-    pub fn as_slice(&self) -> &[Detail]
-        ensures { result.now ≡ details_list self.now }
-    {
-        self.items.as_slice()
+        Detail { name, value, at }
     }
 }

@@ -1,6 +1,4 @@
 //! Words, names and literals: what types, expressions and patterns share.
-ghost use Rattle.std.specs.Prelude.{◌≡◌};
-ghost use Rattle.bal_tree.specs.Lists.{words_list, names_list};
 ghost use Rattle.bal_tree.specs.Places.{BeginsAt};
 ghost use Rattle.bal_tree.specs.NamePieces.{literal_pieces, const_pieces};
 
@@ -11,28 +9,6 @@ use bal_base::{Name, Place, Text};
 pub struct Word {
     pub name: Name,
     pub at: Place,
-}
-
-/// Words, as those behind the dots of an import.
-#[derive(Drop)]
-pub struct Words {
-    items: Vec<Word>,
-}
-
-impl Words {
-    /// The list of the vector's members.
-    pub fn of(items: Vec<Word>) -> Words
-        ensures { words_list result ≡ items.items }
-    {
-        Words { items }
-    }
-
-    /// The members, in order.
-    pub fn as_slice(&self) -> &[Word]
-        ensures { result.now ≡ words_list self.now }
-    {
-        self.items.as_slice()
-    }
 }
 
 /// What stands before the colon of a name.
@@ -52,28 +28,6 @@ pub struct QualifiedName {
     /// The name itself.
     pub word: Word,
     pub at: Place,
-}
-
-/// Names, as those of an alternate wait.
-#[derive(Drop)]
-pub struct QualifiedNames {
-    items: Vec<QualifiedName>,
-}
-
-impl QualifiedNames {
-    /// The list of the vector's members.
-    pub fn of(items: Vec<QualifiedName>) -> QualifiedNames
-        ensures { names_list result ≡ items.items }
-    {
-        QualifiedNames { items }
-    }
-
-    /// The members, in order.
-    pub fn as_slice(&self) -> &[QualifiedName]
-        ensures { result.now ≡ names_list self.now }
-    {
-        self.items.as_slice()
-    }
 }
 
 /// A literal.

@@ -1,9 +1,7 @@
 //! Packages: modules, and their source files with the trees.
-ghost use Rattle.std.specs.Prelude.{◌≡◌};
-ghost use Rattle.bal_tree.specs.Lists.{modules_list, files_list};
 
 use crate::def::FileTree;
-use bal_base::{Name, Numbers, Text};
+use bal_base::{Name, Numbers, Row, Text};
 
 /// A package.
 #[derive(Drop)]
@@ -34,45 +32,7 @@ pub struct SourceFile {
 }
 
 /// Modules, as those of a package.
-#[derive(Drop)]
-pub struct Modules {
-    items: Vec<Module>,
-}
-
-impl Modules {
-    /// The list of the vector's members.
-    pub fn of(items: Vec<Module>) -> Modules
-        ensures { modules_list result ≡ items.items }
-    {
-        Modules { items }
-    }
-
-    /// The members, in order.
-    pub fn as_slice(&self) -> &[Module]
-        ensures { result.now ≡ modules_list self.now }
-    {
-        self.items.as_slice()
-    }
-}
+pub type Modules = Row<Module>;
 
 /// Source files, as those of a module.
-#[derive(Drop)]
-pub struct Files {
-    items: Vec<SourceFile>,
-}
-
-impl Files {
-    /// The list of the vector's members.
-    pub fn of(items: Vec<SourceFile>) -> Files
-        ensures { files_list result ≡ items.items }
-    {
-        Files { items }
-    }
-
-    /// The members, in order.
-    pub fn as_slice(&self) -> &[SourceFile]
-        ensures { result.now ≡ files_list self.now }
-    {
-        self.items.as_slice()
-    }
-}
+pub type Files = Row<SourceFile>;

@@ -1,6 +1,10 @@
 //! Statements.
+#![tactic(auto, using(crate::proofs::StmtLayers::stmt_layers))]
+
 ghost use Rattle.std.specs.Prelude.{◌≡◌};
-ghost use Rattle.bal_tree.specs.Lists.{stmts_list, clauses_list, patterns_list};
+ghost use Rattle.bal_tree.specs.declared.stmt.Block.{out-Block};
+ghost use Rattle.bal_tree.specs.declared.stmt.Clause.{out-Clause};
+ghost use Rattle.bal_tree.specs.declared.stmt.IfStmt.{out-IfStmt};
 ghost use Rattle.bal_tree.specs.Places.{BeginsAt};
 ghost use Rattle.bal_tree.specs.StmtPieces.{stmt_pieces, local_type_pieces, target_pieces, pattern_pieces};
 
@@ -59,7 +63,7 @@ pub enum Stmt {
     /// `match e { 1 => { .. } }`
     Match {
         value: Box<Expr>,
-        clauses: Clauses,
+        clauses: Vec<Clause>,
         at: Place,
     },
     /// `return;` or `return e;`
@@ -105,10 +109,21 @@ impl Stmt {
 #[cycle(stmt)]
 #[derive(Drop)]
 pub struct Block {
-    pub stmts: Stmts,
+    pub stmts: Vec<Stmt>,
     /// The place of the closing brace.
     pub close: Place,
     pub at: Place,
+}
+
+impl Block {
+    /// The statements between a brace at one place and the closing one at another.
+    pub fn new(stmts: Vec<Stmt>, close: Place, at: Place) -> Block
+        ensures stmts { (out-Block result).stmts ≡ stmts }
+        ensures close { (out-Block result).close ≡ close }
+        ensures at { (out-Block result).at ≡ at }
+    {
+        Block { stmts, close, at }
+    }
 }
 
 /// `if c { .. } else { .. }`, where the `else` may be absent.
@@ -119,6 +134,23 @@ pub struct IfStmt {
     pub then: Block,
     pub otherwise: Option<Box<Else>>,
     pub at: Place,
+}
+
+impl IfStmt {
+    /// The statement with these parts.
+    pub fn new(condition: Box<Expr>, then: Block, otherwise: Option<Box<Else>>, at: Place) -> IfStmt
+        ensures condition { (out-IfStmt result).condition ≡ condition }
+        ensures then { (out-IfStmt result).then ≡ then }
+        ensures otherwise { (out-IfStmt result).otherwise ≡ otherwise }
+        ensures at { (out-IfStmt result).at ≡ at }
+    {
+        IfStmt {
+            condition,
+            then,
+            otherwise,
+            at,
+        }
+    }
 }
 
 /// What stands behind `else`.
@@ -135,9 +167,20 @@ pub enum Else {
 #[cycle(stmt)]
 #[derive(Drop)]
 pub struct Clause {
-    pub patterns: Patterns,
+    pub patterns: Vec<Pattern>,
     pub body: Block,
     pub at: Place,
+}
+
+impl Clause {
+    /// The clause with these patterns and this block.
+    pub fn new(patterns: Vec<Pattern>, body: Block, at: Place) -> Clause
+        ensures patterns { (out-Clause result).patterns ≡ patterns }
+        ensures body { (out-Clause result).body ≡ body }
+        ensures at { (out-Clause result).at ≡ at }
+    {
+        Clause { patterns, body, at }
+    }
 }
 
 /// The type of a local variable.
@@ -244,73 +287,5 @@ impl Pattern {
             Pattern::Value(v) => v.place(),
             Pattern::Name(n) => n.at,
         }
-    }
-}
-
-/// Patterns of a match clause.
-#[derive(Drop)]
-pub struct Patterns {
-    items: Vec<Pattern>,
-}
-
-impl Patterns {
-    /// The list of the vector's members.
-    pub fn of(items: Vec<Pattern>) -> Patterns
-        ensures { patterns_list result ≡ items.items }
-    {
-        Patterns { items }
-    }
-
-    /// The members, in order.
-    pub fn as_slice(&self) -> &[Pattern]
-        ensures { result.now ≡ patterns_list self.now }
-    {
-        self.items.as_slice()
-    }
-}
-
-/// Statements, as those of a block.
-#[cycle(stmt)]
-#[derive(Drop)]
-pub struct Stmts {
-    items: Vec<Stmt>,
-}
-
-impl Stmts {
-    /// The list of the vector's members.
-    pub fn of(items: Vec<Stmt>) -> Stmts
-        ensures { stmts_list result ≡ items.items }
-    {
-        Stmts { items }
-    }
-
-    /// The members, in order.
-    pub fn as_slice(&self) -> &[Stmt]
-        ensures { result.now ≡ stmts_list self.now }
-    {
-        self.items.as_slice()
-    }
-}
-
-/// Clauses of a match statement.
-#[cycle(stmt)]
-#[derive(Drop)]
-pub struct Clauses {
-    items: Vec<Clause>,
-}
-
-impl Clauses {
-    /// The list of the vector's members.
-    pub fn of(items: Vec<Clause>) -> Clauses
-        ensures { clauses_list result ≡ items.items }
-    {
-        Clauses { items }
-    }
-
-    /// The members, in order.
-    pub fn as_slice(&self) -> &[Clause]
-        ensures { result.now ≡ clauses_list self.now }
-    {
-        self.items.as_slice()
     }
 }

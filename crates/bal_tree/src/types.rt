@@ -1,6 +1,10 @@
 //! Type descriptors, from the loosest to the tightest: unions of intersections of suffixed primary ones.
+#![tactic(auto, using(crate::proofs::TypeLayers::type_layers))]
+
 ghost use Rattle.std.specs.Prelude.{◌≡◌};
-ghost use Rattle.bal_tree.specs.Lists.{types_list, fields_list, param_types_list};
+ghost use Rattle.bal_tree.specs.declared.types.FieldTree.{out-FieldTree};
+ghost use Rattle.bal_tree.specs.declared.types.ParamType.{out-ParamType};
+ghost use Rattle.bal_tree.specs.declared.types.ParamTypes.{out-ParamTypes};
 ghost use Rattle.bal_tree.specs.Places.{BeginsAt};
 ghost use Rattle.bal_tree.specs.TypePieces.{type_pieces, intersection_pieces, postfix_type_pieces, primary_type_pieces};
 
@@ -136,19 +140,19 @@ pub enum PrimaryType {
     },
     /// `[T, U]`, with a rest `[T, U, V...]`, or with a rest alone `[V...]`.
     Tuple {
-        members: TypeTrees,
+        members: Vec<TypeTree>,
         rest: Option<Box<TypeTree>>,
         at: Place,
     },
     /// `record {| T a; U b?; V...; |}`, where the rest may be absent.
     ClosedRecord {
-        fields: FieldTrees,
+        fields: Vec<FieldTree>,
         rest: Option<Box<TypeTree>>,
         at: Place,
     },
     /// `record { T a; U b?; }`
     OpenRecord {
-        fields: FieldTrees,
+        fields: Vec<FieldTree>,
         at: Place,
     },
     /// `function`, or `isolated function`.
@@ -208,94 +212,63 @@ pub enum BuiltinType {
 #[cycle(types)]
 #[derive(Drop)]
 pub struct FieldTree {
-    pub ty: TypeTree,
+    pub ty: Box<TypeTree>,
     pub name: Word,
     pub optional: bool,
     pub at: Place,
+}
+
+impl FieldTree {
+    /// The field with these parts.
+    pub fn new(ty: Box<TypeTree>, name: Word, optional: bool, at: Place) -> FieldTree
+        ensures ty { (out-FieldTree result).ty ≡ ty }
+        ensures name { (out-FieldTree result).name ≡ name }
+        ensures optional { (out-FieldTree result).optional ≡ optional }
+        ensures at { (out-FieldTree result).at ≡ at }
+    {
+        FieldTree {
+            ty,
+            name,
+            optional,
+            at,
+        }
+    }
 }
 
 /// What stands between the parentheses of a function type: the parameters, and the type of the rest.
 #[cycle(types)]
 #[derive(Drop)]
 pub struct ParamTypes {
-    pub params: ParamTypeList,
+    pub params: Vec<ParamType>,
     pub rest: Option<Box<TypeTree>>,
+}
+
+impl ParamTypes {
+    /// These parameters, and the type of the rest if there is one.
+    pub fn new(params: Vec<ParamType>, rest: Option<Box<TypeTree>>) -> ParamTypes
+        ensures params { (out-ParamTypes result).params ≡ params }
+        ensures rest { (out-ParamTypes result).rest ≡ rest }
+    {
+        ParamTypes { params, rest }
+    }
 }
 
 /// A parameter of a function type, as `T` or `T a`.
 #[cycle(types)]
 #[derive(Drop)]
 pub struct ParamType {
-    pub ty: TypeTree,
+    pub ty: Box<TypeTree>,
     pub name: Option<Word>,
     pub at: Place,
 }
 
-/// Type descriptors, as the members of a tuple type.
-#[cycle(types)]
-#[derive(Drop)]
-pub struct TypeTrees {
-    items: Vec<TypeTree>,
-}
-
-impl TypeTrees {
-    /// The list of the vector's members.
-    pub fn of(items: Vec<TypeTree>) -> TypeTrees
-        ensures { types_list result ≡ items.items }
+impl ParamType {
+    /// The parameter with this type, and with this name if there is one.
+    pub fn new(ty: Box<TypeTree>, name: Option<Word>, at: Place) -> ParamType
+        ensures ty { (out-ParamType result).ty ≡ ty }
+        ensures name { (out-ParamType result).name ≡ name }
+        ensures at { (out-ParamType result).at ≡ at }
     {
-        TypeTrees { items }
-    }
-
-    /// The members, in order.
-    pub fn as_slice(&self) -> &[TypeTree]
-        ensures { result.now ≡ types_list self.now }
-    {
-        self.items.as_slice()
-    }
-}
-
-/// Fields of a record type.
-#[cycle(types)]
-#[derive(Drop)]
-pub struct FieldTrees {
-    items: Vec<FieldTree>,
-}
-
-impl FieldTrees {
-    /// The list of the vector's members.
-    pub fn of(items: Vec<FieldTree>) -> FieldTrees
-        ensures { fields_list result ≡ items.items }
-    {
-        FieldTrees { items }
-    }
-
-    /// The members, in order.
-    pub fn as_slice(&self) -> &[FieldTree]
-        ensures { result.now ≡ fields_list self.now }
-    {
-        self.items.as_slice()
-    }
-}
-
-/// Parameters of a function type.
-#[cycle(types)]
-#[derive(Drop)]
-pub struct ParamTypeList {
-    items: Vec<ParamType>,
-}
-
-impl ParamTypeList {
-    /// The list of the vector's members.
-    pub fn of(items: Vec<ParamType>) -> ParamTypeList
-        ensures { param_types_list result ≡ items.items }
-    {
-        ParamTypeList { items }
-    }
-
-    /// The members, in order.
-    pub fn as_slice(&self) -> &[ParamType]
-        ensures { result.now ≡ param_types_list self.now }
-    {
-        self.items.as_slice()
+        ParamType { ty, name, at }
     }
 }

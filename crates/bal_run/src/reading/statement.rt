@@ -7,7 +7,7 @@ ghost use Rattle.bal_run.specs.Reading.{statement_rest};
 use super::lexeme::{lexeme, place, println_closing, println_prefix, println_word};
 use super::sum::sum;
 use bal_base::{Memory, Name, Place};
-use bal_tree::{Call, Expr, Exprs, Postfix, Prefix, Primary, QualifiedName, Rhs, Stmt, Word};
+use bal_tree::{Call, Expr, Postfix, Prefix, Primary, QualifiedName, Rhs, Stmt, Word};
 use std::alloc::Global;
 
 /// The name `io:println`, with the places of its two words.
@@ -32,7 +32,7 @@ fn println(alloc: Global, sum: Expr, at: Place, behind: Place) -> Result<Stmt, M
 {
     let name = println_name(alloc, at, behind)?;
     let callee = Box::new(alloc, Postfix::Primary(Primary::Name(name)))?;
-    let args = Exprs::of(vec![in alloc; sum]?);
+    let args = vec![in alloc; sum]?;
     let call = Expr::Postfix(Postfix::Call(Call::Function { callee, args, at }));
     let rhs = Rhs::Expr(Box::new(alloc, call)?);
     Ok(Stmt::Rhs { rhs, at })

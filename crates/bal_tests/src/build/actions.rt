@@ -2,9 +2,7 @@
 use super::Maker;
 use super::lists::boxed;
 use super::names::{AT, name, word};
-use bal_tree::{
-    Action, ActionOp, Call, Expr, Peer, QualifiedName, QualifiedNames, Rhs, WaitMember, WaitMembers,
-};
+use bal_tree::{Action, ActionOp, Call, Expr, Peer, QualifiedName, Rhs, WaitMember};
 
 /// The worker `s`.
 pub fn peer(m: &impl Maker, s: &str) -> Peer {
@@ -26,7 +24,6 @@ pub fn start(call: Call) -> Action {
 }
 
 pub fn wait_any(names: Vec<QualifiedName>) -> Action {
-    let names = QualifiedNames::of(names);
     Action::WaitAny { names, at: AT }
 }
 
@@ -38,7 +35,6 @@ pub fn wait_member(m: &impl Maker, key: &str, s: &str) -> WaitMember {
 }
 
 pub fn wait_all(members: Vec<WaitMember>) -> Action {
-    let members = WaitMembers::of(members);
     Action::WaitAll { members, at: AT }
 }
 

@@ -4,13 +4,11 @@ use super::lists::{boxed, none, one};
 use super::names::{AT, word};
 use super::types::{any_type, params};
 use bal_tree::{
-    Block, Body, ConstDef, ConstValue, Def, Defs, Expr, FileTree, FunctionDef, Import, Imports,
-    Params, Stmt, Stmts, TypeDef, TypeTree, VariableDef, Word, Words, Worker, Workers,
+    Block, Body, ConstDef, ConstValue, Def, Expr, FileTree, FunctionDef, Import, Params, Stmt,
+    TypeDef, TypeTree, VariableDef, Word, Worker,
 };
 
 pub fn file(imports: Vec<Import>, defs: Vec<Def>) -> FileTree {
-    let imports = Imports::of(imports);
-    let defs = Defs::of(defs);
     FileTree {
         imports,
         defs,
@@ -21,7 +19,7 @@ pub fn file(imports: Vec<Import>, defs: Vec<Def>) -> FileTree {
 /// `import first;`
 pub fn import(m: &impl Maker, first: &str) -> Import {
     let first = word(m, first);
-    let more = Words::of(none(m));
+    let more = none(m);
     Import {
         first,
         second: None,
@@ -35,7 +33,7 @@ pub fn import(m: &impl Maker, first: &str) -> Import {
 pub fn import_of(m: &impl Maker, first: &str, second: &str) -> Import {
     let first = word(m, first);
     let second = Some(word(m, second));
-    let more = Words::of(none(m));
+    let more = none(m);
     Import {
         first,
         second,
@@ -48,7 +46,7 @@ pub fn import_of(m: &impl Maker, first: &str, second: &str) -> Import {
 /// The import with these words behind its dots.
 pub fn import_more(import: Import, more: Vec<Word>) -> Import {
     let mut import = import;
-    import.more = Words::of(more);
+    import.more = more;
     import
 }
 
@@ -134,9 +132,6 @@ pub fn block_body(m: &impl Maker, stmts: Vec<Stmt>) -> Body {
 }
 
 pub fn worker_body(stmts: Vec<Stmt>, workers: Vec<Worker>, rest: Vec<Stmt>) -> Body {
-    let stmts = Stmts::of(stmts);
-    let workers = Workers::of(workers);
-    let rest = Stmts::of(rest);
     Body::Block {
         stmts,
         workers,

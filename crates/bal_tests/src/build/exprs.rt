@@ -4,8 +4,8 @@ use super::lists::{boxed, one};
 use super::names::{AT, int, name, name_of, string, word};
 use bal_base::Text;
 use bal_tree::{
-    BinaryOp, Call, Detail, Details, Expr, Exprs, Key, Literal, Member, Members, Params, Postfix,
-    PrefixOp, Primary, QualifiedName, TypeTree,
+    BinaryOp, Call, Detail, Expr, Key, Literal, Member, Params, Postfix, PrefixOp, Primary,
+    QualifiedName, TypeTree,
 };
 
 pub fn literal(literal: Literal) -> Primary {
@@ -22,53 +22,46 @@ pub fn in_parens(m: &impl Maker, e: Expr) -> Primary {
 }
 
 pub fn list(items: Vec<Expr>) -> Primary {
-    let items = Exprs::of(items);
     Primary::List { items, at: AT }
 }
 
 /// `s: e`
 pub fn member(m: &impl Maker, s: &str, e: Expr) -> Member {
     let key = Key::Word(word(m, s));
-    Member {
-        key,
-        value: e,
-        at: AT,
-    }
+    let value = boxed(m, e);
+    Member { key, value, at: AT }
 }
 
 /// `"s": e`
 pub fn text_member(m: &impl Maker, s: &str, e: Expr) -> Member {
     let text = Text::new(m.alloc(), s).expect(m, "no memory");
     let key = Key::Str { text, at: AT };
-    Member {
-        key,
-        value: e,
-        at: AT,
-    }
+    let value = boxed(m, e);
+    Member { key, value, at: AT }
 }
 
 /// `[k]: e`
 pub fn computed_member(m: &impl Maker, k: Expr, e: Expr) -> Member {
-    let value = boxed(m, k);
-    let key = Key::Computed { value, at: AT };
-    Member {
-        key,
-        value: e,
+    let computed = boxed(m, k);
+    let key = Key::Computed {
+        value: computed,
         at: AT,
-    }
+    };
+    let value = boxed(m, e);
+    Member { key, value, at: AT }
 }
 
 pub fn mapping(members: Vec<Member>) -> Primary {
-    let members = Members::of(members);
     Primary::Mapping { members, at: AT }
 }
 
 /// `s = e`
 pub fn detail(m: &impl Maker, s: &str, e: Expr) -> Detail {
     let name = word(m, s);
+    let value = boxed(m, e);
     Detail {
         name,
-        value: e,
+        value,
         at: AT,
     }
 }
@@ -76,7 +69,6 @@ pub fn detail(m: &impl Maker, s: &str, e: Expr) -> Detail {
 /// An error constructor without a cause.
 pub fn error(m: &impl Maker, message: Expr, details: Vec<Detail>) -> Primary {
     let message = boxed(m, message);
-    let details = Details::of(details);
     Primary::Error {
         message,
         cause: None,
@@ -88,7 +80,6 @@ pub fn error(m: &impl Maker, message: Expr, details: Vec<Detail>) -> Primary {
 pub fn caused_error(m: &impl Maker, message: Expr, cause: Expr, details: Vec<Detail>) -> Primary {
     let message = boxed(m, message);
     let cause = Some(boxed(m, cause));
-    let details = Details::of(details);
     Primary::Error {
         message,
         cause,
@@ -141,7 +132,6 @@ pub fn index(m: &impl Maker, e: Postfix, i: Expr) -> Postfix {
 
 pub fn call(m: &impl Maker, callee: Postfix, args: Vec<Expr>) -> Call {
     let callee = boxed(m, callee);
-    let args = Exprs::of(args);
     Call::Function {
         callee,
         args,
@@ -153,7 +143,6 @@ pub fn call(m: &impl Maker, callee: Postfix, args: Vec<Expr>) -> Call {
 pub fn method(m: &impl Maker, e: Postfix, s: &str, args: Vec<Expr>) -> Call {
     let receiver = boxed(m, e);
     let method = word(m, s);
-    let args = Exprs::of(args);
     Call::Method {
         receiver,
         method,

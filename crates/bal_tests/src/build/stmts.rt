@@ -3,8 +3,8 @@ use super::Maker;
 use super::lists::boxed;
 use super::names::{AT, name, word};
 use bal_tree::{
-    AssignOp, Block, Clause, Clauses, ConstValue, Else, Expr, IfStmt, LocalType, Pattern, Patterns,
-    Postfix, QualifiedName, Range, RangeOp, Rhs, Stmt, Stmts, Target, TypeTree,
+    AssignOp, Block, Clause, ConstValue, Else, Expr, IfStmt, LocalType, Pattern, Postfix,
+    QualifiedName, Range, RangeOp, Rhs, Stmt, Target, TypeTree,
 };
 
 pub fn typed(m: &impl Maker, t: TypeTree) -> LocalType {
@@ -89,7 +89,6 @@ pub fn alone(rhs: Rhs) -> Stmt {
 }
 
 pub fn block(stmts: Vec<Stmt>) -> Block {
-    let stmts = Stmts::of(stmts);
     Block {
         stmts,
         close: AT,
@@ -197,7 +196,6 @@ pub fn named_pattern(name: QualifiedName) -> Pattern {
 }
 
 pub fn clause(patterns: Vec<Pattern>, body: Block) -> Clause {
-    let patterns = Patterns::of(patterns);
     Clause {
         patterns,
         body,
@@ -207,7 +205,6 @@ pub fn clause(patterns: Vec<Pattern>, body: Block) -> Clause {
 
 pub fn match_stmt(m: &impl Maker, e: Expr, clauses: Vec<Clause>) -> Stmt {
     let value = boxed(m, e);
-    let clauses = Clauses::of(clauses);
     Stmt::Match {
         value,
         clauses,

@@ -3,9 +3,8 @@ use super::Maker;
 use super::lists::boxed;
 use super::names::{AT, name, name_of, word};
 use bal_tree::{
-    BuiltinType, FieldTree, FieldTrees, IntersectionType, Literal, Param, ParamList, ParamType,
-    ParamTypeList, ParamTypes, Params, PostfixType, PrimaryType, QualifiedName, TypeTree,
-    TypeTrees,
+    BuiltinType, FieldTree, IntersectionType, Literal, Param, ParamType, ParamTypes, Params,
+    PostfixType, PrimaryType, QualifiedName, TypeTree,
 };
 
 pub fn builtin(builtin: BuiltinType) -> PrimaryType {
@@ -54,7 +53,6 @@ pub fn error_of(m: &impl Maker, t: TypeTree) -> PrimaryType {
 }
 
 pub fn tuple(members: Vec<TypeTree>) -> PrimaryType {
-    let members = TypeTrees::of(members);
     PrimaryType::Tuple {
         members,
         rest: None,
@@ -63,7 +61,6 @@ pub fn tuple(members: Vec<TypeTree>) -> PrimaryType {
 }
 
 pub fn tuple_and(m: &impl Maker, members: Vec<TypeTree>, rest: TypeTree) -> PrimaryType {
-    let members = TypeTrees::of(members);
     let rest = Some(boxed(m, rest));
     PrimaryType::Tuple {
         members,
@@ -75,27 +72,16 @@ pub fn tuple_and(m: &impl Maker, members: Vec<TypeTree>, rest: TypeTree) -> Prim
 /// `t s;`
 pub fn field_type(m: &impl Maker, t: TypeTree, s: &str) -> FieldTree {
     let name = word(m, s);
-    FieldTree {
-        ty: t,
-        name,
-        optional: false,
-        at: AT,
-    }
+    FieldTree::new(boxed(m, t), name, false, AT)
 }
 
 /// `t s?;`
 pub fn optional_field_type(m: &impl Maker, t: TypeTree, s: &str) -> FieldTree {
     let name = word(m, s);
-    FieldTree {
-        ty: t,
-        name,
-        optional: true,
-        at: AT,
-    }
+    FieldTree::new(boxed(m, t), name, true, AT)
 }
 
 pub fn closed_record(fields: Vec<FieldTree>) -> PrimaryType {
-    let fields = FieldTrees::of(fields);
     PrimaryType::ClosedRecord {
         fields,
         rest: None,
@@ -104,7 +90,6 @@ pub fn closed_record(fields: Vec<FieldTree>) -> PrimaryType {
 }
 
 pub fn closed_record_and(m: &impl Maker, fields: Vec<FieldTree>, rest: TypeTree) -> PrimaryType {
-    let fields = FieldTrees::of(fields);
     let rest = Some(boxed(m, rest));
     PrimaryType::ClosedRecord {
         fields,
@@ -114,7 +99,6 @@ pub fn closed_record_and(m: &impl Maker, fields: Vec<FieldTree>, rest: TypeTree)
 }
 
 pub fn open_record(fields: Vec<FieldTree>) -> PrimaryType {
-    let fields = FieldTrees::of(fields);
     PrimaryType::OpenRecord { fields, at: AT }
 }
 
@@ -123,31 +107,21 @@ pub fn any_function(isolated: bool) -> PrimaryType {
 }
 
 /// `t`
-pub fn param_type(t: TypeTree) -> ParamType {
-    ParamType {
-        ty: t,
-        name: None,
-        at: AT,
-    }
+pub fn param_type(m: &impl Maker, t: TypeTree) -> ParamType {
+    ParamType::new(boxed(m, t), None, AT)
 }
 
 /// `t s`
 pub fn named_param_type(m: &impl Maker, t: TypeTree, s: &str) -> ParamType {
-    let name = Some(word(m, s));
-    ParamType {
-        ty: t,
-        name,
-        at: AT,
-    }
+    let name = word(m, s);
+    ParamType::new(boxed(m, t), Some(name), AT)
 }
 
 pub fn param_types(params: Vec<ParamType>) -> ParamTypes {
-    let params = ParamTypeList::of(params);
     ParamTypes { params, rest: None }
 }
 
 pub fn param_types_and(m: &impl Maker, params: Vec<ParamType>, rest: TypeTree) -> ParamTypes {
-    let params = ParamTypeList::of(params);
     let rest = Some(boxed(m, rest));
     ParamTypes { params, rest }
 }
@@ -274,12 +248,10 @@ pub fn param(m: &impl Maker, t: TypeTree, s: &str) -> Param {
 }
 
 pub fn params(params: Vec<Param>) -> Params {
-    let params = ParamList::of(params);
     Params { params, rest: None }
 }
 
 pub fn params_and(params: Vec<Param>, rest: Param) -> Params {
-    let params = ParamList::of(params);
     Params {
         params,
         rest: Some(rest),

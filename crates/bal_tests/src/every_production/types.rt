@@ -90,7 +90,7 @@ pub fn open(m: &impl Maker) -> TypeTree {
 /// `(int, T x, any...)`
 fn three_params(m: &impl Maker) -> ParamTypes {
     let named = named_param_type(m, type_named(m, "T"), "x");
-    param_types_and(m, two(m, param_type(int_type()), named), any_type())
+    param_types_and(m, two(m, param_type(m, int_type()), named), any_type())
 }
 
 /// `function|isolated function|function ()|isolated function (int, T x, any...)|function (any...)`
@@ -108,7 +108,7 @@ pub fn procedures(m: &impl Maker) -> TypeTree {
 
 /// `function (int) returns string`
 fn to_string(m: &impl Maker) -> PrimaryType {
-    let params = param_types(one(m, param_type(int_type())));
+    let params = param_types(one(m, param_type(m, int_type())));
     function_type(m, false, params, string_type())
 }
 

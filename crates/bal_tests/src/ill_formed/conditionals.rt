@@ -129,7 +129,7 @@ fn prefixes_of_types(rt: HostRuntime) {
 #[test]
 fn prefixes_of_function_types(rt: HostRuntime) {
     let m = &rt;
-    let takes = procedure(false, param_types(one(m, param_type(m_t(m)))));
+    let takes = procedure(false, param_types(one(m, param_type(m, m_t(m)))));
     let gives = function_type(m, false, param_types(none(m)), m_t(m));
     let closed = of_primary(type_in_parens(m, m_t(m)));
     let gives_closed = function_type(m, false, param_types(none(m)), closed);

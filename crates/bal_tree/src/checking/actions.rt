@@ -1,68 +1,35 @@
-//! Which actions are well formed.
-ghost use Rattle.std.specs.Prelude.{◌↔◌, IsTrue};
-ghost use Rattle.bal_tree.specs.WellFormedActions.{Sends, SendsInStep, MayStandBefore, WellFormedAction, WellFormedRhs};
+//! Actions, and what may stand at the right of an assignment.
+ghost use Rattle.std.specs.Prelude.{◌≡◌};
+ghost use Rattle.bal_tree.specs.ActionRules.{sending as how_it_sends, action_is_formed, rhs_is_formed};
 
-use super::ends::begins_with_check;
 use super::exprs::{call, expr};
-use crate::action::{Action, ActionOp, Rhs};
+use crate::action::{Action, Rhs, Sending};
 
 pub fn rhs(r: &Rhs) -> bool
-    ensures { IsTrue result ↔ WellFormedRhs r.now }
+    ensures { result ≡ rhs_is_formed r.now }
 {
     match r {
-        Rhs::Expr(e) => expr(e),
-        Rhs::Action(a) => action(a),
+        Rhs::Expr(e) => expr(e, false),
+        Rhs::Action(a) => action(a, a.sending()),
     }
 }
 
-pub fn action(a: &Action) -> bool
-    ensures { IsTrue result ↔ WellFormedAction a.now }
+/// Whether the action is well formed, which sends so.
+fn action(a: &Action, sending: Sending) -> bool
+    requires { sending ≡ how_it_sends a.now }
+    ensures { result ≡ action_is_formed a.now }
 {
     match a {
         Action::Prefix {
             op,
             action: behind,
             ..
-        } => may_stand_before(*op, behind) && action(behind),
-        Action::Start { call: started, .. } => call(started),
-        Action::WaitAny { names, .. } => !names.as_slice().is_empty(),
-        Action::WaitAll { members, .. } => !members.as_slice().is_empty(),
+        } => { op.may_stand_before(sending) && action(behind, sending) }
+        Action::Start { call: started, .. } => call(started, false),
+        Action::WaitAny { names, .. } => !names.is_empty(),
+        Action::WaitAll { members, .. } => !members.is_empty(),
         Action::Flush { .. } | Action::Receive { .. } => true,
-        Action::Send { value, .. } => expr(value),
-        Action::SyncSend { value, .. } => !begins_with_check(value) && expr(value),
-    }
-}
-
-/// Whether the word may stand before the action.
-fn may_stand_before(op: ActionOp, a: &Action) -> bool
-    ensures { IsTrue result ↔ MayStandBefore op a.now }
-{
-    match op {
-        ActionOp::Trap => !sends(a) && !sends_in_step(a),
-        ActionOp::Check | ActionOp::CheckPanic => !sends(a),
-    }
-}
-
-/// Whether the action is a send by `->`, behind any words.
-fn sends(a: &Action) -> bool
-    ensures { IsTrue result ↔ Sends a.now }
-{
-    match a {
-        Action::Prefix { action, .. } => sends(action),
-        Action::Send { .. } => true,
-        Action::Start { .. } | Action::WaitAny { .. } | Action::WaitAll { .. } => false,
-        Action::Flush { .. } | Action::Receive { .. } | Action::SyncSend { .. } => false,
-    }
-}
-
-/// Whether the action is a send by `->>`, behind any words.
-fn sends_in_step(a: &Action) -> bool
-    ensures { IsTrue result ↔ SendsInStep a.now }
-{
-    match a {
-        Action::Prefix { action, .. } => sends_in_step(action),
-        Action::SyncSend { .. } => true,
-        Action::Start { .. } | Action::WaitAny { .. } | Action::WaitAll { .. } => false,
-        Action::Flush { .. } | Action::Receive { .. } | Action::Send { .. } => false,
+        Action::Send { value, .. } => expr(value, false),
+        Action::SyncSend { value, .. } => !value.begins_with_check() && expr(value, false),
     }
 }

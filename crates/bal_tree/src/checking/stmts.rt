@@ -1,21 +1,21 @@
-//! Which statements are well formed.
-ghost use Rattle.std.specs.Prelude.{◌↔◌, ◌<◌, length, IsTrue, IfSome, All};
-ghost use Rattle.bal_tree.specs.WellFormedExprs.{WellFormedExpr};
-ghost use Rattle.bal_tree.specs.WellFormedActions.{WellFormedRhs};
-ghost use Rattle.bal_tree.specs.WellFormedStmts.{IsCall, MayBeStatement, WellFormedAlone, WellFormedLocalType, WellFormedTarget, WellFormedRange, WellFormedStmt, WellFormedElse, WellFormedBlock};
-ghost use Rattle.bal_tree.specs.StmtParts.{WellFormedElsePart, WellFormedIf, WellFormedClause};
+//! Statements.
+#![tactic(auto, using(crate::proofs::Forms::stmt_forms))]
 
-use super::actions::{action, rhs};
-use super::ends::is_check;
+ghost use Rattle.std.specs.Prelude.{◌≡◌, ◌&&◌, false};
+ghost use Rattle.std.specs.List.{list_all};
+ghost use Rattle.bal_tree.specs.ExprRules.{expr_is_formed};
+ghost use Rattle.bal_tree.specs.StmtRules.{stands_alone as may_stand_alone, local_type_is_formed, target_is_formed, range_is_formed, value_is_formed, stmt_is_formed, else_is_formed, if_is_formed, block_is_formed, clause_is_formed};
+
+use super::actions::rhs;
 use super::exprs::{expr, postfix};
 use super::types::type_tree;
 use crate::action::Rhs;
-use crate::expr::{Expr, Postfix};
+use crate::expr::Expr;
 use crate::stmt::{Block, Clause, Else, IfStmt, LocalType, Range, Stmt, Target};
 
 #[cycle(stmt)]
 pub fn stmts(stmts: &[Stmt]) -> bool
-    ensures { IsTrue result ↔ All WellFormedStmt stmts.now }
+    ensures { result ≡ list_all stmt_is_formed stmts.now }
 {
     for s in stmts {
         if !stmt(s) {
@@ -27,14 +27,14 @@ pub fn stmts(stmts: &[Stmt]) -> bool
 
 #[cycle(stmt)]
 pub fn block(b: &Block) -> bool
-    ensures { IsTrue result ↔ WellFormedBlock b.now }
+    ensures { result ≡ block_is_formed b.now }
 {
-    stmts(b.stmts.as_slice())
+    stmts(&b.stmts)
 }
 
 #[cycle(stmt)]
 fn stmt(s: &Stmt) -> bool
-    ensures { IsTrue result ↔ WellFormedStmt s.now }
+    ensures { result ≡ stmt_is_formed s.now }
 {
     match s {
         Stmt::Local { ty, value, .. } => local_type(ty) && rhs(value),
@@ -44,13 +44,13 @@ fn stmt(s: &Stmt) -> bool
             ..
         } => target(to) && rhs(value),
         Stmt::Ignore { value, .. } => rhs(value),
-        Stmt::Rhs { rhs, .. } => alone(rhs),
+        Stmt::Rhs { rhs: value, .. } => stands_alone(value) && rhs(value),
         Stmt::If(s) => if_stmt(s),
         Stmt::While {
             condition,
             body,
             ..
-        } => expr(condition) && block(body),
+        } => expr(condition, false) && block(body),
         Stmt::Foreach {
             ty,
             from,
@@ -62,85 +62,61 @@ fn stmt(s: &Stmt) -> bool
             value,
             clauses: rows,
             ..
-        } => expr(value) && clauses(rows.as_slice()),
+        } => { expr(value, false) && !rows.is_empty() && clauses(rows) }
         Stmt::Return { value, .. } => rhs_if_there(value),
-        Stmt::Panic { value, .. } => expr(value),
+        Stmt::Panic { value, .. } => expr(value, false),
         Stmt::Break { .. } | Stmt::Continue { .. } => true,
         Stmt::Block(b) => block(b),
     }
 }
 
 fn local_type(ty: &LocalType) -> bool
-    ensures { IsTrue result ↔ WellFormedLocalType ty.now }
+    ensures { result ≡ local_type_is_formed ty.now }
 {
     match ty {
-        LocalType::Type(t) => type_tree(t),
+        LocalType::Type(t) => type_tree(t, false),
         LocalType::Var { .. } => true,
     }
 }
 
 fn target(t: &Target) -> bool
-    ensures { IsTrue result ↔ WellFormedTarget t.now }
+    ensures { result ≡ target_is_formed t.now }
 {
     match t {
         Target::Name(_) => true,
-        Target::Index { base, index, .. } => postfix(base) && expr(index),
-        Target::Field { base, .. } => postfix(base),
+        Target::Index { base, index, .. } => postfix(base, false) && expr(index, false),
+        Target::Field { base, .. } => postfix(base, false),
     }
 }
 
-/// Whether the expression or action may be a statement, and is well formed.
-fn alone(r: &Rhs) -> bool
-    ensures { IsTrue result ↔ WellFormedAlone r.now }
+/// Whether the expression or action may be a statement.
+fn stands_alone(r: &Rhs) -> bool
+    ensures { result ≡ may_stand_alone r.now }
 {
     match r {
-        Rhs::Expr(e) => may_be_statement(e) && expr(e),
-        Rhs::Action(a) => action(a),
-    }
-}
-
-/// Whether the expression is a call, or a `check`, `checkpanic` or `trap` of one.
-fn may_be_statement(e: &Expr) -> bool
-    ensures { IsTrue result ↔ MayBeStatement e.now }
-{
-    match e {
-        Expr::Postfix(e) => matches!(e, Postfix::Call(_)),
-        Expr::Prefix { op, operand, .. } => is_check(*op) && is_call(operand),
-        Expr::Trap { operand, .. } => is_call(operand),
-        Expr::Cast { .. } | Expr::Binary { .. } | Expr::TypeTest { .. } => false,
-        Expr::Conditional { .. } | Expr::Function { .. } => false,
-    }
-}
-
-fn is_call(e: &Expr) -> bool
-    ensures { IsTrue result ↔ IsCall e.now }
-{
-    match e {
-        Expr::Postfix(e) => matches!(e, Postfix::Call(_)),
-        Expr::Prefix { .. } | Expr::Cast { .. } | Expr::Binary { .. } => false,
-        Expr::TypeTest { .. } | Expr::Conditional { .. } | Expr::Trap { .. } => false,
-        Expr::Function { .. } => false,
+        Rhs::Expr(e) => e.stands_alone(),
+        Rhs::Action(_) => true,
     }
 }
 
 /// Whether what stands before the block of a loop over values is well formed.
 fn over(ty: &LocalType, from: &Expr, range: &Option<Range>) -> bool
-    ensures { IsTrue result ↔ WellFormedLocalType ty.now × WellFormedExpr from.now × WellFormedRange range.now }
+    ensures { result ≡ (local_type_is_formed ty.now && expr_is_formed from.now false && range_is_formed range.now) }
 {
-    local_type(ty) && expr(from) && range_if_there(range)
+    local_type(ty) && expr(from, false) && range_if_there(range)
 }
 
 fn range_if_there(range: &Option<Range>) -> bool
-    ensures { IsTrue result ↔ WellFormedRange range.now }
+    ensures { result ≡ range_is_formed range.now }
 {
     match range {
-        Some(range) => expr(&range.end),
+        Some(range) => expr(&range.end, false),
         None => true,
     }
 }
 
 fn rhs_if_there(r: &Option<Rhs>) -> bool
-    ensures { IsTrue result ↔ IfSome r.now WellFormedRhs }
+    ensures { result ≡ value_is_formed r.now }
 {
     match r {
         Some(r) => rhs(r),
@@ -150,24 +126,17 @@ fn rhs_if_there(r: &Option<Rhs>) -> bool
 
 #[cycle(stmt)]
 fn if_stmt(s: &IfStmt) -> bool
-    ensures { IsTrue result ↔ WellFormedIf s.now }
+    ensures { result ≡ if_is_formed s.now }
 {
-    expr(&s.condition) && block(&s.then) && else_if_there(&s.otherwise)
-}
-
-#[cycle(stmt)]
-fn else_if_there(e: &Option<Box<Else>>) -> bool
-    ensures { IsTrue result ↔ WellFormedElsePart e.now }
-{
-    match e {
-        Some(e) => behind_else(e),
-        None => true,
+    match &s.otherwise {
+        None => expr(&s.condition, false) && block(&s.then),
+        Some(e) => expr(&s.condition, false) && block(&s.then) && behind_else(e),
     }
 }
 
 #[cycle(stmt)]
 fn behind_else(e: &Else) -> bool
-    ensures { IsTrue result ↔ WellFormedElse e.now }
+    ensures { result ≡ else_is_formed e.now }
 {
     match e {
         Else::If(s) => if_stmt(s),
@@ -175,17 +144,9 @@ fn behind_else(e: &Else) -> bool
     }
 }
 
-/// Whether there is a clause, and each is well formed.
 #[cycle(stmt)]
 fn clauses(clauses: &[Clause]) -> bool
-    ensures { IsTrue result ↔ (0 < length clauses.now) × All WellFormedClause clauses.now }
-{
-    !clauses.is_empty() && each_clause(clauses)
-}
-
-#[cycle(stmt)]
-fn each_clause(clauses: &[Clause]) -> bool
-    ensures { IsTrue result ↔ All WellFormedClause clauses.now }
+    ensures { result ≡ list_all clause_is_formed clauses.now }
 {
     for c in clauses {
         if !clause(c) {
@@ -197,7 +158,7 @@ fn each_clause(clauses: &[Clause]) -> bool
 
 #[cycle(stmt)]
 fn clause(c: &Clause) -> bool
-    ensures { IsTrue result ↔ WellFormedClause c.now }
+    ensures { result ≡ clause_is_formed c.now }
 {
-    !c.patterns.as_slice().is_empty() && block(&c.body)
+    !c.patterns.is_empty() && block(&c.body)
 }

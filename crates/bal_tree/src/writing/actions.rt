@@ -1,9 +1,9 @@
 //! Actions, and what may stand at the right of an assignment.
 #![tactic(auto, using(crate::proofs::Adding::adding))]
 
-ghost use Rattle.std.specs.Prelude.{◌≡◌, ◌∷◌, ◌++◌, OnOk, map};
+ghost use Rattle.std.specs.Prelude.{◌≡◌, OnOk, map};
 ghost use Rattle.bal_base.specs.declared.token.Sign.TheVariants.{Bar, Comma};
-ghost use Rattle.bal_tree.specs.Pieces.{Adds, sign as sign_piece, separated};
+ghost use Rattle.bal_tree.specs.Pieces.{Adds, ◌&◌, sign as sign_piece, separated};
 ghost use Rattle.bal_tree.specs.NamePieces.{name_pieces};
 ghost use Rattle.bal_tree.specs.ExprPieces.{expr_pieces};
 ghost use Rattle.bal_tree.specs.ActionPieces.{action_key as key_of_op, peer_pieces, wait_member_pieces, action_pieces, rhs_pieces};
@@ -43,12 +43,12 @@ fn action(out: &mut Vec<TokenKind>, a: &Action) -> Result<(), Memory>
         }
         Action::WaitAny { names, .. } => {
             key(out, Keyword::Wait)?;
-            alternatives(out, names.as_slice())
+            alternatives(out, names)
         }
         Action::WaitAll { members, .. } => {
             key(out, Keyword::Wait)?;
             sign(out, Sign::OpenBrace)?;
-            wait_members(out, members.as_slice())?;
+            wait_members(out, members)?;
             sign(out, Sign::CloseBrace)
         }
         Action::Flush { peer: with, .. } => {
@@ -74,7 +74,7 @@ fn action(out: &mut Vec<TokenKind>, a: &Action) -> Result<(), Memory>
 
 /// The sent expression, the arrow, and the worker that it goes to.
 fn send(out: &mut Vec<TokenKind>, value: &Expr, arrow: Sign, to: &Peer) -> Result<(), Memory>
-    ensures { OnOk result (Adds out.old.items (expr_pieces value.now ++ sign_piece arrow ∷ peer_pieces to.now) out.new.items) }
+    ensures { OnOk result (Adds out.old.items (expr_pieces value.now & sign_piece arrow & peer_pieces to.now) out.new.items) }
 {
     expr(out, value)?;
     sign(out, arrow)?;

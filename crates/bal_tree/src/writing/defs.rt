@@ -1,11 +1,12 @@
 //! Files, imports and definitions.
 #![tactic(auto, using(crate::proofs::Adding::adding))]
 
-ghost use Rattle.std.specs.Prelude.{◌∷◌, OnOk, map};
+ghost use Rattle.std.specs.Prelude.{OnOk, map};
 ghost use Rattle.bal_base.specs.declared.token.Sign.TheVariants.{Dot};
-ghost use Rattle.bal_tree.specs.Pieces.{Adds, sign as sign_piece, joined, behind};
+ghost use Rattle.bal_tree.specs.Pieces.{Adds, if_there, if_boxed, joined, behind};
 ghost use Rattle.bal_tree.specs.NamePieces.{word_pieces};
-ghost use Rattle.bal_tree.specs.DefPieces.{word_behind as word_behind_pieces, word_after as word_after_pieces, import_pieces, worker_pieces, body_pieces, optional_type, type_def_pieces, const_def_pieces, variable_def_pieces, function_def_pieces, def_pieces, file_pieces};
+ghost use Rattle.bal_tree.specs.TypePieces.{type_pieces};
+ghost use Rattle.bal_tree.specs.DefPieces.{word_behind as word_behind_pieces, word_after as word_after_pieces, import_pieces, worker_pieces, body_pieces, type_def_pieces, const_def_pieces, variable_def_pieces, function_def_pieces, def_pieces, file_pieces};
 
 use super::exprs::expr;
 use super::names::{const_value, word};
@@ -22,8 +23,8 @@ use bal_base::{Keyword, Memory, Sign, TokenKind};
 pub fn file(out: &mut Vec<TokenKind>, f: &FileTree) -> Result<(), Memory>
     ensures { OnOk result (Adds out.old.items (file_pieces f.now) out.new.items) }
 {
-    imports(out, f.imports.as_slice())?;
-    defs(out, f.defs.as_slice())
+    imports(out, &f.imports)?;
+    defs(out, &f.defs)
 }
 
 fn imports(out: &mut Vec<TokenKind>, imports: &[Import]) -> Result<(), Memory>
@@ -41,14 +42,14 @@ fn import(out: &mut Vec<TokenKind>, i: &Import) -> Result<(), Memory>
     key(out, Keyword::Import)?;
     word(out, &i.first)?;
     word_behind(out, Sign::Slash, &i.second)?;
-    dotted(out, i.more.as_slice())?;
+    dotted(out, &i.more)?;
     word_after(out, Keyword::As, &i.prefix)?;
     sign(out, Sign::Semicolon)
 }
 
 /// The sign and the word, where there is a word.
 fn word_behind(out: &mut Vec<TokenKind>, s: Sign, w: &Option<Word>) -> Result<(), Memory>
-    ensures { OnOk result (Adds out.old.items (word_behind_pieces s w.now) out.new.items) }
+    ensures { OnOk result (Adds out.old.items (if_there (word_behind_pieces s) w.now) out.new.items) }
 {
     match w {
         Some(w) => {
@@ -61,7 +62,7 @@ fn word_behind(out: &mut Vec<TokenKind>, s: Sign, w: &Option<Word>) -> Result<()
 
 /// The keyword and the word, where there is a word.
 fn word_after(out: &mut Vec<TokenKind>, k: Keyword, w: &Option<Word>) -> Result<(), Memory>
-    ensures { OnOk result (Adds out.old.items (word_after_pieces k w.now) out.new.items) }
+    ensures { OnOk result (Adds out.old.items (if_there (word_after_pieces k) w.now) out.new.items) }
 {
     match w {
         Some(w) => {
@@ -83,7 +84,7 @@ fn dotted(out: &mut Vec<TokenKind>, words: &[Word]) -> Result<(), Memory>
 }
 
 fn next_word(out: &mut Vec<TokenKind>, w: &Word) -> Result<(), Memory>
-    ensures { OnOk result (Adds out.old.items (sign_piece Dot ∷ word_pieces w.now) out.new.items) }
+    ensures { OnOk result (Adds out.old.items (word_behind_pieces Dot w.now) out.new.items) }
 {
     sign(out, Sign::Dot)?;
     word(out, w)
@@ -132,7 +133,7 @@ fn const_def(out: &mut Vec<TokenKind>, d: &ConstDef) -> Result<(), Memory>
 }
 
 fn type_if_there(out: &mut Vec<TokenKind>, t: &Option<Box<TypeTree>>) -> Result<(), Memory>
-    ensures { OnOk result (Adds out.old.items (optional_type t.now) out.new.items) }
+    ensures { OnOk result (Adds out.old.items (if_boxed type_pieces t.now) out.new.items) }
 {
     match t {
         Some(t) => type_tree(out, t),
@@ -175,9 +176,9 @@ fn body(out: &mut Vec<TokenKind>, b: &Body) -> Result<(), Memory>
             ..
         } => {
             sign(out, Sign::OpenBrace)?;
-            stmts(out, initial.as_slice())?;
-            workers(out, named.as_slice())?;
-            stmts(out, rest.as_slice())?;
+            stmts(out, initial)?;
+            workers(out, named)?;
+            stmts(out, rest)?;
             sign(out, Sign::CloseBrace)
         }
         Body::Expr { value, .. } => {

@@ -1,16 +1,13 @@
 //! Expressions.
-#![tactic(auto, using(crate::proofs::Adding::adding))]
+#![tactic(auto, using(crate::proofs::Adding::adding, crate::proofs::ExprLayers::expr_layers))]
 
-ghost use Rattle.std.specs.Prelude.{[], ◌∷◌, ◌++◌, ◌≡◌, OnOk, map};
-ghost use Rattle.bal_base.specs.declared.token.Sign.TheVariants.{Comma, OpenParen, CloseParen};
-ghost use Rattle.bal_base.specs.declared.token.Keyword.TheVariants.{Is};
-ghost use Rattle.bal_tree.specs.Pieces.{Adds, behind, separated, key as key_piece, sign as sign_piece};
-ghost use Rattle.bal_tree.specs.TypePieces.{type_pieces};
-ghost use Rattle.bal_tree.specs.ExprPieces.{expr_pieces, postfix_pieces, call_pieces, primary_pieces, key_pieces, prefix_op as prefix_piece, binary_sign as sign_of};
-ghost use Rattle.bal_tree.specs.ExprParts.{function_head_pieces, optional_cause, member_pieces, detail_pieces};
+ghost use Rattle.std.specs.Prelude.{◌≡◌, OnOk, map};
+ghost use Rattle.bal_base.specs.declared.token.Sign.TheVariants.{Comma};
+ghost use Rattle.bal_tree.specs.Pieces.{Adds, ◌&◌, if_boxed, behind, separated, sign as sign_piece};
+ghost use Rattle.bal_tree.specs.ExprPieces.{expr_pieces, postfix_pieces, call_pieces, primary_pieces, key_pieces, member_pieces, detail_pieces, prefix_op as prefix_piece, binary_sign as sign_of, type_test as type_test_pieces, function_head as function_head_pieces, arguments as arguments_pieces, as_next};
 
 use super::names::{literal, name, string, word};
-use super::signs::{key, key_if, sign, sign_if};
+use super::signs::{key, sign, sign_if};
 use super::types::{self, type_tree};
 use crate::expr::{BinaryOp, Call, Detail, Expr, Key, Member, Postfix, PrefixOp, Primary};
 use crate::params::Params;
@@ -74,7 +71,7 @@ pub fn expr(out: &mut Vec<TokenKind>, e: &Expr) -> Result<(), Memory>
 /// The expression behind a sign, as `, e`.
 #[cycle(exprs)]
 fn expr_behind(out: &mut Vec<TokenKind>, s: Sign, e: &Expr) -> Result<(), Memory>
-    ensures { OnOk result (Adds out.old.items (sign_piece s ∷ expr_pieces e.now) out.new.items) }
+    ensures { OnOk result (Adds out.old.items (sign_piece s & expr_pieces e.now) out.new.items) }
 {
     sign(out, s)?;
     expr(out, e)
@@ -82,7 +79,7 @@ fn expr_behind(out: &mut Vec<TokenKind>, s: Sign, e: &Expr) -> Result<(), Memory
 
 /// `is T`
 fn type_test(out: &mut Vec<TokenKind>, ty: &TypeTree) -> Result<(), Memory>
-    ensures { OnOk result (Adds out.old.items (key_piece Is ∷ type_pieces ty.now) out.new.items) }
+    ensures { OnOk result (Adds out.old.items (type_test_pieces ty.now) out.new.items) }
 {
     key(out, Keyword::Is)?;
     type_tree(out, ty)
@@ -93,19 +90,17 @@ fn function_head(
     out: &mut Vec<TokenKind>,
     isolated: bool,
     params: &Params,
-    returns: &TypeTree,
+    result_type: &TypeTree,
 ) -> Result<(), Memory>
-    ensures { OnOk result (Adds out.old.items (function_head_pieces isolated params.now returns.now) out.new.items) }
+    ensures { OnOk result (Adds out.old.items (function_head_pieces isolated params.now result_type.now) out.new.items) }
 {
-    key_if(out, isolated, Keyword::Isolated)?;
-    key(out, Keyword::Function)?;
+    types::any_function(out, isolated)?;
     types::params(out, params)?;
-    key(out, Keyword::Returns)?;
-    type_tree(out, returns)
+    types::returns(out, result_type)
 }
 
 fn prefix_op(out: &mut Vec<TokenKind>, op: PrefixOp) -> Result<(), Memory>
-    ensures { OnOk result (Adds out.old.items (prefix_piece op ∷ []) out.new.items) }
+    ensures { OnOk result (Adds out.old.items (prefix_piece op) out.new.items) }
 {
     match op {
         PrefixOp::Negate => sign(out, Sign::Minus),
@@ -171,7 +166,7 @@ pub fn call(out: &mut Vec<TokenKind>, e: &Call) -> Result<(), Memory>
     match e {
         Call::Function { callee, args, .. } => {
             postfix(out, callee)?;
-            arguments(out, args.as_slice())
+            arguments(out, args)
         }
         Call::Method {
             receiver,
@@ -182,7 +177,7 @@ pub fn call(out: &mut Vec<TokenKind>, e: &Call) -> Result<(), Memory>
             postfix(out, receiver)?;
             sign(out, Sign::Dot)?;
             word(out, method)?;
-            arguments(out, args.as_slice())
+            arguments(out, args)
         }
     }
 }
@@ -190,7 +185,7 @@ pub fn call(out: &mut Vec<TokenKind>, e: &Call) -> Result<(), Memory>
 /// `(a, b)`
 #[cycle(exprs)]
 fn arguments(out: &mut Vec<TokenKind>, args: &[Expr]) -> Result<(), Memory>
-    ensures { OnOk result (Adds out.old.items (sign_piece OpenParen ∷ separated Comma (map expr_pieces args.now) ++ sign_piece CloseParen ∷ []) out.new.items) }
+    ensures { OnOk result (Adds out.old.items (arguments_pieces (map expr_pieces args.now)) out.new.items) }
 {
     sign(out, Sign::OpenParen)?;
     exprs(out, args)?;
@@ -223,12 +218,12 @@ fn primary(out: &mut Vec<TokenKind>, e: &Primary) -> Result<(), Memory>
         }
         Primary::List { items, .. } => {
             sign(out, Sign::OpenBracket)?;
-            exprs(out, items.as_slice())?;
+            exprs(out, items)?;
             sign(out, Sign::CloseBracket)
         }
         Primary::Mapping { members, .. } => {
             sign(out, Sign::OpenBrace)?;
-            member_list(out, members.as_slice())?;
+            member_list(out, members)?;
             sign(out, Sign::CloseBrace)
         }
         Primary::Error {
@@ -241,7 +236,7 @@ fn primary(out: &mut Vec<TokenKind>, e: &Primary) -> Result<(), Memory>
             sign(out, Sign::OpenParen)?;
             expr(out, message)?;
             cause_if_there(out, cause)?;
-            detail_list(out, details.as_slice())?;
+            detail_list(out, details)?;
             sign(out, Sign::CloseParen)
         }
     }
@@ -285,7 +280,7 @@ fn member_key(out: &mut Vec<TokenKind>, k: &Key) -> Result<(), Memory>
 /// `, e`, where there is a cause.
 #[cycle(exprs)]
 fn cause_if_there(out: &mut Vec<TokenKind>, e: &Option<Box<Expr>>) -> Result<(), Memory>
-    ensures { OnOk result (Adds out.old.items (optional_cause e.now) out.new.items) }
+    ensures { OnOk result (Adds out.old.items (if_boxed (λ e. as_next (expr_pieces e)) e.now) out.new.items) }
 {
     match e {
         Some(e) => expr_behind(out, Sign::Comma, e),
@@ -307,9 +302,17 @@ fn detail_list(out: &mut Vec<TokenKind>, ds: &[Detail]) -> Result<(), Memory>
 /// `, a = x`
 #[cycle(exprs)]
 fn next_detail(out: &mut Vec<TokenKind>, d: &Detail) -> Result<(), Memory>
-    ensures { OnOk result (Adds out.old.items (sign_piece Comma ∷ detail_pieces d.now) out.new.items) }
+    ensures { OnOk result (Adds out.old.items (as_next (detail_pieces d.now)) out.new.items) }
 {
     sign(out, Sign::Comma)?;
+    detail(out, d)
+}
+
+/// `a = x`
+#[cycle(exprs)]
+fn detail(out: &mut Vec<TokenKind>, d: &Detail) -> Result<(), Memory>
+    ensures { OnOk result (Adds out.old.items (detail_pieces d.now) out.new.items) }
+{
     word(out, &d.name)?;
     expr_behind(out, Sign::Equal, &d.value)
 }

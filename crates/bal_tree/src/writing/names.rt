@@ -1,9 +1,11 @@
 //! Words, names and literals.
-ghost use Rattle.std.specs.Prelude.{[], ◌∷◌, OnOk};
+#![tactic(auto, using(crate::proofs::Adding::adding))]
+
+ghost use Rattle.std.specs.Prelude.{OnOk};
 ghost use Rattle.bal_base.specs.declared.token.TokenKind.TheVariants.{Int as IntKind, Str as StrKind};
-ghost use Rattle.bal_tree.specs.Pieces.{Adds, token as token_piece, sign as sign_piece};
+ghost use Rattle.bal_tree.specs.Pieces.{Adds, ◌&◌, token as token_piece, sign as sign_piece, if_there};
 ghost use Rattle.bal_base.specs.declared.token.Sign.TheVariants.{Minus};
-ghost use Rattle.bal_tree.specs.NamePieces.{word_pieces, prefix_pieces, prefix_part, name_pieces, literal_pieces, const_pieces};
+ghost use Rattle.bal_tree.specs.NamePieces.{word_pieces, prefix_pieces, name_pieces, literal_pieces, const_pieces};
 
 use super::signs::{key, sign};
 use crate::name::{ConstValue, Literal, Prefix, QualifiedName, Word};
@@ -17,14 +19,14 @@ pub fn word(out: &mut Vec<TokenKind>, w: &Word) -> Result<(), Memory>
 }
 
 pub fn int(out: &mut Vec<TokenKind>, value: i64) -> Result<(), Memory>
-    ensures { OnOk result (Adds out.old.items (token_piece (IntKind value) ∷ []) out.new.items) }
+    ensures { OnOk result (Adds out.old.items (token_piece (IntKind value)) out.new.items) }
 {
     out.push(TokenKind::Int(value))?;
     Ok(())
 }
 
 pub fn string(out: &mut Vec<TokenKind>, text: &Text) -> Result<(), Memory>
-    ensures { OnOk result (Adds out.old.items (token_piece (StrKind text.now) ∷ []) out.new.items) }
+    ensures { OnOk result (Adds out.old.items (token_piece (StrKind text.now)) out.new.items) }
 {
     out.push(TokenKind::Str(text.share()))?;
     Ok(())
@@ -38,7 +40,7 @@ pub fn name(out: &mut Vec<TokenKind>, n: &QualifiedName) -> Result<(), Memory>
 }
 
 fn prefix_if_there(out: &mut Vec<TokenKind>, p: &Option<Prefix>) -> Result<(), Memory>
-    ensures { OnOk result (Adds out.old.items (prefix_part p.now) out.new.items) }
+    ensures { OnOk result (Adds out.old.items (if_there prefix_pieces p.now) out.new.items) }
 {
     match p {
         Some(p) => prefix(out, p),
@@ -73,7 +75,7 @@ pub fn literal(out: &mut Vec<TokenKind>, l: &Literal) -> Result<(), Memory>
 
 /// An int behind a minus sign.
 pub fn negative(out: &mut Vec<TokenKind>, value: i64) -> Result<(), Memory>
-    ensures { OnOk result (Adds out.old.items (sign_piece Minus ∷ token_piece (IntKind value) ∷ []) out.new.items) }
+    ensures { OnOk result (Adds out.old.items (sign_piece Minus & token_piece (IntKind value)) out.new.items) }
 {
     sign(out, Sign::Minus)?;
     int(out, value)

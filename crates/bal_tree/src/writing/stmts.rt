@@ -1,15 +1,13 @@
 //! Statements.
-#![tactic(auto, using(crate::proofs::Adding::adding))]
+#![tactic(auto, using(crate::proofs::Adding::adding, crate::proofs::StmtLayers::stmt_layers))]
 
-ghost use Rattle.std.specs.Prelude.{◌≡◌, [], ◌∷◌, ◌++◌, OnOk, map};
+ghost use Rattle.std.specs.Prelude.{◌≡◌, OnOk, map};
 ghost use Rattle.bal_base.specs.declared.token.Keyword.TheVariants.{Final, Return, Panic};
-ghost use Rattle.bal_base.specs.declared.token.Sign.TheVariants.{Equal, Underscore, Semicolon, Bar};
-ghost use Rattle.bal_tree.specs.Pieces.{Adds, key as key_piece, key_if as key_if_pieces, sign as sign_piece, joined, separated};
-ghost use Rattle.bal_tree.specs.NamePieces.{word_pieces};
+ghost use Rattle.bal_base.specs.declared.token.Sign.TheVariants.{Equal, Underscore, Semicolon, Bar, OpenBrace, CloseBrace};
+ghost use Rattle.bal_tree.specs.Pieces.{Adds, ◌&◌, key as key_piece, key_if as key_if_pieces, sign as sign_piece, if_there, if_boxed, joined, separated};
 ghost use Rattle.bal_tree.specs.ExprPieces.{expr_pieces};
 ghost use Rattle.bal_tree.specs.ActionPieces.{rhs_pieces};
-ghost use Rattle.bal_tree.specs.StmtPieces.{local_type_pieces, target_pieces, assign_sign as sign_of_op, range_sign as sign_of_range, range_pieces, pattern_pieces, optional_rhs, stmt_pieces, else_pieces, block_pieces};
-ghost use Rattle.bal_tree.specs.StmtParts.{if_pieces, else_part, clause_pieces, foreach_part, clauses_part};
+ghost use Rattle.bal_tree.specs.StmtPieces.{local_type_pieces, target_pieces, assign_sign as sign_of_op, range_sign as sign_of_range, range_pieces, pattern_pieces, ended as ended_pieces, local_pieces, foreach_head as foreach_pieces, as_else, stmt_pieces, else_pieces, if_pieces, block_pieces, clause_pieces};
 
 use super::actions::rhs;
 use super::exprs::{expr, postfix};
@@ -39,7 +37,7 @@ pub fn block(out: &mut Vec<TokenKind>, b: &Block) -> Result<(), Memory>
     ensures { OnOk result (Adds out.old.items (block_pieces b.now) out.new.items) }
 {
     sign(out, Sign::OpenBrace)?;
-    stmts(out, b.stmts.as_slice())?;
+    stmts(out, &b.stmts)?;
     sign(out, Sign::CloseBrace)
 }
 
@@ -91,7 +89,7 @@ fn stmt(out: &mut Vec<TokenKind>, s: &Stmt) -> Result<(), Memory>
         } => {
             key(out, Keyword::Match)?;
             expr(out, value)?;
-            clauses(out, rows.as_slice())
+            clauses(out, rows)
         }
         Stmt::Return { value, .. } => return_stmt(out, value),
         Stmt::Panic { value, .. } => panic_stmt(out, value),
@@ -108,7 +106,7 @@ fn local(
     name: &Word,
     value: &Rhs,
 ) -> Result<(), Memory>
-    ensures { OnOk result (Adds out.old.items (key_if_pieces is_final Final ++ local_type_pieces ty.now ++ word_pieces name.now ++ sign_piece Equal ∷ rhs_pieces value.now ++ sign_piece Semicolon ∷ []) out.new.items) }
+    ensures { OnOk result (Adds out.old.items (key_if_pieces is_final Final & local_pieces ty.now name.now value.now) out.new.items) }
 {
     key_if(out, is_final, Keyword::Final)?;
     local_type(out, ty)?;
@@ -127,7 +125,7 @@ fn local_type(out: &mut Vec<TokenKind>, ty: &LocalType) -> Result<(), Memory>
 }
 
 fn assign(out: &mut Vec<TokenKind>, to: &Target, op: AssignOp, value: &Rhs) -> Result<(), Memory>
-    ensures { OnOk result (Adds out.old.items (target_pieces to.now ++ sign_piece (sign_of_op op) ∷ rhs_pieces value.now ++ sign_piece Semicolon ∷ []) out.new.items) }
+    ensures { OnOk result (Adds out.old.items (target_pieces to.now & sign_piece (sign_of_op op) & ended_pieces value.now) out.new.items) }
 {
     target(out, to)?;
     sign(out, assign_sign(op))?;
@@ -167,14 +165,14 @@ fn assign_sign(op: AssignOp) -> Sign
 
 /// An expression or an action, and the semicolon behind it.
 fn ended(out: &mut Vec<TokenKind>, r: &Rhs) -> Result<(), Memory>
-    ensures { OnOk result (Adds out.old.items (rhs_pieces r.now ++ sign_piece Semicolon ∷ []) out.new.items) }
+    ensures { OnOk result (Adds out.old.items (ended_pieces r.now) out.new.items) }
 {
     rhs(out, r)?;
     sign(out, Sign::Semicolon)
 }
 
 fn rhs_if_there(out: &mut Vec<TokenKind>, r: &Option<Rhs>) -> Result<(), Memory>
-    ensures { OnOk result (Adds out.old.items (optional_rhs r.now) out.new.items) }
+    ensures { OnOk result (Adds out.old.items (if_there rhs_pieces r.now) out.new.items) }
 {
     match r {
         Some(r) => rhs(out, r),
@@ -183,7 +181,7 @@ fn rhs_if_there(out: &mut Vec<TokenKind>, r: &Option<Rhs>) -> Result<(), Memory>
 }
 
 fn ignore(out: &mut Vec<TokenKind>, value: &Rhs) -> Result<(), Memory>
-    ensures { OnOk result (Adds out.old.items (sign_piece Underscore ∷ sign_piece Equal ∷ rhs_pieces value.now ++ sign_piece Semicolon ∷ []) out.new.items) }
+    ensures { OnOk result (Adds out.old.items (sign_piece Underscore & sign_piece Equal & ended_pieces value.now) out.new.items) }
 {
     sign(out, Sign::Underscore)?;
     sign(out, Sign::Equal)?;
@@ -191,7 +189,7 @@ fn ignore(out: &mut Vec<TokenKind>, value: &Rhs) -> Result<(), Memory>
 }
 
 fn return_stmt(out: &mut Vec<TokenKind>, value: &Option<Rhs>) -> Result<(), Memory>
-    ensures { OnOk result (Adds out.old.items (key_piece Return ∷ optional_rhs value.now ++ sign_piece Semicolon ∷ []) out.new.items) }
+    ensures { OnOk result (Adds out.old.items (key_piece Return & if_there rhs_pieces value.now & sign_piece Semicolon) out.new.items) }
 {
     key(out, Keyword::Return)?;
     rhs_if_there(out, value)?;
@@ -199,7 +197,7 @@ fn return_stmt(out: &mut Vec<TokenKind>, value: &Option<Rhs>) -> Result<(), Memo
 }
 
 fn panic_stmt(out: &mut Vec<TokenKind>, value: &Expr) -> Result<(), Memory>
-    ensures { OnOk result (Adds out.old.items (key_piece Panic ∷ expr_pieces value.now ++ sign_piece Semicolon ∷ []) out.new.items) }
+    ensures { OnOk result (Adds out.old.items (key_piece Panic & expr_pieces value.now & sign_piece Semicolon) out.new.items) }
 {
     key(out, Keyword::Panic)?;
     expr(out, value)?;
@@ -208,7 +206,7 @@ fn panic_stmt(out: &mut Vec<TokenKind>, value: &Expr) -> Result<(), Memory>
 
 /// A keyword, and the semicolon behind it.
 fn key_alone(out: &mut Vec<TokenKind>, k: Keyword) -> Result<(), Memory>
-    ensures { OnOk result (Adds out.old.items (key_piece k ∷ sign_piece Semicolon ∷ []) out.new.items) }
+    ensures { OnOk result (Adds out.old.items (key_piece k & sign_piece Semicolon) out.new.items) }
 {
     key(out, k)?;
     sign(out, Sign::Semicolon)
@@ -226,7 +224,7 @@ fn if_stmt(out: &mut Vec<TokenKind>, s: &IfStmt) -> Result<(), Memory>
 
 #[cycle(stmt)]
 fn else_if_there(out: &mut Vec<TokenKind>, e: &Option<Box<Else>>) -> Result<(), Memory>
-    ensures { OnOk result (Adds out.old.items (else_part e.now) out.new.items) }
+    ensures { OnOk result (Adds out.old.items (if_boxed (λ e. as_else (else_pieces e)) e.now) out.new.items) }
 {
     match e {
         Some(e) => {
@@ -255,7 +253,7 @@ fn foreach_head(
     from: &Expr,
     range: &Option<Range>,
 ) -> Result<(), Memory>
-    ensures { OnOk result (Adds out.old.items (foreach_part ty.now name.now from.now range.now) out.new.items) }
+    ensures { OnOk result (Adds out.old.items (foreach_pieces ty.now name.now from.now range.now) out.new.items) }
 {
     key(out, Keyword::Foreach)?;
     local_type(out, ty)?;
@@ -266,7 +264,7 @@ fn foreach_head(
 }
 
 fn range_if_there(out: &mut Vec<TokenKind>, range: &Option<Range>) -> Result<(), Memory>
-    ensures { OnOk result (Adds out.old.items (range_pieces range.now) out.new.items) }
+    ensures { OnOk result (Adds out.old.items (if_there range_pieces range.now) out.new.items) }
 {
     match range {
         Some(range) => {
@@ -289,7 +287,7 @@ fn range_sign(op: RangeOp) -> Sign
 /// The clauses of a match statement, between braces.
 #[cycle(stmt)]
 fn clauses(out: &mut Vec<TokenKind>, clauses: &[Clause]) -> Result<(), Memory>
-    ensures { OnOk result (Adds out.old.items (clauses_part clauses.now) out.new.items) }
+    ensures { OnOk result (Adds out.old.items (sign_piece OpenBrace & joined (map clause_pieces clauses.now) & sign_piece CloseBrace) out.new.items) }
 {
     sign(out, Sign::OpenBrace)?;
     each_clause(out, clauses)?;
@@ -310,7 +308,7 @@ fn each_clause(out: &mut Vec<TokenKind>, clauses: &[Clause]) -> Result<(), Memor
 fn clause(out: &mut Vec<TokenKind>, c: &Clause) -> Result<(), Memory>
     ensures { OnOk result (Adds out.old.items (clause_pieces c.now) out.new.items) }
 {
-    patterns(out, c.patterns.as_slice())?;
+    patterns(out, &c.patterns)?;
     sign(out, Sign::FatArrow)?;
     block(out, &c.body)
 }

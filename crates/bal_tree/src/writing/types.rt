@@ -1,20 +1,20 @@
 //! Type descriptors and parameters.
-#![tactic(auto, using(crate::proofs::Adding::adding))]
+#![tactic(auto, using(crate::proofs::Adding::adding, crate::proofs::TypeLayers::type_layers))]
 
-ghost use Rattle.std.specs.Prelude.{◌≡◌, [], ◌∷◌, ◌++◌, OnOk, map};
-ghost use Rattle.bal_base.specs.declared.token.Keyword.TheVariants.{Map as MapKey, Future as FutureKey, Error as ErrorKey, Returns as ReturnsKey};
-ghost use Rattle.bal_base.specs.declared.token.Sign.TheVariants.{Comma, OpenParen, CloseParen};
-ghost use Rattle.bal_tree.specs.Pieces.{Adds, key as key_piece, sign as sign_piece, separated};
-ghost use Rattle.bal_tree.specs.TypePieces.{type_pieces, intersection_pieces, postfix_type_pieces, primary_type_pieces, builtin_key as builtin_word, detail_type_pieces, fields_pieces, rest_field_pieces, param_types_pieces, result_pieces, optional_word, param_pieces, rest_param_pieces, params_pieces};
-ghost use Rattle.bal_tree.specs.TypeParts.{held, in_angles as angle_pieces, open_record_pieces, function_word, field_pieces, param_type_pieces, rest_type_pieces, last_param_pieces};
+ghost use Rattle.std.specs.Prelude.{◌≡◌, OnOk, map};
+ghost use Rattle.bal_base.specs.declared.token.Keyword.TheVariants.{Record as RecordKey};
+ghost use Rattle.bal_base.specs.declared.token.Sign.TheVariants.{Comma, OpenParen, CloseParen, OpenBracket, CloseBracket, OpenBrace, CloseBrace, OpenBraceBar, CloseBraceBar, Semicolon};
+ghost use Rattle.bal_tree.specs.Pieces.{Adds, ◌&◌, key as key_piece, sign as sign_piece, sign_if as sign_if_piece, if_there, if_boxed, joined, separated};
+ghost use Rattle.bal_tree.specs.NamePieces.{word_pieces};
+ghost use Rattle.bal_tree.specs.TypePieces.{type_pieces, intersection_pieces, postfix_type_pieces, primary_type_pieces, field_pieces, param_type_pieces, param_types_pieces, builtin_key as builtin_word, in_angles as angled, returning, as_rest, function_word, with_last_boxed, param_pieces, rest_param_pieces, params_pieces};
 
 use super::names::{int, literal, name, negative, word};
 use super::signs::{key, key_if, sign, sign_if};
 use crate::name::Word;
 use crate::params::{Param, Params};
 use crate::types::{
-    BuiltinType, FieldTree, FieldTrees, IntersectionType, ParamType, ParamTypes, PostfixType,
-    PrimaryType, TypeTree,
+    BuiltinType, FieldTree, IntersectionType, ParamType, ParamTypes, PostfixType, PrimaryType,
+    TypeTree,
 };
 use bal_base::{Keyword, Memory, Sign, TokenKind};
 
@@ -80,11 +80,19 @@ fn primary(out: &mut Vec<TokenKind>, t: &PrimaryType) -> Result<(), Memory>
         PrimaryType::Negative { int, .. } => negative(out, *int),
         PrimaryType::Parens { inner, .. } => parens(out, inner),
         PrimaryType::Name(n) => name(out, n),
-        PrimaryType::Map { member, .. } => map_type(out, member),
-        PrimaryType::Future { result, .. } => future_type(out, result),
-        PrimaryType::Error { detail, .. } => error_type(out, detail),
+        PrimaryType::Map { member, .. } => {
+            key(out, Keyword::Map)?;
+            in_angles(out, member)
+        }
+        PrimaryType::Future { result, .. } => {
+            key(out, Keyword::Future)?;
+            in_angles(out, result)
+        }
+        PrimaryType::Error { detail, .. } => {
+            key(out, Keyword::Error)?;
+            angles_if_there(out, detail)
+        }
         PrimaryType::Tuple { members, rest, .. } => {
-            let members = members.as_slice();
             sign(out, Sign::OpenBracket)?;
             type_list(out, members)?;
             rest_type(out, !members.is_empty(), rest)?;
@@ -129,48 +137,32 @@ fn builtin_key(builtin: BuiltinType) -> Keyword
 
 #[cycle(types)]
 fn parens(out: &mut Vec<TokenKind>, inner: &TypeTree) -> Result<(), Memory>
-    ensures { OnOk result (Adds out.old.items (sign_piece OpenParen ∷ type_pieces inner.now ++ sign_piece CloseParen ∷ []) out.new.items) }
+    ensures { OnOk result (Adds out.old.items (sign_piece OpenParen & type_pieces inner.now & sign_piece CloseParen) out.new.items) }
 {
     sign(out, Sign::OpenParen)?;
     type_tree(out, inner)?;
     sign(out, Sign::CloseParen)
 }
 
-#[cycle(types)]
-fn map_type(out: &mut Vec<TokenKind>, member: &TypeTree) -> Result<(), Memory>
-    ensures { OnOk result (Adds out.old.items (key_piece MapKey ∷ angle_pieces member.now) out.new.items) }
-{
-    key(out, Keyword::Map)?;
-    in_angles(out, member)
-}
-
-#[cycle(types)]
-fn future_type(out: &mut Vec<TokenKind>, t: &TypeTree) -> Result<(), Memory>
-    ensures { OnOk result (Adds out.old.items (key_piece FutureKey ∷ angle_pieces t.now) out.new.items) }
-{
-    key(out, Keyword::Future)?;
-    in_angles(out, t)
-}
-
-#[cycle(types)]
-fn error_type(out: &mut Vec<TokenKind>, detail: &Option<Box<TypeTree>>) -> Result<(), Memory>
-    ensures { OnOk result (Adds out.old.items (key_piece ErrorKey ∷ detail_type_pieces (held detail.now)) out.new.items) }
-{
-    key(out, Keyword::Error)?;
-    match detail {
-        Some(t) => in_angles(out, t),
-        None => Ok(()),
-    }
-}
-
 /// `<T>`
 #[cycle(types)]
 pub fn in_angles(out: &mut Vec<TokenKind>, t: &TypeTree) -> Result<(), Memory>
-    ensures { OnOk result (Adds out.old.items (angle_pieces t.now) out.new.items) }
+    ensures { OnOk result (Adds out.old.items (angled (type_pieces t.now)) out.new.items) }
 {
     sign(out, Sign::Less)?;
     type_tree(out, t)?;
     sign(out, Sign::Greater)
+}
+
+/// `<T>`, where there is a type.
+#[cycle(types)]
+fn angles_if_there(out: &mut Vec<TokenKind>, t: &Option<Box<TypeTree>>) -> Result<(), Memory>
+    ensures { OnOk result (Adds out.old.items (if_boxed (λ t. angled (type_pieces t)) t.now) out.new.items) }
+{
+    match t {
+        Some(t) => in_angles(out, t),
+        None => Ok(()),
+    }
 }
 
 /// `T, U`
@@ -192,7 +184,7 @@ fn rest_type(
     comma: bool,
     rest: &Option<Box<TypeTree>>,
 ) -> Result<(), Memory>
-    ensures { OnOk result (Adds out.old.items (rest_type_pieces comma (held rest.now)) out.new.items) }
+    ensures { OnOk result (Adds out.old.items (if_boxed (λ t. sign_if_piece comma Comma & as_rest (type_pieces t)) rest.now) out.new.items) }
 {
     match rest {
         Some(t) => {
@@ -204,9 +196,10 @@ fn rest_type(
     }
 }
 
+/// `record { T a; U b?; }`
 #[cycle(types)]
-fn open_record(out: &mut Vec<TokenKind>, fields: &FieldTrees) -> Result<(), Memory>
-    ensures { OnOk result (Adds out.old.items (open_record_pieces fields.now) out.new.items) }
+fn open_record(out: &mut Vec<TokenKind>, fields: &[FieldTree]) -> Result<(), Memory>
+    ensures { OnOk result (Adds out.old.items (key_piece RecordKey & sign_piece OpenBrace & joined (map field_pieces fields.now) & sign_piece CloseBrace) out.new.items) }
 {
     key(out, Keyword::Record)?;
     sign(out, Sign::OpenBrace)?;
@@ -215,10 +208,10 @@ fn open_record(out: &mut Vec<TokenKind>, fields: &FieldTrees) -> Result<(), Memo
 }
 
 #[cycle(types)]
-fn field_list(out: &mut Vec<TokenKind>, fields: &FieldTrees) -> Result<(), Memory>
-    ensures { OnOk result (Adds out.old.items (fields_pieces fields.now) out.new.items) }
+fn field_list(out: &mut Vec<TokenKind>, fields: &[FieldTree]) -> Result<(), Memory>
+    ensures { OnOk result (Adds out.old.items (joined (map field_pieces fields.now)) out.new.items) }
 {
-    for f in fields.as_slice() {
+    for f in fields {
         field(out, f)?;
     }
     Ok(())
@@ -237,7 +230,7 @@ fn field(out: &mut Vec<TokenKind>, f: &FieldTree) -> Result<(), Memory>
 /// `T...;`, where there is a type.
 #[cycle(types)]
 fn rest_field(out: &mut Vec<TokenKind>, rest: &Option<Box<TypeTree>>) -> Result<(), Memory>
-    ensures { OnOk result (Adds out.old.items (rest_field_pieces (held rest.now)) out.new.items) }
+    ensures { OnOk result (Adds out.old.items (if_boxed (λ t. as_rest (type_pieces t) & sign_piece Semicolon) rest.now) out.new.items) }
 {
     match rest {
         Some(t) => {
@@ -249,7 +242,8 @@ fn rest_field(out: &mut Vec<TokenKind>, rest: &Option<Box<TypeTree>>) -> Result<
     }
 }
 
-fn any_function(out: &mut Vec<TokenKind>, isolated: bool) -> Result<(), Memory>
+/// `function`, behind `isolated` where it is there.
+pub fn any_function(out: &mut Vec<TokenKind>, isolated: bool) -> Result<(), Memory>
     ensures { OnOk result (Adds out.old.items (function_word isolated) out.new.items) }
 {
     key_if(out, isolated, Keyword::Isolated)?;
@@ -260,7 +254,7 @@ fn any_function(out: &mut Vec<TokenKind>, isolated: bool) -> Result<(), Memory>
 fn param_types(out: &mut Vec<TokenKind>, p: &ParamTypes) -> Result<(), Memory>
     ensures { OnOk result (Adds out.old.items (param_types_pieces p.now) out.new.items) }
 {
-    let params = p.params.as_slice();
+    let params = &p.params;
     sign(out, Sign::OpenParen)?;
     param_type_list(out, params)?;
     rest_type(out, !params.is_empty(), &p.rest)?;
@@ -287,7 +281,7 @@ fn param_type(out: &mut Vec<TokenKind>, p: &ParamType) -> Result<(), Memory>
 }
 
 fn word_if_there(out: &mut Vec<TokenKind>, w: &Option<Word>) -> Result<(), Memory>
-    ensures { OnOk result (Adds out.old.items (optional_word w.now) out.new.items) }
+    ensures { OnOk result (Adds out.old.items (if_there word_pieces w.now) out.new.items) }
 {
     match w {
         Some(w) => word(out, w),
@@ -298,7 +292,7 @@ fn word_if_there(out: &mut Vec<TokenKind>, w: &Option<Word>) -> Result<(), Memor
 /// `returns T`, where there is a type.
 #[cycle(types)]
 pub fn result_if_there(out: &mut Vec<TokenKind>, t: &Option<Box<TypeTree>>) -> Result<(), Memory>
-    ensures { OnOk result (Adds out.old.items (result_pieces (held t.now)) out.new.items) }
+    ensures { OnOk result (Adds out.old.items (if_boxed (λ t. returning (type_pieces t)) t.now) out.new.items) }
 {
     match t {
         Some(t) => returns(out, t),
@@ -308,8 +302,8 @@ pub fn result_if_there(out: &mut Vec<TokenKind>, t: &Option<Box<TypeTree>>) -> R
 
 /// `returns T`
 #[cycle(types)]
-fn returns(out: &mut Vec<TokenKind>, t: &TypeTree) -> Result<(), Memory>
-    ensures { OnOk result (Adds out.old.items (key_piece ReturnsKey ∷ type_pieces t.now) out.new.items) }
+pub fn returns(out: &mut Vec<TokenKind>, t: &TypeTree) -> Result<(), Memory>
+    ensures { OnOk result (Adds out.old.items (returning (type_pieces t.now)) out.new.items) }
 {
     key(out, Keyword::Returns)?;
     type_tree(out, t)
@@ -318,7 +312,7 @@ fn returns(out: &mut Vec<TokenKind>, t: &TypeTree) -> Result<(), Memory>
 pub fn params(out: &mut Vec<TokenKind>, p: &Params) -> Result<(), Memory>
     ensures { OnOk result (Adds out.old.items (params_pieces p.now) out.new.items) }
 {
-    let params = p.params.as_slice();
+    let params = &p.params;
     sign(out, Sign::OpenParen)?;
     param_list(out, params)?;
     last_param(out, !params.is_empty(), &p.rest)?;
@@ -344,7 +338,7 @@ fn param(out: &mut Vec<TokenKind>, p: &Param) -> Result<(), Memory>
 
 /// The parameter that takes the rest, if there is one, and a comma before it where one is asked for.
 fn last_param(out: &mut Vec<TokenKind>, comma: bool, rest: &Option<Param>) -> Result<(), Memory>
-    ensures { OnOk result (Adds out.old.items (last_param_pieces comma rest.now) out.new.items) }
+    ensures { OnOk result (Adds out.old.items (if_there (λ p. sign_if_piece comma Comma & rest_param_pieces p) rest.now) out.new.items) }
 {
     match rest {
         Some(p) => {

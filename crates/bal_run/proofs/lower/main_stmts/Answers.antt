@@ -10,7 +10,7 @@ pub returns : goal.returns
 returns c =
     let r = c.requires in
     let f = c.function_of.result.now in
-    let found = c.def-item.is ∙ ((λ i. get_or (c.as_slice.ensures i) 0 c.def-item.result) ∙ ap (λ l. get_or l 0 c.def-item.result) r.2) in
+    let found = c.def-item.is ∙ ((λ i. get_or (c.as_slice.ensures.value i) 0 c.def-item.result) ∙ ap (λ l. get_or l 0 c.def-item.result) r.2) in
     let main_is = sym found ∙ c.function_of.ensures in
     let given = subst (IsMain r.1) main_is r.3 in
     let stmts = c.stmts_of.result.now in

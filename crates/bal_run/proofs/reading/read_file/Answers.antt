@@ -27,10 +27,10 @@ returns-clause-read c =
       c.in-Some-2.main,
       subst (λ (x : List ℕ). ImportReads size x c.in-Some.import c.in-Some.header.now) start import,
       main,
-      c.of.ensures ∙ c.in_ok-vec.ensures.items,
-      c.of-2.ensures ∙ c.in_ok-vec-2.ensures.items,
+      c.in_ok-vec.ensures.items,
+      c.in_ok-vec-2.ensures.items,
       c.place.ensures ∙ ap (place_of size) start,
     )
 
 pub returns-clause-sums : goal.returns-clause-sums
-returns-clause-sums c = is_sum_program c.args.bytes.now record { imports = c.of.result; defs = c.of-2.result; at = c.place.result } (returns-clause-read c)
+returns-clause-sums c = is_sum_program c.args.bytes.now record { imports = c.in_ok-vec.field-0; defs = c.in_ok-vec-2.field-0; at = c.place.result } (returns-clause-read c)

@@ -1,8 +1,8 @@
 use Rattle.bal_base.specs.declared.token.Sign.TheVariants.{Bar}
 use Rattle.bal_tree.specs.NamePieces.{name_pieces}
-use Rattle.bal_tree.proofs.Listing.{adds-next_listed}
+use Rattle.bal_tree.proofs.Adding.{separated-more}
 use Rattle.bal_tree.proofs.writing.actions.alternatives.Goals as goal
 
 pub loop-i-preserved : goal.loop-i-preserved
 loop-i-preserved c =
-    adds-next_listed name_pieces Bar c.args.names.now c.loop-i.i c.index-names-i.result c.args.out.now.items c.loop-i.out.items c.sign_if.new.out.items c.name.new.out.items c.loop-i-test.true c.index-names-i.is c.loop-i.invariant c.in_ok-sign_if.ensures c.in_ok-name.ensures
+    separated-more name_pieces Bar c.args.names.now c.loop-i.i c.index-names-i.result c.args.out.now.items c.loop-i.out.items c.sign_if.new.out.items c.name.new.out.items c.loop-i-test.true c.index-names-i.is c.loop-i.invariant c.in_ok-sign_if.ensures c.in_ok-name.ensures

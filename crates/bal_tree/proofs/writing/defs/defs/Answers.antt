@@ -1,11 +1,8 @@
 use Rattle.std.proofs.Common.{arith}
 use Rattle.bal_tree.specs.DefPieces.{def_pieces}
-use Rattle.bal_tree.proofs.Joining.{joined-more, joined-all}
+use Rattle.bal_tree.proofs.Adding.{joined-more}
 use Rattle.bal_tree.proofs.writing.defs.defs.Goals as goal
 
 pub loop-d-preserved : goal.loop-d-preserved
 loop-d-preserved c =
     joined-more def_pieces c.args.defs.now c.loop-d.d-index c.d-item.result c.args.out.now.items c.loop-d.out.items c.def.new.out.items (grind (arith, c.loop-d-test.true)) c.d-item.is c.loop-d.invariant c.in_ok-def.ensures
-
-pub returns : goal.returns
-returns c = joined-all def_pieces c.args.defs.now c.loop-d.d-index c.args.out.now.items c.loop-d.out.items (grind (arith, c.loop-d-test.false)) c.loop-d.invariant

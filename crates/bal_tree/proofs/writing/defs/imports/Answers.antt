@@ -1,11 +1,8 @@
 use Rattle.std.proofs.Common.{arith}
 use Rattle.bal_tree.specs.DefPieces.{import_pieces}
-use Rattle.bal_tree.proofs.Joining.{joined-more, joined-all}
+use Rattle.bal_tree.proofs.Adding.{joined-more}
 use Rattle.bal_tree.proofs.writing.defs.imports.Goals as goal
 
 pub loop-i-preserved : goal.loop-i-preserved
 loop-i-preserved c =
     joined-more import_pieces c.args.imports.now c.loop-i.i-index c.i-item.result c.args.out.now.items c.loop-i.out.items c.import.new.out.items (grind (arith, c.loop-i-test.true)) c.i-item.is c.loop-i.invariant c.in_ok-import.ensures
-
-pub returns : goal.returns
-returns c = joined-all import_pieces c.args.imports.now c.loop-i.i-index c.args.out.now.items c.loop-i.out.items (grind (arith, c.loop-i-test.false)) c.loop-i.invariant

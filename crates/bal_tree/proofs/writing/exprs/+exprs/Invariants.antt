@@ -1,8 +1,7 @@
 use Rattle.std.proofs.Common.{map, take}
 use Rattle.bal_base.specs.declared.token.Sign.TheVariants.{Comma}
 use Rattle.bal_tree.specs.Pieces.{Adds, behind, separated}
-use Rattle.bal_tree.specs.ExprPieces.{expr_pieces}
-use Rattle.bal_tree.specs.ExprParts.{member_pieces, detail_pieces}
+use Rattle.bal_tree.specs.ExprPieces.{expr_pieces, member_pieces, detail_pieces}
 use Rattle.bal_tree.proofs.writing.exprs.+exprs.Given as goal
 
 abbrev pub invariant-exprs-loop-i : goal.invariant-exprs-loop-i

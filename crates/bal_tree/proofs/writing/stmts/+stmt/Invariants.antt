@@ -1,7 +1,6 @@
 use Rattle.std.proofs.Common.{map, take}
 use Rattle.bal_tree.specs.Pieces.{Adds, joined}
-use Rattle.bal_tree.specs.StmtPieces.{stmt_pieces}
-use Rattle.bal_tree.specs.StmtParts.{clause_pieces}
+use Rattle.bal_tree.specs.StmtPieces.{stmt_pieces, clause_pieces}
 use Rattle.bal_tree.proofs.writing.stmts.+stmt.Given as goal
 
 abbrev pub invariant-stmts-loop-s : goal.invariant-stmts-loop-s

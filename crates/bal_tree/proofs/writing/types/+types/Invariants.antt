@@ -1,15 +1,14 @@
 use Rattle.std.proofs.Common.{map, take}
 use Rattle.bal_base.specs.declared.token.Sign.TheVariants.{Comma}
 use Rattle.bal_tree.specs.Pieces.{Adds, joined, separated}
-use Rattle.bal_tree.specs.TypePieces.{type_pieces}
-use Rattle.bal_tree.specs.TypeParts.{field_pieces, param_type_pieces}
+use Rattle.bal_tree.specs.TypePieces.{type_pieces, field_pieces, param_type_pieces}
 use Rattle.bal_tree.proofs.writing.types.+types.Given as goal
 
 abbrev pub invariant-type_list-loop-i : goal.invariant-type_list-loop-i
 invariant-type_list-loop-i l = Adds l.initial.out.items (separated Comma (map type_pieces (take l.i l.types))) l.out.items
 
 abbrev pub invariant-field_list-loop-f : goal.invariant-field_list-loop-f
-invariant-field_list-loop-f l = Adds l.initial.out.items (joined (map field_pieces (take l.f-index l.f-items))) l.out.items
+invariant-field_list-loop-f l = Adds l.initial.out.items (joined (map field_pieces (take l.f-index l.fields))) l.out.items
 
 abbrev pub invariant-param_type_list-loop-i : goal.invariant-param_type_list-loop-i
 invariant-param_type_list-loop-i l = Adds l.initial.out.items (separated Comma (map param_type_pieces (take l.i l.params))) l.out.items
