@@ -1,0 +1,122 @@
+-- How deep a token stands, in brackets and in chains.
+use Rattle.std.specs.Prelude.{ℕ, zero, suc, ◌+◌, Bool, true, false, not, nat_lt, if◌then◌else◌, List, [], ◌∷◌, length, sum, Option, None, Some}
+use Rattle.std.specs.Option.{option_map_or}
+use Rattle.std.specs.List.{position_from}
+use Rattle.bal_base.specs.declared.limits.TheConstants.{MOST_NESTING}
+use Rattle.bal_base.specs.declared.token.TokenKind.{TokenKind}
+use Rattle.bal_base.specs.declared.token.TokenKind.TheVariants.{Keyword as KeywordKind, Sign as SignKind}
+use Rattle.bal_base.specs.declared.token.Keyword.TheVariants.{Else, Is}
+use Rattle.bal_base.specs.declared.token.Sign.TheVariants.{OpenParen, CloseParen, OpenBracket, CloseBracket, OpenBrace, CloseBrace, OpenBraceBar, CloseBraceBar, Semicolon, Comma, FatArrow}
+use Rattle.parse_types.specs.Tokens.{Kinds}
+
+-- ---- what a token is
+
+abbrev pub is_opening : TokenKind → Bool
+is_opening (SignKind OpenParen) = true
+is_opening (SignKind OpenBracket) = true
+is_opening (SignKind OpenBrace) = true
+is_opening (SignKind OpenBraceBar) = true
+is_opening _ = false
+
+abbrev pub is_closing : TokenKind → Bool
+is_closing (SignKind CloseParen) = true
+is_closing (SignKind CloseBracket) = true
+is_closing (SignKind CloseBrace) = true
+is_closing (SignKind CloseBraceBar) = true
+is_closing _ = false
+
+-- a word of the language, or a sign
+abbrev pub is_fixed : TokenKind → Bool
+is_fixed (KeywordKind k) = true
+is_fixed (SignKind s) = true
+is_fixed _ = false
+
+-- behind `}`, what goes on with what the brace ends
+abbrev pub goes_on : TokenKind → Bool
+goes_on (KeywordKind Else) = true
+goes_on (KeywordKind Is) = true
+goes_on (SignKind s) = true
+goes_on _ = false
+
+-- ---- levels: the outermost one, and one for each open bracket
+
+pub record Levels : Type 0 where
+  -- how many tokens count in the innermost level
+  pub count : ℕ
+  -- and in the levels around it, innermost first
+  pub around : List ℕ
+
+abbrev pub outermost : Levels
+outermost = record { count = 0; around = [] }
+
+-- the open brackets and all counts
+abbrev pub nesting : Levels → ℕ
+nesting l = length l.around + (l.count + sum l.around)
+
+abbrev pub opened : Levels → Levels
+opened l = record { count = 0; around = l.count ∷ l.around }
+
+-- the innermost open bracket closes, whatever its kind; the outermost level stays
+abbrev pub around_or : Levels → List ℕ → Levels
+around_or l [] = l
+around_or l (count ∷ around) = record { count = count; around = around }
+
+abbrev pub closed : Levels → Levels
+closed l = around_or l l.around
+
+abbrev pub one_more : Levels → Levels
+one_more l = record { count = l.count + 1; around = l.around }
+
+abbrev pub anew : Levels → Levels
+anew l = record { count = 0; around = l.around }
+
+-- ---- along the tokens
+
+-- at `=>` before `{` the count begins anew
+abbrev pub begins_anew : TokenKind → Kinds → Bool
+begins_anew (SignKind FatArrow) (SignKind OpenBrace ∷ rest) = true
+begins_anew _ _ = false
+
+-- behind `;`, behind `,` and behind a `}` with which nothing goes on the count begins anew
+abbrev pub ends_count : TokenKind → Kinds → Bool
+ends_count (SignKind Semicolon) rest = true
+ends_count (SignKind Comma) rest = true
+ends_count (SignKind CloseBrace) (next ∷ rest) = not (goes_on next)
+ends_count _ _ = false
+
+-- the levels at a token, what it opens, closes and adds itself included: each word of the language, and each
+-- sign that opens no bracket, adds one to the innermost level, a closing bracket to the one it closes into
+abbrev pub at_token : TokenKind → Kinds → Levels → Levels
+at_token k rest l =
+    if is_opening k then opened l
+    else if is_closing k then one_more (closed l)
+    else if begins_anew k rest then one_more (anew l)
+    else if is_fixed k then one_more l
+    else l
+
+abbrev pub behind_token : TokenKind → Kinds → Levels → Levels
+behind_token k rest l = if ends_count k rest then anew l else l
+
+-- the nesting at each token, where the first comes with these levels before it
+abbrev pub nestings : Levels → Kinds → List ℕ
+nestings l [] = []
+nestings l (k ∷ rest) = let here = at_token k rest l in nesting here ∷ nestings (behind_token k rest here) rest
+
+-- the index of the first token whose nesting passes the deepest that is allowed
+abbrev pub first_too_deep : Kinds → Option ℕ
+first_too_deep ks = position_from (λ n. nat_lt MOST_NESTING n) 0 (nestings outermost ks)
+
+-- ---- a part of a file
+
+abbrev pub one_less : ℕ → Option ℕ
+one_less zero = None
+one_less (suc depth) = Some depth
+
+-- how many brackets are open behind a token; nothing where it closes one that was not opened here
+abbrev pub depth_behind : TokenKind → ℕ → Option ℕ
+depth_behind k depth = if is_opening k then Some (depth + 1) else if is_closing k then one_less depth else Some depth
+
+-- the tokens before the first closing bracket that closes nothing of them, where so many brackets are open
+abbrev pub enclosed : ℕ → Kinds → Kinds
+enclosed depth [] = []
+enclosed depth (k ∷ rest) = option_map_or (λ d. k ∷ enclosed d rest) (depth_behind k depth) []

@@ -1,0 +1,233 @@
+//! How deep tokens stand, in brackets and in chains.
+#![tactic(auto, using(crate::proofs::NestingLemmas::counting))]
+
+ghost use Rattle.std.specs.Prelude.{◌≡◌, ◌≤◌, ◌<◌, ◌+◌, ◌-◌, ◌^◌, length, take, IfOk, IfSome, OnOk};
+ghost use Rattle.parse_types.specs.Nesting as spec;
+ghost use Rattle.parse_types.specs.Nesting.{outermost, opened, closed, one_more, anew, is_opening, is_closing, is_fixed, goes_on, begins_anew, ends_count, at_token, behind_token, depth_behind};
+ghost use Rattle.parse_types.specs.Tokens.{kinds_of};
+
+use bal_base::{Keyword, MOST_NESTING, Memory, Sign, Token, TokenKind};
+use std::alloc::{AllocError, Global};
+use std::marker::Model;
+
+/// The index of the first token whose nesting passes [`MOST_NESTING`].
+///
+/// The nesting at a token is the number of open brackets and how many tokens count in each of them and outside
+/// all: words of the language, and signs that open no bracket. The counts begin anew where a statement or the
+/// member of a list ends.
+pub fn first_too_deep(alloc: Global, tokens: &[Token]) -> Result<Option<usize>, Memory>
+    ensures first { IfOk result (λ o. o ≡ spec.first_too_deep (kinds_of tokens.now)) }
+    ensures within { IfOk result (λ o. IfSome o (λ i. i < length tokens.now)) }
+{
+    let mut levels = Levels::outermost(alloc);
+    let mut index = 0;
+    let mut rest = tokens;
+    while let Some((first, after)) = rest.split_first() {
+        levels.come_to(&first.kind, after)?;
+        if levels.nesting() > MOST_NESTING {
+            return Ok(Some(index));
+        }
+        levels.go_on(&first.kind, after);
+        index += 1;
+        rest = after;
+    }
+    Ok(None)
+}
+
+/// The tokens before the first closing bracket that closes nothing of them.
+pub fn enclosed(tokens: &[Token]) -> &[Token]
+    ensures { kinds_of result.now ≡ spec.enclosed 0 (kinds_of tokens.now) }
+{
+    &tokens[..enclosed_len(tokens)]
+}
+
+fn enclosed_len(tokens: &[Token]) -> usize
+    ensures within { result ≤ length tokens.now }
+    ensures front { kinds_of (take result tokens.now) ≡ spec.enclosed 0 (kinds_of tokens.now) }
+{
+    let mut depth = 0;
+    for (i, token) in tokens.iter().enumerate() {
+        match depth_behind(&token.kind, depth) {
+            None => return i,
+            Some(behind) => depth = behind,
+        }
+    }
+    tokens.len()
+}
+
+/// How many brackets are open behind the token, unless it closes one that is not open here.
+fn depth_behind(kind: &TokenKind, depth: usize) -> Option<usize>
+    requires { depth < 2 ^ 64 - 1 }
+    ensures behind { result ≡ depth_behind kind.now depth }
+    ensures slowly { IfSome result (λ d. d ≤ depth + 1) }
+{
+    if is_opening(kind) {
+        Some(depth + 1)
+    } else if is_closing(kind) {
+        depth.checked_sub(1)
+    } else {
+        Some(depth)
+    }
+}
+
+/// The open levels: the outermost one, and one for each open bracket.
+#[derive(Drop)]
+struct Levels {
+    /// How many tokens count in the innermost level.
+    count: usize,
+    /// And in the levels around it, outermost first.
+    around: Vec<usize>,
+    /// The open brackets and all counts.
+    nesting: usize,
+}
+
+impl Model for Levels {
+    ghost use Rattle.std.specs.Prelude.{◌≡◌, reverse};
+    ghost use Rattle.parse_types.specs.Nesting as spec;
+
+    ghost Value = { spec.Levels };
+
+    ghost view = { λ l. record { count = l.count; around = reverse l.around.items } };
+
+    ghost invariant = { λ l. l.nesting ≡ spec.nesting record { count = l.count; around = reverse l.around.items } };
+}
+
+impl Levels {
+    fn outermost(alloc: Global) -> Levels
+        ensures { result ≡ outermost }
+    {
+        Levels {
+            count: 0,
+            around: Vec::new(alloc),
+            nesting: 0,
+        }
+    }
+
+    fn nesting(&self) -> usize
+        ensures { result ≡ spec.nesting self.now }
+    {
+        self.nesting
+    }
+
+    /// To a token, with what it opens, closes and adds.
+    fn come_to(&mut self, kind: &TokenKind, rest: &[Token]) -> Result<(), AllocError>
+        requires { spec.nesting self.old ≤ MOST_NESTING }
+        ensures { OnOk result (self.new ≡ at_token kind.now (kinds_of rest.now) self.old) }
+    {
+        if is_opening(kind) {
+            self.open()?;
+        } else if is_closing(kind) {
+            self.close();
+            self.one_more();
+        } else if begins_anew(kind, rest) {
+            self.anew();
+            self.one_more();
+        } else if is_fixed(kind) {
+            self.one_more();
+        }
+        Ok(())
+    }
+
+    /// From a token to the next.
+    fn go_on(&mut self, kind: &TokenKind, rest: &[Token])
+        ensures { self.new ≡ behind_token kind.now (kinds_of rest.now) self.old }
+    {
+        if ends_count(kind, rest) {
+            self.anew();
+        }
+    }
+
+    fn open(&mut self) -> Result<(), AllocError>
+        requires { spec.nesting self.old ≤ MOST_NESTING }
+        ensures { OnOk result (self.new ≡ opened self.old) }
+    {
+        self.around.push(self.count)?;
+        self.count = 0;
+        self.nesting += 1;
+        Ok(())
+    }
+
+    fn close(&mut self)
+        ensures closes { self.new ≡ closed self.old }
+        ensures no_deeper { spec.nesting self.new ≤ spec.nesting self.old }
+    {
+        if let Some(count) = self.around.pop() {
+            self.nesting -= self.count + 1;
+            self.count = count;
+        }
+    }
+
+    fn one_more(&mut self)
+        requires { spec.nesting self.old ≤ MOST_NESTING }
+        ensures { self.new ≡ one_more self.old }
+    {
+        self.count += 1;
+        self.nesting += 1;
+    }
+
+    fn anew(&mut self)
+        ensures begins { self.new ≡ anew self.old }
+        ensures no_deeper { spec.nesting self.new ≤ spec.nesting self.old }
+    {
+        self.nesting -= self.count;
+        self.count = 0;
+    }
+}
+
+fn is_opening(kind: &TokenKind) -> bool
+    ensures { result ≡ is_opening kind.now }
+{
+    matches!(
+        kind,
+        TokenKind::Sign(Sign::OpenParen | Sign::OpenBracket | Sign::OpenBrace | Sign::OpenBraceBar)
+    )
+}
+
+fn is_closing(kind: &TokenKind) -> bool
+    ensures { result ≡ is_closing kind.now }
+{
+    matches!(
+        kind,
+        TokenKind::Sign(
+            Sign::CloseParen | Sign::CloseBracket | Sign::CloseBrace | Sign::CloseBraceBar
+        )
+    )
+}
+
+fn is_fixed(kind: &TokenKind) -> bool
+    ensures { result ≡ is_fixed kind.now }
+{
+    matches!(kind, TokenKind::Keyword(_) | TokenKind::Sign(_))
+}
+
+fn goes_on(kind: &TokenKind) -> bool
+    ensures { result ≡ goes_on kind.now }
+{
+    matches!(
+        kind,
+        TokenKind::Keyword(Keyword::Else | Keyword::Is) | TokenKind::Sign(_)
+    )
+}
+
+/// Whether the count begins anew at the token.
+fn begins_anew(kind: &TokenKind, rest: &[Token]) -> bool
+    ensures { result ≡ begins_anew kind.now (kinds_of rest.now) }
+{
+    match (kind, rest.first()) {
+        (TokenKind::Sign(Sign::FatArrow), Some(next)) => {
+            matches!(next.kind, TokenKind::Sign(Sign::OpenBrace))
+        }
+        _ => false,
+    }
+}
+
+/// Whether the count begins anew behind the token.
+fn ends_count(kind: &TokenKind, rest: &[Token]) -> bool
+    ensures { result ≡ ends_count kind.now (kinds_of rest.now) }
+{
+    match (kind, rest.first()) {
+        (TokenKind::Sign(Sign::Semicolon | Sign::Comma), _) => true,
+        (TokenKind::Sign(Sign::CloseBrace), Some(next)) => !goes_on(&next.kind),
+        _ => false,
+    }
+}

@@ -1,0 +1,2 @@
+mod depth;
+mod notation;
