@@ -222,16 +222,18 @@ fn a_print_that_is_cut_stays_cut(rt: HostRuntime) -> Result<(), Fail> {
     Ok(())
 }
 
+const ONE: &str = "import ballerina/io;\npublic function main() {\n    io:println(1);\n}\n";
+
+const NO_PROGRAM: &str = "import ballerina/io;";
+
 #[test]
 fn the_first_main_counts(rt: HostRuntime) -> Result<(), Fail> {
     let alloc = rt.alloc();
-    let one = program(alloc, "io:println(1);")?;
-    let two = program(alloc, "io:println(2);")?;
     let came = came_of(
         alloc,
         &Call {
             words: &["."],
-            files: &[("main.bal", one.as_str()), ("main.bal", two.as_str())],
+            files: &[("main.bal", ONE), ("main.bal", NO_PROGRAM)],
             folder_fails: &[],
             out_fails: &[],
             diag_fails: &[],
