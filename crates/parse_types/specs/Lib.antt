@@ -1,2 +1,7 @@
+pub mod Listings
+pub mod Loops
 pub mod Tokens
 pub mod Nesting
+pub mod Reaches
+pub mod Starts
+pub mod Suffixes

@@ -4,7 +4,7 @@
 ghost use Rattle.std.specs.Prelude.{◌≡◌, ◌≤◌, ◌<◌, ◌+◌, ◌-◌, ◌^◌, length, take, IfOk, IfSome, OnOk};
 ghost use Rattle.parse_types.specs.Nesting as spec;
 ghost use Rattle.parse_types.specs.Nesting.{outermost, opened, closed, one_more, anew, is_opening, is_closing, is_fixed, goes_on, begins_anew, ends_count, at_token, behind_token, depth_behind};
-ghost use Rattle.parse_types.specs.Tokens.{kinds_of};
+ghost use Rattle.bal_tree.specs.Spells.{kinds_of};
 
 use bal_base::{Keyword, MOST_NESTING, Memory, Sign, Token, TokenKind};
 use std::alloc::{AllocError, Global};
@@ -36,7 +36,8 @@ pub fn first_too_deep(alloc: Global, tokens: &[Token]) -> Result<Option<usize>, 
 
 /// The tokens before the first closing bracket that closes nothing of them.
 pub fn enclosed(tokens: &[Token]) -> &[Token]
-    ensures { kinds_of result.now ≡ spec.enclosed 0 (kinds_of tokens.now) }
+    ensures front { kinds_of result.now ≡ spec.enclosed 0 (kinds_of tokens.now) }
+    ensures no_longer { length result.now ≤ length tokens.now }
 {
     &tokens[..enclosed_len(tokens)]
 }

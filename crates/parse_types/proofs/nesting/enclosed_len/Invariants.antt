@@ -1,6 +1,6 @@
 use Rattle.std.proofs.Common.{◌≡◌, ◌≤◌, ◌++◌, take, drop}
 use Rattle.parse_types.specs.Nesting.{enclosed}
-use Rattle.parse_types.specs.Tokens.{kinds_of}
+use Rattle.bal_tree.specs.Spells.{kinds_of}
 use Rattle.parse_types.proofs.nesting.enclosed_len.Given as goal
 
 abbrev pub invariant-loop-i : goal.invariant-loop-i

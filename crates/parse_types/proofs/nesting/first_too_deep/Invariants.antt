@@ -3,7 +3,7 @@ use Rattle.std.proofs.Common.{◌≡◌, ◌≤◌, ◌+◌, length}
 use Rattle.std.specs.Prelude.{nat_lt}
 use Rattle.std.specs.List.{position_from}
 use Rattle.parse_types.specs.Nesting.{nesting, nestings, first_too_deep}
-use Rattle.parse_types.specs.Tokens.{kinds_of}
+use Rattle.bal_tree.specs.Spells.{kinds_of}
 use Rattle.parse_types.proofs.nesting.first_too_deep.Given as goal
 
 abbrev pub invariant-loop-first : goal.invariant-loop-first
