@@ -102,7 +102,7 @@ pub record Inside (n : ℕ) (middle : Bool) (p : Pieces) (in_int : Bool) (ks : K
   pub no_more : length rest ≤ length ks
   pub just : Stays middle in_int ks → Ends ks → rest ≡ ks
 
-follows-both : (middle in_int b : Bool) (ks : Kinds) → Stays middle in_int ks → Ends ks → Follows middle in_int b ks
+pub follows-both : (middle in_int b : Bool) (ks : Kinds) → Stays middle in_int ks → Ends ks → Follows middle in_int b ks
 follows-both middle in_int true ks s e = (s, e)
 follows-both middle in_int false ks s e = s
 

@@ -9,6 +9,7 @@ pub mod LevelLaw
 pub mod Levels
 pub mod ListLaw
 pub mod Listing
+pub mod Longest
 pub mod NestingLemmas
 pub mod Onto
 pub mod Parsing

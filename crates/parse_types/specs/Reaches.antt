@@ -224,3 +224,7 @@ no_more ks (Some l) = if nat_le (length l.rest) (length ks) then Some l.rest els
 abbrev pub inside : ℕ → Bool → Kinds → Option Kinds
 inside zero middle ks = None
 inside (suc n) middle ks = no_more ks (union (inside n) middle ks)
+
+-- the longest type at the front, inside which no more types can stand than there are tokens
+unfoldable pub longest_type : Bool → Kinds → Option Left
+longest_type middle ks = union (inside (length ks)) middle ks

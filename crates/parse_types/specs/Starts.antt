@@ -1,4 +1,4 @@
--- What a function that reads says of its answer.
+-- What is promised of a type that stands at the front of tokens, and what a function that reads says of its answer.
 use Rattle.std.specs.Prelude.{◌≡◌, ℕ, ◌<◌, true, Bool, false, List, length, drop, Option, Some, None, Result, MatchResult}
 use denote.Ref.{Bor}
 use Rattle.bal_base.specs.declared.stop.Stop.{Stop}
@@ -75,14 +75,14 @@ pub record Reading (is_formed : Bool) (pieces : Pieces) (file : ℕ) (tokens res
   pub spells : Spells file pieces tokens rest
   pub shorter : length rest < length tokens
 
-abbrev pub ReadsType : Bool → TypeTree → ℕ → List Token → List Token → Type 0
-ReadsType middle t = Reading (type_is_formed t middle) (type_pieces t)
+abbrev pub TypeReading : Bool → TypeTree → ℕ → List Token → List Token → Type 0
+TypeReading middle t = Reading (type_is_formed t middle) (type_pieces t)
 
-abbrev pub ReadsIntersection : Bool → IntersectionType → ℕ → List Token → List Token → Type 0
-ReadsIntersection middle t = Reading (intersection_is_formed t middle) (intersection_pieces t)
+abbrev pub IntersectionReading : Bool → IntersectionType → ℕ → List Token → List Token → Type 0
+IntersectionReading middle t = Reading (intersection_is_formed t middle) (intersection_pieces t)
 
-abbrev pub ReadsPostfix : Bool → PostfixType → ℕ → List Token → List Token → Type 0
-ReadsPostfix middle t = Reading (postfix_type_is_formed t middle) (postfix_type_pieces t)
+abbrev pub PostfixReading : Bool → PostfixType → ℕ → List Token → List Token → Type 0
+PostfixReading middle t = Reading (postfix_type_is_formed t middle) (postfix_type_pieces t)
 
-abbrev pub ReadsPrimary : Bool → PrimaryType → ℕ → List Token → List Token → Type 0
-ReadsPrimary middle t = Reading (primary_type_is_formed t middle) (primary_type_pieces t)
+abbrev pub PrimaryReading : Bool → PrimaryType → ℕ → List Token → List Token → Type 0
+PrimaryReading middle t = Reading (primary_type_is_formed t middle) (primary_type_pieces t)

@@ -15,10 +15,10 @@
 ghost use Rattle.std.specs.Prelude.{◌≡◌, ◌≤◌, ◌<◌, ◌⊎◌, List, None, false, length, drop, IfOk, IfErr};
 ghost use Rattle.bal_base.specs.declared.stop.Stop.TheVariants.{Fault as FaultOf};
 ghost use Rattle.bal_tree.specs.Spells.{kinds_of};
-ghost use Rattle.bal_tree.specs.Reads.{ReadsType as ReadsTree};
+ghost use Rattle.bal_tree.specs.Reads.{ReadsType};
 ghost use Rattle.parse_types.specs.Nesting as nesting_spec;
 ghost use Rattle.parse_types.specs.Reaches as reader;
-ghost use Rattle.parse_types.specs.Starts.{IfFault, IfMissing, IsTooDeep, HasNoType, LeavesAs, ReadsType, StartsType, refusal, type_left};
+ghost use Rattle.parse_types.specs.Starts.{IfFault, IfMissing, IsTooDeep, HasNoType, LeavesAs, StartsType, TypeReading, refusal, type_left};
 ghost use Rattle.parse_types.specs.Tokens.{Kinds};
 
 mod lists;
@@ -49,7 +49,7 @@ pub fn parse_type(
 ) -> Result<(TypeTree, usize), Stop<Fault>>
     requires { from ≤ length tokens.now }
     ensures within { IfOk result (λ r. r.1 ≤ length tokens.now) }
-    ensures reads { IfOk result (λ r. ReadsTree file (drop from tokens.now) r.0 (drop r.1 tokens.now)) }
+    ensures reads { IfOk result (λ r. ReadsType file (drop from tokens.now) r.0 (drop r.1 tokens.now)) }
     ensures longest { IfOk result (λ r. (rest : Kinds) → StartsType false (drop from tokens.now) rest → length (drop r.1 tokens.now) ≤ length rest) }
     ensures not_deep { IfOk result (λ r. nesting_spec.first_too_deep (nesting_spec.enclosed 0 (kinds_of (drop from tokens.now))) ≡ None) }
     ensures refused { IfErr result (λ stop. IfFault stop (λ f. IsTooDeep file (drop from tokens.now) f ⊎ HasNoType file (drop from tokens.now) f)) }
@@ -76,12 +76,12 @@ pub fn longest_type(
     middle: bool,
     tokens: &[Token],
 ) -> Result<(TypeTree, &[Token]), Stop<Missing>>
-    ensures reads { IfOk result (λ r. ReadsType middle r.0 file tokens.now r.1.now) }
+    ensures reads { IfOk result (λ r. TypeReading middle r.0 file tokens.now r.1.now) }
     ensures longest { IfOk result (λ r. (rest : Kinds) → StartsType middle tokens.now rest → length r.1.now ≤ length rest) }
     ensures none { IfErr result (λ stop. IfMissing stop ((rest : Kinds) → StartsType middle tokens.now rest → ⊥)) }
 
-    // For the proofs of parsers of what holds types: how far it goes is a function of the tokens alone.
-    ensures reaches { LeavesAs type_left (reader.union (reader.inside (length tokens.now)) middle (kinds_of tokens.now)) result }
+    // For the proofs of parsers of what holds types: how far it goes is a function of the kinds of the tokens alone.
+    ensures reaches { LeavesAs type_left (reader.longest_type middle (kinds_of tokens.now)) result }
 {
     let reader = TypeReader {
         alloc,

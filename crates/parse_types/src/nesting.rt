@@ -37,6 +37,7 @@ pub fn first_too_deep(alloc: Global, tokens: &[Token]) -> Result<Option<usize>, 
 /// The tokens before the first closing bracket that closes nothing of them.
 pub fn enclosed(tokens: &[Token]) -> &[Token]
     ensures front { kinds_of result.now ≡ spec.enclosed 0 (kinds_of tokens.now) }
+    ensures is_front { result.now ≡ take (length result.now) tokens.now }
     ensures no_longer { length result.now ≤ length tokens.now }
 {
     &tokens[..enclosed_len(tokens)]

@@ -12,7 +12,7 @@ ghost use Rattle.bal_tree.specs.TypeRules.{primary_type_end, type_is_formed};
 ghost use Rattle.bal_tree.specs.declared.types.PrimaryType.{Name};
 ghost use Rattle.parse_types.specs.Reaches as spec;
 ghost use Rattle.parse_types.specs.Reaches.{open_at};
-ghost use Rattle.parse_types.specs.Starts.{Leaves, LeavesAs, primary_left, ReadsPrimary, Reading};
+ghost use Rattle.parse_types.specs.Starts.{Leaves, LeavesAs, primary_left, PrimaryReading, Reading};
 
 use crate::steps::{Missing, after_key, after_sign, int, key, optional, place, sign, word};
 use crate::types::TypeReader;
@@ -22,7 +22,7 @@ use bal_tree::{BuiltinType, Literal, Prefix, PrimaryType, QualifiedName, TypeTre
 /// A name of a type, whose first token is a word.
 pub(crate) fn name(file: u32, middle: bool, tokens: &[Token]) -> Option<(PrimaryType, &[Token])>
     ensures end { option_map (λ r. kinds_of r.1.now) result ≡ spec.name middle (kinds_of tokens.now) }
-    ensures reads { IfSome result (λ r. ReadsPrimary middle r.0 file tokens.now r.1.now) }
+    ensures reads { IfSome result (λ r. PrimaryReading middle r.0 file tokens.now r.1.now) }
     ensures stays_open { IfSome result (λ r. (primary_type_end r.0).in_result ≡ false) }
 {
     let at = place(file, tokens);
@@ -57,7 +57,7 @@ pub(crate) fn int_or_name(
     tokens: &[Token],
 ) -> Option<(PrimaryType, &[Token])>
     ensures end { option_map (λ r. kinds_of r.1.now) result ≡ spec.int_or_name (kinds_of tokens.now) }
-    ensures reads { IfSome result (λ r. ReadsPrimary middle r.0 file tokens.now r.1.now) }
+    ensures reads { IfSome result (λ r. PrimaryReading middle r.0 file tokens.now r.1.now) }
     ensures stays_open { IfSome result (λ r. (primary_type_end r.0).in_result ≡ false) }
 {
     let at = place(file, tokens);
@@ -95,7 +95,7 @@ fn one_word(
     tokens: &[Token],
 ) -> Option<(PrimaryType, &[Token])>
     ensures end { option_map (λ r. kinds_of r.1.now) result ≡ spec.one_word k (kinds_of tokens.now) }
-    ensures reads { IfSome result (λ r. ReadsPrimary middle r.0 file tokens.now r.1.now) }
+    ensures reads { IfSome result (λ r. PrimaryReading middle r.0 file tokens.now r.1.now) }
     ensures stays_open { IfSome result (λ r. (primary_type_end r.0).in_result ≡ false) }
 {
     let at = place(file, tokens);
@@ -113,7 +113,7 @@ fn one_word(
 /// `-1`
 fn negative(file: u32, middle: bool, tokens: &[Token]) -> Option<(PrimaryType, &[Token])>
     ensures end { option_map (λ r. kinds_of r.1.now) result ≡ spec.negative (kinds_of tokens.now) }
-    ensures reads { IfSome result (λ r. ReadsPrimary middle r.0 file tokens.now r.1.now) }
+    ensures reads { IfSome result (λ r. PrimaryReading middle r.0 file tokens.now r.1.now) }
     ensures stays_open { IfSome result (λ r. (primary_type_end r.0).in_result ≡ false) }
 {
     let at = place(file, tokens);
@@ -124,7 +124,7 @@ fn negative(file: u32, middle: bool, tokens: &[Token]) -> Option<(PrimaryType, &
 /// `()`
 fn nil(file: u32, middle: bool, tokens: &[Token]) -> Option<(PrimaryType, &[Token])>
     ensures end { option_map (λ r. kinds_of r.1.now) result ≡ spec.nil (kinds_of tokens.now) }
-    ensures reads { IfSome result (λ r. ReadsPrimary middle r.0 file tokens.now r.1.now) }
+    ensures reads { IfSome result (λ r. PrimaryReading middle r.0 file tokens.now r.1.now) }
     ensures stays_open { IfSome result (λ r. (primary_type_end r.0).in_result ≡ false) }
 {
     let at = place(file, tokens);
@@ -143,7 +143,7 @@ impl TypeReader {
         tokens: &[Token],
     ) -> Result<(PrimaryType, &[Token]), Stop<Missing>>
         ensures end { LeavesAs primary_left (spec.keyword_type (spec.inside room) self.middle k (kinds_of tokens.now)) result }
-        ensures reads { IfOk result (λ r. ReadsPrimary self.middle r.0 self.file tokens.now r.1.now) }
+        ensures reads { IfOk result (λ r. PrimaryReading self.middle r.0 self.file tokens.now r.1.now) }
     {
         match k {
             Keyword::Map => self.map_type(room, tokens),
@@ -164,7 +164,7 @@ impl TypeReader {
         tokens: &[Token],
     ) -> Result<(PrimaryType, &[Token]), Stop<Missing>>
         ensures end { LeavesAs primary_left (spec.sign_type (spec.inside room) self.middle s (kinds_of tokens.now)) result }
-        ensures reads { IfOk result (λ r. ReadsPrimary self.middle r.0 self.file tokens.now r.1.now) }
+        ensures reads { IfOk result (λ r. PrimaryReading self.middle r.0 self.file tokens.now r.1.now) }
     {
         match s {
             Sign::Minus => negative(self.file, self.middle, tokens).ok_or(Stop::Fault(Missing)),
@@ -200,7 +200,7 @@ impl TypeReader {
         tokens: &[Token],
     ) -> Result<(PrimaryType, &[Token]), Stop<Missing>>
         ensures end { LeavesAs primary_left (option_map open_at (spec.map_type (spec.inside room self.middle) (kinds_of tokens.now))) result }
-        ensures reads { IfOk result (λ r. ReadsPrimary self.middle r.0 self.file tokens.now r.1.now) }
+        ensures reads { IfOk result (λ r. PrimaryReading self.middle r.0 self.file tokens.now r.1.now) }
     {
         let at = place(self.file, tokens);
         let rest = key(tokens, Keyword::Map)?;
@@ -215,7 +215,7 @@ impl TypeReader {
         tokens: &[Token],
     ) -> Result<(PrimaryType, &[Token]), Stop<Missing>>
         ensures end { LeavesAs primary_left (option_map open_at (spec.future_type (spec.inside room self.middle) (kinds_of tokens.now))) result }
-        ensures reads { IfOk result (λ r. ReadsPrimary self.middle r.0 self.file tokens.now r.1.now) }
+        ensures reads { IfOk result (λ r. PrimaryReading self.middle r.0 self.file tokens.now r.1.now) }
     {
         let at = place(self.file, tokens);
         let rest = key(tokens, Keyword::Future)?;
@@ -231,7 +231,7 @@ impl TypeReader {
         tokens: &[Token],
     ) -> Result<(PrimaryType, &[Token]), Stop<Missing>>
         ensures end { LeavesAs primary_left (option_map open_at (spec.error_type (spec.inside room self.middle) (kinds_of tokens.now))) result }
-        ensures reads { IfOk result (λ r. ReadsPrimary self.middle r.0 self.file tokens.now r.1.now) }
+        ensures reads { IfOk result (λ r. PrimaryReading self.middle r.0 self.file tokens.now r.1.now) }
     {
         let at = place(self.file, tokens);
         let rest = key(tokens, Keyword::Error)?;
@@ -251,7 +251,7 @@ impl TypeReader {
     #[cycle(types)]
     fn parens(self, room: usize, tokens: &[Token]) -> Result<(PrimaryType, &[Token]), Stop<Missing>>
         ensures end { LeavesAs primary_left (option_map open_at (spec.parens (spec.inside room false) (kinds_of tokens.now))) result }
-        ensures reads { IfOk result (λ r. ReadsPrimary self.middle r.0 self.file tokens.now r.1.now) }
+        ensures reads { IfOk result (λ r. PrimaryReading self.middle r.0 self.file tokens.now r.1.now) }
     {
         let at = place(self.file, tokens);
         let rest = sign(tokens, Sign::OpenParen)?;

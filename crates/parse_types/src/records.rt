@@ -13,7 +13,7 @@ ghost use Rattle.bal_tree.specs.TypeRules.{type_is_formed, field_is_formed};
 ghost use Rattle.parse_types.specs.Reaches as spec;
 ghost use Rattle.parse_types.specs.Reaches.{open_at};
 ghost use Rattle.parse_types.specs.Listings.{rest_is_formed, rest_field_pieces};
-ghost use Rattle.parse_types.specs.Starts.{Leaves, LeavesAs, IfMissing, primary_left, ReadsPrimary, Reading};
+ghost use Rattle.parse_types.specs.Starts.{Leaves, LeavesAs, IfMissing, primary_left, PrimaryReading, Reading};
 
 use crate::steps::{Missing, after_sign, key, optional, place, sign, word};
 use crate::types::TypeReader;
@@ -31,7 +31,7 @@ impl TypeReader {
         tokens: &[Token],
     ) -> Result<(PrimaryType, &[Token]), Stop<Missing>>
         ensures end { LeavesAs primary_left (option_map open_at (spec.record_type (spec.inside room false) (kinds_of tokens.now))) result }
-        ensures reads { IfOk result (λ r. ReadsPrimary self.middle r.0 self.file tokens.now r.1.now) }
+        ensures reads { IfOk result (λ r. PrimaryReading self.middle r.0 self.file tokens.now r.1.now) }
     {
         let at = place(self.file, tokens);
         let rest = key(tokens, Keyword::Record)?;

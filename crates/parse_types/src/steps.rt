@@ -1,9 +1,9 @@
 //! Steps over the tokens at the front of a list, as all parsers make them.
 #![tactic(auto, using(crate::proofs::Readings::spelling))]
 
-ghost use Rattle.std.specs.Prelude.{◌≡◌, ◌<◌, length, option_map, Some, None, Ok, Err, IfSome, IfOk, MatchOption, MatchResult};
+ghost use Rattle.std.specs.Prelude.{◌≡◌, ◌<◌, length, option_map, Some, None, Ok, Err, IfSome, IfOk, IfErr, MatchOption, MatchResult};
 ghost use Rattle.bal_base.specs.declared.token.TokenKind.TheVariants.{Keyword as KeywordKind, Int as IntKind, Sign as SignKind};
-ghost use Rattle.bal_base.specs.declared.stop.Stop.TheVariants.{Fault as FaultOf};
+ghost use Rattle.bal_base.specs.declared.stop.Stop.TheVariants.{Memory as OutOfMemory, Fault as FaultOf};
 ghost use Rattle.bal_tree.specs.NamePieces.{word_pieces};
 ghost use Rattle.bal_tree.specs.Spells.{Heads, Spells, first_place, kinds_of};
 ghost use Rattle.parse_types.specs.declared.steps.Missing.{Missing as MissingOf};
@@ -18,7 +18,7 @@ pub struct Missing;
 
 /// What was read, or nothing where it is missing.
 pub fn optional<T>(read: Result<T, Stop<Missing>>) -> Result<Option<T>, Memory>
-    ensures { IfOk result (λ o. MatchOption o ((e : MissingOf) × (read ≡ Err (FaultOf e))) (λ t. read ≡ Ok t)) }
+    ensures { MatchResult result (λ o. MatchOption o ((e : MissingOf) × (read ≡ Err (FaultOf e))) (λ t. read ≡ Ok t)) (λ e. read ≡ Err OutOfMemory) }
 {
     match read {
         Ok(found) => Ok(Some(found)),
@@ -66,6 +66,7 @@ pub fn after_key(tokens: &[Token], wanted: Keyword) -> Option<&[Token]>
 /// What follows the sign, which must be there.
 pub fn sign(tokens: &[Token], wanted: Sign) -> Result<&[Token], Stop<Missing>>
     ensures end { MatchResult result (λ r. take_sign wanted (kinds_of tokens.now) ≡ Some (kinds_of r.now)) (λ e. take_sign wanted (kinds_of tokens.now) ≡ None) }
+    ensures missing { IfErr result (λ stop. (e : MissingOf) × (stop ≡ FaultOf e)) }
     ensures heads { IfOk result (λ r. Heads (SignKind wanted) tokens.now r.now) }
     ensures shorter { IfOk result (λ r. length r.now < length tokens.now) }
 {
@@ -75,6 +76,7 @@ pub fn sign(tokens: &[Token], wanted: Sign) -> Result<&[Token], Stop<Missing>>
 /// What follows the word of the language, which must be there.
 pub fn key(tokens: &[Token], wanted: Keyword) -> Result<&[Token], Stop<Missing>>
     ensures end { MatchResult result (λ r. take_key wanted (kinds_of tokens.now) ≡ Some (kinds_of r.now)) (λ e. take_key wanted (kinds_of tokens.now) ≡ None) }
+    ensures missing { IfErr result (λ stop. (e : MissingOf) × (stop ≡ FaultOf e)) }
     ensures heads { IfOk result (λ r. Heads (KeywordKind wanted) tokens.now r.now) }
     ensures shorter { IfOk result (λ r. length r.now < length tokens.now) }
 {

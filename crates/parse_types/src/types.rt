@@ -10,7 +10,7 @@ ghost use Rattle.bal_tree.specs.Spells.{Heads, kinds_of};
 ghost use Rattle.bal_tree.specs.TypePieces.{type_pieces, intersection_pieces, postfix_type_pieces};
 ghost use Rattle.bal_tree.specs.TypeRules.{type_end, intersection_end, postfix_type_end, type_is_formed, intersection_is_formed, postfix_type_is_formed};
 ghost use Rattle.parse_types.specs.Reaches as spec;
-ghost use Rattle.parse_types.specs.Starts.{Leaves, LeavesAs, type_left, intersection_left, postfix_left, primary_left, ReadsType, ReadsIntersection, ReadsPostfix, ReadsPrimary};
+ghost use Rattle.parse_types.specs.Starts.{Leaves, LeavesAs, type_left, intersection_left, postfix_left, primary_left, TypeReading, IntersectionReading, PostfixReading, PrimaryReading};
 
 use crate::primary::{int_or_name, name};
 use crate::steps::{Missing, after_sign, optional, place};
@@ -48,7 +48,7 @@ impl TypeReader {
         tokens: &[Token],
     ) -> Result<(Box<TypeTree>, &[Token]), Stop<Missing>>
         ensures end { Leaves (spec.inside room self.middle (kinds_of tokens.now)) result }
-        ensures reads { IfOk result (λ r. ReadsType self.middle r.0.value self.file tokens.now r.1.now) }
+        ensures reads { IfOk result (λ r. TypeReading self.middle r.0.value self.file tokens.now r.1.now) }
     {
         if room == 0 {
             return Err(Stop::Fault(Missing));
@@ -65,7 +65,7 @@ impl TypeReader {
         tokens: &[Token],
     ) -> Result<(TypeTree, &[Token]), Stop<Missing>>
         ensures end { LeavesAs type_left (spec.union (spec.inside room) self.middle (kinds_of tokens.now)) result }
-        ensures reads { IfOk result (λ r. ReadsType self.middle r.0 self.file tokens.now r.1.now) }
+        ensures reads { IfOk result (λ r. TypeReading self.middle r.0 self.file tokens.now r.1.now) }
     {
         let at = place(self.file, tokens);
         let (first, mut rest) = self.intersection(room, tokens)?;
@@ -87,7 +87,7 @@ impl TypeReader {
     ) -> Result<Option<(IntersectionType, &'t [Token])>, Memory>
         ensures end { IfOk result (λ o. option_map (λ r. intersection_left r.0 (kinds_of r.1.now)) o
             ≡ spec.bar_step (spec.inside room) self.middle (type_left left.now (kinds_of tokens.now))) }
-        ensures reads { IfOk result (λ o. IfSome o (λ r. ((type_end left.now).in_result ≡ false) × ((mid : List TokenOf) × Heads (SignKind Bar) tokens.now mid × ReadsIntersection self.middle r.0 self.file mid r.1.now))) }
+        ensures reads { IfOk result (λ o. IfSome o (λ r. ((type_end left.now).in_result ≡ false) × ((mid : List TokenOf) × Heads (SignKind Bar) tokens.now mid × IntersectionReading self.middle r.0 self.file mid r.1.now))) }
     {
         if left.ends_in_result() {
             return Ok(None);
@@ -105,7 +105,7 @@ impl TypeReader {
         tokens: &[Token],
     ) -> Result<(IntersectionType, &[Token]), Stop<Missing>>
         ensures end { LeavesAs intersection_left (spec.intersection (spec.inside room) self.middle (kinds_of tokens.now)) result }
-        ensures reads { IfOk result (λ r. ReadsIntersection self.middle r.0 self.file tokens.now r.1.now) }
+        ensures reads { IfOk result (λ r. IntersectionReading self.middle r.0 self.file tokens.now r.1.now) }
     {
         let at = place(self.file, tokens);
         let (first, mut rest) = self.postfix(room, tokens)?;
@@ -127,7 +127,7 @@ impl TypeReader {
     ) -> Result<Option<(PostfixType, &'t [Token])>, Memory>
         ensures end { IfOk result (λ o. option_map (λ r. postfix_left r.0 (kinds_of r.1.now)) o
             ≡ spec.ampersand_step (spec.inside room) self.middle (intersection_left left.now (kinds_of tokens.now))) }
-        ensures reads { IfOk result (λ o. IfSome o (λ r. ((intersection_end left.now).in_result ≡ false) × ((mid : List TokenOf) × Heads (SignKind Ampersand) tokens.now mid × ReadsPostfix self.middle r.0 self.file mid r.1.now))) }
+        ensures reads { IfOk result (λ o. IfSome o (λ r. ((intersection_end left.now).in_result ≡ false) × ((mid : List TokenOf) × Heads (SignKind Ampersand) tokens.now mid × PostfixReading self.middle r.0 self.file mid r.1.now))) }
     {
         if left.ends_in_result() {
             return Ok(None);
@@ -145,7 +145,7 @@ impl TypeReader {
         tokens: &[Token],
     ) -> Result<(PostfixType, &[Token]), Stop<Missing>>
         ensures end { LeavesAs postfix_left (spec.postfix (spec.inside room) self.middle (kinds_of tokens.now)) result }
-        ensures reads { IfOk result (λ r. ReadsPostfix self.middle r.0 self.file tokens.now r.1.now) }
+        ensures reads { IfOk result (λ r. PostfixReading self.middle r.0 self.file tokens.now r.1.now) }
     {
         let at = place(self.file, tokens);
         let (first, mut rest) = self.primary(room, tokens)?;
@@ -164,7 +164,7 @@ impl TypeReader {
         tokens: &[Token],
     ) -> Result<(PrimaryType, &[Token]), Stop<Missing>>
         ensures end { LeavesAs primary_left (spec.primary (spec.inside room) self.middle (kinds_of tokens.now)) result }
-        ensures reads { IfOk result (λ r. ReadsPrimary self.middle r.0 self.file tokens.now r.1.now) }
+        ensures reads { IfOk result (λ r. PrimaryReading self.middle r.0 self.file tokens.now r.1.now) }
     {
         let Some((first, rest)) = tokens.split_first() else {
             return Err(Stop::Fault(Missing));

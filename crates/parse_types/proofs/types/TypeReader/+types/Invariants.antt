@@ -6,7 +6,7 @@ use Rattle.bal_tree.specs.TypePieces.{type_pieces, field_pieces, param_type_piec
 use Rattle.bal_tree.specs.TypeRules.{type_is_formed, field_is_formed, param_type_is_formed}
 use Rattle.parse_types.specs.Loops.{many}
 use Rattle.parse_types.specs.Reaches.{left_length, suffix_step, ampersand_step, bar_step, postfix, intersection, union, inside, type_comma, param_comma, field}
-use Rattle.parse_types.specs.Starts.{ReadsType, ReadsIntersection, ReadsPostfix, type_left, intersection_left, postfix_left}
+use Rattle.parse_types.specs.Starts.{TypeReading, IntersectionReading, PostfixReading, type_left, intersection_left, postfix_left}
 use Rattle.parse_types.proofs.Commas.{trailed}
 use Rattle.parse_types.proofs.types.TypeReader.+types.Given as goal
 
@@ -85,7 +85,7 @@ decreases-fields l = l.room * 16 + 3
 abbrev pub invariant-type_tree-loop-whole : goal.invariant-type_tree-loop-whole
 invariant-type_tree-loop-whole l = record {
   goes : union (inside l.room) l.self.middle (kinds_of l.fn.tokens) ≡ Some (many left_length (bar_step (inside l.room) l.self.middle) (type_left l.whole (kinds_of l.rest)));
-  reads : ReadsType l.self.middle l.whole l.self.file l.fn.tokens l.rest;
+  reads : TypeReading l.self.middle l.whole l.self.file l.fn.tokens l.rest;
 }
 
 abbrev pub decreases-type_tree-loop-whole : goal.decreases-type_tree-loop-whole
@@ -94,7 +94,7 @@ decreases-type_tree-loop-whole l = length l.rest
 abbrev pub invariant-intersection-loop-whole : goal.invariant-intersection-loop-whole
 invariant-intersection-loop-whole l = record {
   goes : intersection (inside l.room) l.self.middle (kinds_of l.fn.tokens) ≡ Some (many left_length (ampersand_step (inside l.room) l.self.middle) (intersection_left l.whole (kinds_of l.rest)));
-  reads : ReadsIntersection l.self.middle l.whole l.self.file l.fn.tokens l.rest;
+  reads : IntersectionReading l.self.middle l.whole l.self.file l.fn.tokens l.rest;
 }
 
 abbrev pub decreases-intersection-loop-whole : goal.decreases-intersection-loop-whole
@@ -103,7 +103,7 @@ decreases-intersection-loop-whole l = length l.rest
 abbrev pub invariant-postfix-loop-suffix : goal.invariant-postfix-loop-suffix
 invariant-postfix-loop-suffix l = record {
   goes : postfix (inside l.room) l.self.middle (kinds_of l.fn.tokens) ≡ Some (many left_length suffix_step (postfix_left l.whole (kinds_of l.rest)));
-  reads : ReadsPostfix l.self.middle l.whole l.self.file l.fn.tokens l.rest;
+  reads : PostfixReading l.self.middle l.whole l.self.file l.fn.tokens l.rest;
 }
 
 abbrev pub decreases-postfix-loop-suffix : goal.decreases-postfix-loop-suffix
