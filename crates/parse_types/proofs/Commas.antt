@@ -1,5 +1,5 @@
 -- Lists of parts with commas between them, part by part.
-use Rattle.std.proofs.Common.{◌≡◌, ℕ, List, [], ◌∷◌, ◌++◌, map, refl, sym, ap, ◌∙◌, subst}
+use Rattle.std.proofs.Common.{ℕ, List, [], ◌∷◌, ◌++◌, map, refl, sym, subst}
 use Rattle.bal_base.specs.declared.token.Token.{Token}
 use Rattle.bal_base.specs.declared.token.TokenKind.TheVariants.{Sign as SignKind}
 use Rattle.bal_base.specs.declared.token.Sign.TheVariants.{Comma}

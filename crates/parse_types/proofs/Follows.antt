@@ -1,5 +1,5 @@
 -- What may stand behind a type so that it ends there.
-use Rattle.std.proofs.Common.{◌≡◌, ℕ, ◌≤◌, Bool, true, false, length, Option, None, Some, refl, ap, arith}
+use Rattle.std.proofs.Common.{◌≡◌, ◌≤◌, Bool, true, false, length, Option, None, Some, refl, ap, arith}
 use Rattle.bal_base.specs.declared.token.Keyword.TheVariants.{Returns}
 use Rattle.bal_base.specs.declared.token.Sign.TheVariants.{Bar, Ampersand, OpenParen, Less, Colon}
 use Rattle.bal_tree.specs.TypeRules.{TypeEnd}

@@ -1,21 +1,21 @@
 -- The law at function types.
-use Rattle.std.proofs.Common.{◌≡◌, ℕ, ◌<◌, ◌≤◌, Bool, true, false, ◌∷◌, length, Option, None, Some, refl, ap, ◌∙◌, arith}
+use Rattle.std.proofs.Common.{◌≡◌, ℕ, ◌≤◌, Bool, true, false, ◌∷◌, length, Option, None, Some, refl, ap, ◌∙◌, arith}
 use Rattle.std.proofs.lemmas.Option.{option_and_then_some}
 use Rattle.bal_base.specs.declared.token.TokenKind.TheVariants.{Keyword as KeywordKind}
 use Rattle.bal_base.specs.declared.token.Keyword.TheVariants.{Returns}
-use Rattle.bal_base.specs.declared.token.Sign.TheVariants.{OpenParen, CloseParen, Comma, Ellipsis}
+use Rattle.bal_base.specs.declared.token.Sign.TheVariants.{OpenParen, CloseParen, Ellipsis}
 use Rattle.bal_tree.specs.Pieces.{Pieces, ◌&◌, nothing}
 use Rattle.bal_tree.specs.Spells.{onto}
 use Rattle.bal_tree.specs.TypePieces.{function_word, returning}
 use Rattle.bal_tree.specs.TypeRules.{TypeFacts, closed}
-use Rattle.parse_types.specs.Loops.{◌>>=◌, or_else, else_stays, many}
+use Rattle.parse_types.specs.Loops.{◌>>=◌, or_else, many}
 use Rattle.parse_types.specs.Tokens.{Kinds, take_sign, take_key, take_word}
 use Rattle.parse_types.specs.Reaches.{word_if_there, param_comma, param_list, params, params_or, result_or, returns, result_if_there, function_behind, primary, inside}
 use Rattle.parse_types.proofs.Going.{many-less}
 use Rattle.parse_types.proofs.Taking.{take_sign-less, take_key-less, take_word-less, else_stays-less, or_else-less}
 use Rattle.parse_types.proofs.Onto.{onto-longer}
 use Rattle.parse_types.proofs.Follows.{Went}
-use Rattle.parse_types.proofs.Law.{At, TypeLaw, Inside, inside-type, inside-less}
+use Rattle.parse_types.proofs.Law.{At, TypeLaw, inside-type, inside-less}
 
 module _ (n : ℕ) where
   word_if_there-less : (ks : Kinds) → length (word_if_there ks) ≤ length ks

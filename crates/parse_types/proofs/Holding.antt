@@ -1,5 +1,5 @@
 -- What the answer of a function that reads says, once it is known.
-use Rattle.std.proofs.Common.{◌≡◌, List, Option, None, Some, Result, Ok, Err, Bool, false, Bor, Global, refl, subst}
+use Rattle.std.proofs.Common.{◌≡◌, List, Option, None, Some, Result, Ok, Err, false, Bor, refl, subst}
 use Rattle.std.specs.Prelude.{is_some}
 use Rattle.std.specs.Global.{Box}
 use Rattle.bal_base.specs.declared.stop.Stop.{Stop}

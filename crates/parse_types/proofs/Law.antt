@@ -1,10 +1,8 @@
 -- The reader goes at least as far as each well-formed type that stands at the front, and just as far where what follows
 -- could not be taken: what that means, and a type inside another one.
-use Rattle.std.proofs.Common.{◌≡◌, ℕ, zero, suc, ◌<◌, ◌≤◌, Bool, true, false, ◌∷◌, length, Option, None, Some, refl, sym, ap, ◌∙◌, subst, arith, ◌&&◌}
+use Rattle.std.proofs.Common.{◌≡◌, ℕ, zero, suc, ◌<◌, ◌≤◌, Bool, true, false, length, Option, None, Some, refl, sym, ap, ◌∙◌, subst, arith, ◌&&◌}
 use Rattle.std.specs.Prelude.{option_map, nat_le, if◌then◌else◌, not}
 use Rattle.std.proofs.lemmas.Bool.{leb-true, false≢true}
-use Rattle.bal_base.specs.declared.token.TokenKind.TheVariants.{Sign as SignKind}
-use Rattle.bal_base.specs.declared.token.Sign.{Sign}
 use Rattle.bal_tree.specs.Pieces.{Pieces}
 use Rattle.bal_tree.specs.Spells.{onto}
 use Rattle.bal_tree.specs.TypeRules.{TypeEnd, TypeFacts}
@@ -14,7 +12,7 @@ use Rattle.parse_types.specs.Reaches.{Left, open_at, left_length, suffix_step, a
 use Rattle.parse_types.proofs.Going.{many-stops, many-less}
 use Rattle.parse_types.proofs.Levels.{no_more-passes}
 use Rattle.parse_types.proofs.Onto.{onto-longer}
-use Rattle.parse_types.proofs.Follows.{Stays, Ends, Follows, Closes, closes-stay, closes-follow, Went}
+use Rattle.parse_types.proofs.Follows.{Stays, Ends, Follows, Closes, closes-stay, Went}
 
 -- ---- tests that pass
 

@@ -1,5 +1,5 @@
 -- The law at suffixes, intersections and unions: an operator behind an open type.
-use Rattle.std.proofs.Common.{◌≡◌, ℕ, ◌<◌, ◌≤◌, Bool, true, false, ◌∷◌, length, Option, None, Some, refl, sym, ap, ◌∙◌, arith}
+use Rattle.std.proofs.Common.{◌≡◌, ℕ, ◌<◌, ◌≤◌, Bool, true, false, ◌∷◌, length, Some, refl, ap, ◌∙◌, arith}
 use Rattle.std.specs.Prelude.{option_map}
 use Rattle.bal_base.specs.declared.token.TokenKind.TheVariants.{Sign as SignKind}
 use Rattle.bal_base.specs.declared.token.Sign.TheVariants.{Bar, Ampersand}
@@ -10,7 +10,7 @@ use Rattle.parse_types.specs.Tokens.{Kinds}
 use Rattle.parse_types.specs.Reaches.{open_at, left_length, suffix, suffix_step, ampersand_step, bar_step, postfix, intersection, union, inside}
 use Rattle.parse_types.proofs.Going.{many-stops, many-goes, many-less}
 use Rattle.parse_types.proofs.Onto.{onto-longer}
-use Rattle.parse_types.proofs.Follows.{Stays, open_end, went-here}
+use Rattle.parse_types.proofs.Follows.{Stays, went-here}
 use Rattle.parse_types.proofs.Law.{suffixes, ampersands, bars, all_loops, At, PostfixLaw, IntersectionLaw, TypeLaw, just-open}
 
 -- a suffix behind an open type

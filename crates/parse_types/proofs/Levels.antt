@@ -1,5 +1,5 @@
 -- Each level of types: how its loop begins.
-use Rattle.std.proofs.Common.{◌≡◌, ℕ, Bool, length, ◌≤◌, Option, None, Some, refl, ap, ◌∙◌, sym, ◌<◌, arith}
+use Rattle.std.proofs.Common.{◌≡◌, ℕ, Bool, length, ◌≤◌, Option, None, Some, refl, ap, ◌∙◌, sym, ◌<◌}
 use Rattle.std.specs.Prelude.{option_map}
 use Rattle.std.proofs.lemmas.Bool.{le-leb}
 use Rattle.parse_types.specs.Loops.{many}

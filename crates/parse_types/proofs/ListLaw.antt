@@ -1,5 +1,5 @@
 -- The law at lists of types and of parameters: parts with commas between them, and maybe a rest as the last.
-use Rattle.std.proofs.Common.{rules, ◌≡◌, ℕ, ◌<◌, ◌≤◌, Bool, true, false, List, [], ◌∷◌, ◌++◌, map, length, Option, None, Some, refl, sym, ap, ◌∙◌, arith}
+use Rattle.std.proofs.Common.{rules, ◌≡◌, ℕ, ◌<◌, Bool, true, false, List, [], ◌∷◌, map, length, Option, None, Some, refl, sym, ap, ◌∙◌, arith}
 use Rattle.std.specs.Prelude.{if◌then◌else◌}
 use denote.Enum.Bare.{sameb, same_true}
 use Rattle.bal_base.specs.contracts.token.Sign.{the_type as the_signs}
@@ -17,7 +17,7 @@ use Rattle.parse_types.specs.Tokens.{Kinds, take_sign, take_word}
 use Rattle.parse_types.specs.Reaches.{type_comma, last_type, tuple, word_if_there, param_comma, last_param, params, inside}
 use Rattle.parse_types.proofs.Going.{many-stops, many-goes}
 use Rattle.parse_types.proofs.Onto.{onto-longer}
-use Rattle.parse_types.proofs.Follows.{Ends, Closes}
+use Rattle.parse_types.proofs.Follows.{Closes}
 use Rattle.parse_types.proofs.Law.{TypeLaw, before}
 use Rattle.parse_types.proofs.PrimaryLaw.{no-type, paren-closes, word-closes}
 

@@ -1,10 +1,10 @@
 -- Steps of the loops over lists, as the code meets them. `ks` is where the list begins and `rs` where the loop stands.
-use Rattle.std.proofs.Common.{◌≡◌, ℕ, ◌<◌, ◌≤◌, List, [], ◌∷◌, length, Option, None, Some, Bool, true, false, refl, sym, ap, ◌∙◌, arith}
+use Rattle.std.proofs.Common.{◌≡◌, ℕ, ◌<◌, ◌∷◌, length, Option, None, Some, Bool, true, false, sym, ap, ◌∙◌}
 use Rattle.bal_base.specs.declared.token.TokenKind.TheVariants.{Sign as SignKind}
 use Rattle.bal_base.specs.declared.token.Sign.TheVariants.{Comma, Ellipsis, Semicolon}
 use Rattle.parse_types.specs.Loops.{◌>>=◌, or_else, else_stays, many}
-use Rattle.parse_types.specs.Reaches.{inside, type_comma, last_type, type_list, param_comma, last_param, param_list, word_if_there, field, fields, fields_behind, field_behind, question_if_there}
-use Rattle.parse_types.specs.Tokens.{Kinds, take_sign, take_word}
+use Rattle.parse_types.specs.Reaches.{inside, type_comma, last_type, type_list, param_comma, last_param, param_list, word_if_there, field, fields, fields_behind, field_behind}
+use Rattle.parse_types.specs.Tokens.{Kinds, take_sign}
 use Rattle.parse_types.proofs.Going.{many-stops, many-goes}
 
 module _ (n : ℕ) (middle : Bool) (ks rs : Kinds) where

@@ -1,5 +1,5 @@
 -- The reader of the longest type: what it leaves behind a type, for the parsers of what holds types.
-use Rattle.std.proofs.Common.{◌≡◌, ◌≤◌, Bool, true, List, length, Option, Some, sym, ap, ◌∙◌, arith}
+use Rattle.std.proofs.Common.{◌≡◌, ◌≤◌, Bool, true, List, length, Some, sym, ap, ◌∙◌, arith}
 use Rattle.bal_base.specs.declared.token.Token.{Token}
 use Rattle.bal_tree.specs.declared.types.TypeTree.{TypeTree}
 use Rattle.bal_tree.specs.Pieces.{Pieces}

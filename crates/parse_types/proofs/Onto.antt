@@ -1,5 +1,5 @@
 -- The tokens of pieces before others.
-use Rattle.std.proofs.Common.{ℕ, ◌≤◌, length, arith}
+use Rattle.std.proofs.Common.{◌≤◌, length, arith}
 use Rattle.bal_tree.specs.Pieces.{Pieces, nothing, token, starts, ◌&◌}
 use Rattle.bal_tree.specs.Spells.{onto}
 use Rattle.parse_types.specs.Tokens.{Kinds}

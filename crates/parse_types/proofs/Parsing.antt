@@ -1,5 +1,5 @@
 -- The whole answer: the longest type, the place behind it, and that there is none.
-use Rattle.std.proofs.Common.{◌≡◌, ℕ, ◌+◌, ◌-◌, ◌≤◌, Bool, List, [], ◌∷◌, ◌++◌, length, take, drop, Option, None, Some, Result, Ok, Err, IfOk, IfErr, Bor, refl, sym, ap, subst, ◌∙◌, arith, append_assoc}
+use Rattle.std.proofs.Common.{◌≡◌, ℕ, ◌-◌, ◌≤◌, Bool, List, [], ◌∷◌, ◌++◌, length, take, drop, None, Some, Result, Ok, Err, IfOk, IfErr, Bor, sym, ap, ◌∙◌, arith, append_assoc}
 use Rattle.std.proofs.lemmas.List.{length-append, take-append-drop}
 use Rattle.std.proofs.Math.Seq.{drop-append_seam}
 use Rattle.bal_base.specs.declared.stop.Stop.{Stop}
@@ -7,8 +7,7 @@ use Rattle.bal_base.specs.declared.stop.Stop.TheVariants.{Memory, Fault}
 use Rattle.bal_base.specs.declared.token.Token.{Token}
 use Rattle.bal_tree.specs.declared.types.TypeTree.{TypeTree}
 use Rattle.bal_tree.specs.Pieces.{Pieces, nothing, token, starts, ◌&◌}
-use Rattle.bal_tree.specs.Spells.{Spells, onto, kinds_of}
-use Rattle.bal_tree.specs.TypePieces.{type_pieces}
+use Rattle.bal_tree.specs.Spells.{Spells, kinds_of}
 use Rattle.bal_tree.specs.TypeRules.{type_end}
 use Rattle.parse_types.specs.declared.steps.Missing.{Missing}
 use Rattle.parse_types.specs.Reaches.{Left, union, inside}

@@ -1,8 +1,8 @@
 -- The law at primary types that hold no list.
-use Rattle.std.proofs.Common.{◌≡◌, ℕ, zero, suc, ◌<◌, ◌≤◌, Bool, true, false, [], ◌∷◌, length, Option, None, Some, refl, ap, ◌∙◌, arith}
-use Rattle.std.specs.Prelude.{option_map, if◌then◌else◌}
+use Rattle.std.proofs.Common.{◌≡◌, ℕ, zero, suc, ◌≤◌, Bool, true, false, ◌∷◌, length, Option, None, Some, refl, ap, arith}
+use Rattle.std.specs.Prelude.{option_map}
 use Rattle.std.proofs.lemmas.Option.{option_and_then_some}
-use Rattle.bal_base.specs.declared.token.TokenKind.TheVariants.{Word as WordKind, Keyword as KeywordKind, Int as IntKind, Sign as SignKind}
+use Rattle.bal_base.specs.declared.token.TokenKind.TheVariants.{Word as WordKind, Keyword as KeywordKind, Sign as SignKind}
 use Rattle.bal_base.specs.declared.token.Sign.{Sign}
 use Rattle.bal_base.specs.declared.token.Sign.TheVariants.{Colon, Greater, Less, OpenParen, CloseParen}
 use Rattle.bal_tree.specs.declared.name.Prefix.{Prefix}
@@ -12,7 +12,7 @@ use Rattle.bal_tree.specs.declared.name.Literal.{Literal}
 use Rattle.bal_tree.specs.declared.name.Literal.TheVariants.{Int as IntLiteral, Str as StrLiteral, True as TrueLiteral, False as FalseLiteral, Nil as NilLiteral}
 use Rattle.bal_tree.specs.declared.types.BuiltinType.{BuiltinType}
 use Rattle.bal_tree.specs.declared.types.BuiltinType.TheVariants.{Int, String, Boolean, Byte, Any, AnyData, Never, ReadOnly}
-use Rattle.bal_tree.specs.Pieces.{Pieces, ◌&◌, key, sign}
+use Rattle.bal_tree.specs.Pieces.{Pieces, ◌&◌, sign}
 use Rattle.bal_tree.specs.Spells.{onto}
 use Rattle.bal_tree.specs.NamePieces.{name_pieces, literal_pieces}
 use Rattle.bal_tree.specs.TypePieces.{builtin_key, in_angles as angle_pieces}
@@ -21,7 +21,7 @@ use Rattle.parse_types.specs.Loops.{◌>>=◌, or_else, else_stays, many}
 use Rattle.parse_types.specs.Tokens.{Kinds, take_sign, take_word}
 use Rattle.parse_types.specs.Reaches.{open_at, left_length, colon_word, prefixed, suffix_step, in_angles, ampersand_step, bar_step, sign_type, primary, postfix, intersection, union, no_more, inside}
 use Rattle.parse_types.proofs.Taking.{take_sign-less, take_word-less}
-use Rattle.parse_types.proofs.Follows.{Stays, Closes, Went, open_end, went-here, went-option}
+use Rattle.parse_types.proofs.Follows.{Closes, open_end, went-here, went-option}
 use Rattle.parse_types.proofs.Law.{At, TypeLaw, before, inside-less}
 
 -- what is read exactly

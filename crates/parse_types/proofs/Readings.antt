@@ -1,5 +1,5 @@
 -- Tokens that spell pieces, put together.
-use Rattle.std.proofs.Common.{◌≡◌, ℕ, ◌<◌, ◌≤◌, Bool, true, ◌&&◌, List, [], ◌∷◌, ◌++◌, map, length, refl, sym, ap, subst, ◌∙◌, arith}
+use Rattle.std.proofs.Common.{◌≡◌, ℕ, ◌<◌, Bool, true, ◌&&◌, List, [], ◌∷◌, ◌++◌, length, refl, sym, ap, subst, ◌∙◌, arith}
 use Rattle.std.specs.List.{list_all}
 use Rattle.std.proofs.lemmas.List.Folds.{list_all-append}
 use Rattle.bal_base.specs.declared.place.Place.{Place}
@@ -10,7 +10,6 @@ use Rattle.bal_base.specs.declared.token.Sign.{Sign}
 use Rattle.bal_tree.specs.Pieces.{Pieces, starts, ◌&◌, sign}
 use Rattle.bal_tree.specs.Spells.{Heads, Spells, first_place, kinds_of}
 use Rattle.parse_types.specs.Starts.{Reading}
-use Rattle.parse_types.specs.Tokens.{Kinds}
 
 pub spells-both : (file : ℕ) (p q : Pieces) (a b c : List Token) → Spells file p a b → Spells file q b c → Spells file (p & q) a c
 spells-both file p q a b c h k = (b, h, k)

@@ -1,18 +1,18 @@
 -- The law at record types.
-use Rattle.std.proofs.Common.{◌≡◌, ℕ, ◌<◌, ◌≤◌, Bool, true, false, List, [], ◌∷◌, length, Option, None, Some, refl, sym, ap, ◌∙◌, arith}
+use Rattle.std.proofs.Common.{◌≡◌, ℕ, ◌<◌, Bool, true, false, List, [], ◌∷◌, length, Option, None, Some, refl, ap, ◌∙◌, arith}
 use Rattle.std.specs.Prelude.{if◌then◌else◌}
 use Rattle.bal_base.specs.declared.token.TokenKind.TheVariants.{Word as WordKind, Keyword as KeywordKind, Sign as SignKind}
 use Rattle.bal_base.specs.declared.token.Keyword.TheVariants.{Record}
 use Rattle.bal_base.specs.declared.token.Sign.TheVariants.{Question, Ellipsis, Semicolon, OpenBrace, CloseBrace, OpenBraceBar, CloseBraceBar}
 use Rattle.bal_tree.specs.declared.name.Word.{Word}
-use Rattle.bal_tree.specs.Pieces.{Pieces, nothing, ◌&◌, sign, sign_if, joined}
+use Rattle.bal_tree.specs.Pieces.{Pieces, ◌&◌, sign, sign_if, joined}
 use Rattle.bal_tree.specs.Spells.{onto}
 use Rattle.bal_tree.specs.NamePieces.{word_pieces}
 use Rattle.bal_tree.specs.TypePieces.{as_rest}
 use Rattle.bal_tree.specs.TypeRules.{TypeFacts}
 use Rattle.parse_types.specs.Loops.{◌>>=◌, many}
-use Rattle.parse_types.specs.Tokens.{Kinds, take_sign, take_word}
-use Rattle.parse_types.specs.Reaches.{field_behind, question_if_there, field, fields, fields_behind, record_type, inside}
+use Rattle.parse_types.specs.Tokens.{Kinds, take_sign}
+use Rattle.parse_types.specs.Reaches.{field_behind, field, fields, fields_behind, record_type, inside}
 use Rattle.parse_types.proofs.Going.{many-stops, many-goes}
 use Rattle.parse_types.proofs.Onto.{onto-longer}
 use Rattle.parse_types.proofs.Law.{TypeLaw, before}

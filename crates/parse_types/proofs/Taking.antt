@@ -1,14 +1,12 @@
 -- Steps over the tokens at the front leave less.
-use Rattle.std.proofs.Common.{◌≡◌, ℕ, suc, ◌<◌, ◌≤◌, Bool, true, false, [], ◌∷◌, length, Option, None, Some, refl, ap, arith}
+use Rattle.std.proofs.Common.{◌≡◌, suc, ◌<◌, ◌≤◌, Bool, true, false, [], ◌∷◌, length, Option, None, Some, refl, arith}
 use Rattle.std.specs.Prelude.{if◌then◌else◌}
-use Rattle.std.proofs.lemmas.Option.{option_and_then_some}
 use denote.Enum.Bare.{sameb}
 use Rattle.bal_base.specs.contracts.token.Sign.{the_type as the_signs}
 use Rattle.bal_base.specs.contracts.token.Keyword.{the_type as the_keywords}
 use Rattle.bal_base.specs.declared.token.TokenKind.TheVariants.{Word as WordKind, Keyword as KeywordKind, Sign as SignKind}
 use Rattle.bal_base.specs.declared.token.Keyword.{Keyword}
 use Rattle.bal_base.specs.declared.token.Sign.{Sign}
-use Rattle.bal_base.specs.declared.token.Sign.TheVariants.{Colon}
 use Rattle.parse_types.specs.Tokens.{Kinds, take_sign, take_key, take_word}
 use Rattle.parse_types.specs.Loops.{or_else, else_stays}
 

@@ -18,11 +18,11 @@ use Rattle.bal_tree.specs.declared.types.ParamType.{ParamType, out-ParamType, ro
 use Rattle.bal_tree.specs.declared.types.ParamTypes.{ParamTypes, ParamTypes-F, out-ParamTypes, roll-out-ParamTypes}
 use Rattle.bal_tree.specs.declared.types.IntersectionType.{IntersectionType}
 use Rattle.bal_tree.specs.declared.types.PostfixType.{PostfixType}
-use Rattle.bal_tree.specs.Parts.{Part, outside, inside, each_inside, part_if}
-use Rattle.bal_tree.specs.Pieces.{Pieces, ◌&◌, starts, sign, sign_if, key, key_if, if_there, if_boxed, joined, separated}
+use Rattle.bal_tree.specs.Parts.{inside, each_inside}
+use Rattle.bal_tree.specs.Pieces.{◌&◌, starts, sign, sign_if, key, key_if, if_there, if_boxed, joined, separated}
 use Rattle.bal_tree.specs.Spells.{Spells, Heads, first_place}
 use Rattle.bal_tree.specs.NamePieces.{word_pieces}
-use Rattle.bal_tree.specs.TypeLayers.{of_type_tree, of_field_tree, of_param_type, of_param_types, of_primary_type}
+use Rattle.bal_tree.specs.TypeLayers.{of_type_tree, of_field_tree, of_param_type}
 use Rattle.bal_tree.specs.TypePieces.{writing, type_pieces, field_pieces, param_type_pieces, param_types_pieces, primary_type_pieces, as_rest, with_last_boxed, function_word, returning}
 use Rattle.bal_tree.specs.TypeRules.{TypeFacts, facts, part_is_formed, type_is_formed, field_is_formed, param_type_is_formed, param_types_are_formed, primary_type_is_formed}
 use Rattle.bal_tree.proofs.TypeLayers.{type_layers}

@@ -16,7 +16,7 @@ use Rattle.bal_tree.specs.declared.types.TypeTree.{TypeTree, TypeTree-F, roll-Ty
 use Rattle.bal_tree.specs.declared.types.FieldTree.{FieldTree, FieldTree-F, roll-FieldTree, map-FieldTree}
 use Rattle.bal_tree.specs.declared.types.ParamType.{ParamType, ParamType-F, roll-ParamType, map-ParamType}
 use Rattle.bal_tree.specs.declared.types.ParamTypes.{ParamTypes, ParamTypes-F, roll-ParamTypes, map-ParamTypes}
-use Rattle.bal_tree.specs.Parts.{Part, outside, inside as inside_part, each_inside}
+use Rattle.bal_tree.specs.Parts.{Part, inside as inside_part, each_inside}
 use Rattle.bal_tree.specs.Pieces.{Pieces, ◌&◌, sign, token}
 use Rattle.bal_tree.specs.Spells.{onto}
 use Rattle.bal_tree.specs.TypeLayers.{of_intersection_type, of_postfix_type, of_primary_type, of_type_tree, of_field_tree, of_param_type, of_param_types}
@@ -24,13 +24,13 @@ use Rattle.bal_tree.specs.TypePieces.{writing, as_rest, in_angles as angle_piece
 use Rattle.bal_tree.specs.TypeRules.{TypeFacts, facts, part_is_formed, is_length, name_fits}
 use Rattle.parse_types.specs.Tokens.{Kinds, take_sign, take_word}
 use Rattle.parse_types.specs.Loops.{◌>>=◌, else_stays}
-use Rattle.parse_types.specs.Reaches.{params, inside, open_at, suffix}
+use Rattle.parse_types.specs.Reaches.{params, inside, open_at}
 use Rattle.parse_types.proofs.Follows.{Stays}
-use Rattle.parse_types.proofs.Law.{both_pass, not_true, suffixes, ampersands, At, PrimaryLaw, PostfixLaw, IntersectionLaw, TypeLaw}
+use Rattle.parse_types.proofs.Law.{both_pass, not_true, suffixes, ampersands, PrimaryLaw, PostfixLaw, IntersectionLaw, TypeLaw}
 use Rattle.parse_types.proofs.LevelLaw.{suffixed, both, either}
 use Rattle.parse_types.proofs.Levels.{postfix-from, intersection-from, union-from}
 use Rattle.parse_types.proofs.PrimaryLaw.{found, builtin-law, literal-law, name-law, parens-law, angles, error-law}
-use Rattle.parse_types.proofs.ListLaw.{Item, Last, Listed, params_step, params_last, TypesListed, ParamsListed, tuple-law, params-law, type-item, type-rest, param-item, param-rest, listed-items}
+use Rattle.parse_types.proofs.ListLaw.{Item, params_step, params_last, TypesListed, ParamsListed, tuple-law, params-law, type-item, type-rest, param-item, param-rest}
 use Rattle.parse_types.proofs.RecordLaw.{FieldAt, FieldsAt, closed-alone, closed-rest, open-law, field-at}
 use Rattle.parse_types.proofs.FunctionLaw.{any-law, plain-law, result-law}
 use Rattle.parse_types.proofs.TypeRolls.{parts_of_intersection_type, parts_of_postfix_type, parts_of_primary_type, parts_of_type_tree, parts_of_field_tree, parts_of_param_type, parts_of_param_types, rolled-intersection_type, rolled-postfix_type, rolled-primary_type, rolled-type_tree, rolled-field_tree, rolled-param_type, rolled-param_types}

@@ -3,8 +3,7 @@
 --
 -- `bracketed` reads a type between brackets, `outside` one that stands in the same place as the whole, and `inner` either
 -- of them, in the middle of a conditional expression or not.
-use Rattle.std.specs.Prelude.{ℕ, zero, suc, Bool, true, false, if◌then◌else◌, List, [], ◌∷◌, length, Option, None, Some, option_map, nat_le}
-use Rattle.bal_base.specs.declared.token.TokenKind.{TokenKind}
+use Rattle.std.specs.Prelude.{ℕ, zero, suc, Bool, true, false, if◌then◌else◌, [], ◌∷◌, length, Option, None, Some, option_map, nat_le}
 use Rattle.bal_base.specs.declared.token.TokenKind.TheVariants.{Word as WordKind, Keyword as KeywordKind, Int as IntKind, Str as StrKind, Sign as SignKind}
 use Rattle.bal_base.specs.declared.token.Keyword.{Keyword}
 use Rattle.bal_base.specs.declared.token.Keyword.TheVariants.{True, False, Int, String, Boolean, Byte, Any, AnyData, Never, ReadOnly, Map, Future, Error, Record, Function, Isolated, Returns}

@@ -1,10 +1,10 @@
 -- Steps over the tokens at the front, without their places.
-use Rattle.std.specs.Prelude.{ℤ, Bool, if◌then◌else◌, List, [], ◌∷◌, Option, None, Some}
+use Rattle.std.specs.Prelude.{ℤ, if◌then◌else◌, List, [], ◌∷◌, Option, None, Some}
 use denote.Enum.Bare.{sameb}
 use Rattle.bal_base.specs.contracts.token.Sign.{the_type as the_signs}
 use Rattle.bal_base.specs.contracts.token.Keyword.{the_type as the_keywords}
 use Rattle.bal_base.specs.declared.token.TokenKind.{TokenKind}
-use Rattle.bal_base.specs.declared.token.TokenKind.TheVariants.{Word as WordKind, Keyword as KeywordKind, Int as IntKind, Str as StrKind, Sign as SignKind}
+use Rattle.bal_base.specs.declared.token.TokenKind.TheVariants.{Word as WordKind, Keyword as KeywordKind, Int as IntKind, Sign as SignKind}
 use Rattle.bal_base.specs.declared.token.Keyword.{Keyword}
 use Rattle.bal_base.specs.declared.token.Sign.{Sign}
 

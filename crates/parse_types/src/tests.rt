@@ -1,2 +1,4 @@
 mod depth;
 mod notation;
+mod steps;
+mod types;

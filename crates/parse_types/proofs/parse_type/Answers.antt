@@ -1,4 +1,4 @@
-use Rattle.std.proofs.Common.{◌≡◌, ◌≤◌, ◌⊎◌, inr, false, None, length, drop, sym, ap, subst, ◌∙◌, arith}
+use Rattle.std.proofs.Common.{◌≡◌, ◌≤◌, ◌⊎◌, inr, false, None, length, drop, sym, ap, subst, ◌∙◌}
 use Rattle.bal_base.specs.declared.fault.FaultCode.TheVariants.{Syntax}
 use Rattle.bal_tree.specs.Spells.{Spells, first_place, kinds_of}
 use Rattle.bal_tree.specs.TypePieces.{type_pieces}

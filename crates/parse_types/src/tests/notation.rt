@@ -1,5 +1,5 @@
 //! Tokens written in words: a sign or a word of the language stands for itself, digits for their number, anything
-//! else for a word, and `3*(` for three times `(`.
+//! else for a word, and `3*map_<` for three times `map <`.
 use bal_base::{Keyword, Memory, Name, Sign, Token, TokenKind};
 use std::alloc::Global;
 
@@ -58,13 +58,20 @@ static KEYWORDS: [(&str, Keyword); 22] = [
 /// The tokens, each of one byte.
 pub(crate) fn tokens_of(alloc: Global, text: &str) -> Result<Vec<Token>, Memory> {
     let mut tokens = Vec::new(alloc);
-    for part in text.split(' ') {
-        let (times, word) = repeated(part);
+    for part in text.split_whitespace() {
+        let (times, words) = repeated(part);
         for _ in 0..times {
-            push(alloc, &mut tokens, word)?;
+            push_all(alloc, &mut tokens, words)?;
         }
     }
     Ok(tokens)
+}
+
+fn push_all(alloc: Global, tokens: &mut Vec<Token>, words: &str) -> Result<(), Memory> {
+    for word in words.split('_') {
+        push(alloc, tokens, word)?;
+    }
+    Ok(())
 }
 
 fn push(alloc: Global, tokens: &mut Vec<Token>, word: &str) -> Result<(), Memory> {
@@ -80,7 +87,7 @@ fn push(alloc: Global, tokens: &mut Vec<Token>, word: &str) -> Result<(), Memory
 
 fn repeated(part: &str) -> (usize, &str) {
     match part.split_once('*') {
-        Some((times, word)) => (times.parse::<usize>().unwrap_or(0), word),
+        Some((times, words)) => (times.parse::<usize>().unwrap_or(0), words),
         None => (1, part),
     }
 }

@@ -1,24 +1,20 @@
-use Rattle.std.proofs.Common.{rules, ◌≡◌, ◌≤◌, ◌<◌, ℕ, Bool, true, false, ◌&&◌, List, [], ◌∷◌, ◌++◌, map, Option, None, Some, length, refl, sym, ap, ◌∙◌, subst, arith}
-use Rattle.std.specs.Prelude.{option_map, is_some}
+use Rattle.std.proofs.Common.{rules, ◌≡◌, true, false, ◌&&◌, [], ◌∷◌, ◌++◌, map, None, Some, length, refl, sym, ap, ◌∙◌, subst, arith}
+use Rattle.std.specs.Prelude.{option_map}
 use Rattle.std.specs.List.{list_all}
-use Rattle.std.proofs.lemmas.List.{append-nil, map-append}
-use Rattle.bal_base.specs.declared.token.Sign.TheVariants.{Bar, Ampersand, Comma, Ellipsis, Semicolon, Question, OpenBrace, CloseBrace, OpenBraceBar, CloseBraceBar, OpenBracket, CloseBracket, OpenParen, CloseParen}
+use Rattle.std.proofs.lemmas.List.{map-append}
+use Rattle.bal_base.specs.declared.token.Sign.TheVariants.{Bar, Ampersand, Comma, Ellipsis, OpenBrace, CloseBrace, OpenBraceBar, CloseBraceBar, OpenBracket, CloseBracket, OpenParen, CloseParen}
 use Rattle.bal_base.specs.declared.token.TokenKind.TheVariants.{Sign as SignKind}
 use Rattle.bal_base.specs.declared.token.Keyword.TheVariants.{Record}
-use Rattle.bal_tree.specs.Pieces.{Pieces, ◌&◌, starts, joined, separated, sign, sign_if, key, if_there}
-use Rattle.bal_tree.specs.NamePieces.{word_pieces}
+use Rattle.bal_tree.specs.Pieces.{◌&◌, starts, joined, separated, sign, key}
 use Rattle.bal_tree.specs.Spells.{Spells, kinds_of}
 use Rattle.bal_tree.specs.TypePieces.{type_pieces, intersection_pieces, postfix_type_pieces, primary_type_pieces, field_pieces, param_type_pieces, param_types_pieces, as_rest, with_last_boxed}
 use Rattle.bal_tree.specs.TypeRules.{type_is_formed, intersection_is_formed, postfix_type_is_formed, primary_type_is_formed, field_is_formed, param_type_is_formed, param_types_are_formed}
-use Rattle.bal_tree.specs.declared.types.FieldTree.{out-FieldTree}
-use Rattle.bal_tree.specs.declared.types.ParamType.{out-ParamType}
-use Rattle.bal_tree.specs.declared.types.ParamTypes.{out-ParamTypes}
 use Rattle.bal_tree.specs.declared.types.PrimaryType.TheVariants.{Tuple, ClosedRecord, OpenRecord}
 use Rattle.parse_types.specs.Listings.{rest_is_formed, rest_field_pieces}
 use Rattle.parse_types.specs.Loops.{◌>>=◌, or_else}
 use Rattle.parse_types.specs.Tokens.{take_sign}
-use Rattle.parse_types.specs.Reaches.{open_at, tuple, params, record_type, record_behind, open_record, left_length, suffix_step, ampersand_step, bar_step, postfix, intersection, union, inside, type_comma, type_list, param_list, param_comma, field, fields, word_if_there}
-use Rattle.parse_types.specs.Starts.{Reading, IfMissing, type_left, intersection_left, postfix_left}
+use Rattle.parse_types.specs.Reaches.{open_at, tuple, params, record_type, record_behind, open_record, left_length, suffix_step, ampersand_step, bar_step, postfix, intersection, union, inside, type_list, param_list, fields}
+use Rattle.parse_types.specs.Starts.{IfMissing, type_left, intersection_left, postfix_left}
 use Rattle.parse_types.specs.Suffixes.{suffix_pieces, suffix_fits}
 use Rattle.parse_types.proofs.Levels.{loop-more, loop-done}
 use Rattle.parse_types.proofs.Readings.{joins, ends_in, reads-as, both-true, all-push, heads-kinds, kinds-less}
