@@ -1,25 +1,24 @@
 //! Types that hold lists: tuples, records and functions.
 #![tactic(auto, using(crate::proofs::Readings::spelling, crate::proofs::TypeReadings::type_readings))]
 
-ghost use Rattle.std.specs.Prelude.{◌≡◌, ◌<◌, ◌≤◌, ◌&&◌, ◌++◌, ℕ, Some, None, true, false, Bool, length, map, option_map, is_some, IfSome, IfOk, MatchResult};
+ghost use Rattle.std.specs.Prelude.{◌≡◌, ◌≤◌, ◌&&◌, ℕ, Some, None, true, false, length, map, option_map, IfOk};
 ghost use Rattle.std.specs.List.{list_all};
-ghost use Rattle.bal_base.specs.declared.token.Sign.TheVariants.{Semicolon, Comma, OpenBraceBar, OpenBrace, Question};
-ghost use Rattle.bal_base.specs.declared.token.Keyword.TheVariants.{Returns as ReturnsKey, Isolated as IsolatedKey, Record as RecordKey};
-ghost use Rattle.bal_tree.specs.declared.types.FieldTree.{out-FieldTree};
-ghost use Rattle.bal_tree.specs.Pieces.{Pieces, starts as starts_piece, sign as sign_piece, key as key_piece, key_if, sign_if, if_there, if_boxed, joined, separated, ◌&◌};
+ghost use Rattle.bal_base.specs.declared.token.Sign.TheVariants.{Comma};
+ghost use Rattle.bal_base.specs.declared.token.Keyword.TheVariants.{Isolated as IsolatedKey};
+ghost use Rattle.bal_tree.specs.Pieces.{key_if, if_there, separated};
 ghost use Rattle.bal_tree.specs.NamePieces.{word_pieces};
 ghost use Rattle.bal_tree.specs.Spells.{Spells, kinds_of};
-ghost use Rattle.bal_tree.specs.TypePieces.{type_pieces, field_pieces, param_type_pieces, param_types_pieces, primary_type_pieces, as_rest, returning, with_last_boxed};
-ghost use Rattle.bal_tree.specs.TypeRules.{type_is_formed, field_is_formed, param_type_is_formed, param_types_are_formed, primary_type_is_formed};
+ghost use Rattle.bal_tree.specs.TypePieces.{type_pieces, param_type_pieces, param_types_pieces, as_rest, returning, with_last_boxed};
+ghost use Rattle.bal_tree.specs.TypeRules.{type_is_formed, param_type_is_formed, param_types_are_formed};
 ghost use Rattle.parse_types.specs.Reaches as spec;
 ghost use Rattle.parse_types.specs.Reaches.{open_at};
-ghost use Rattle.parse_types.specs.Listings.{rest_is_formed, rest_field_pieces};
-ghost use Rattle.parse_types.specs.Starts.{Leaves, LeavesAs, IfMissing, primary_left, PrimaryReading, Reading};
+ghost use Rattle.parse_types.specs.Listings.{rest_is_formed};
+ghost use Rattle.parse_types.specs.Starts.{Leaves, LeavesAs, primary_left, PrimaryReading, Reading};
 
 use crate::steps::{Missing, after_key, after_sign, key, optional, place, sign, word};
 use crate::types::TypeReader;
-use bal_base::{Keyword, Place, Sign, Stop, Token};
-use bal_tree::{FieldTree, ParamType, ParamTypes, PrimaryType, TypeTree, Word};
+use bal_base::{Keyword, Sign, Stop, Token};
+use bal_tree::{ParamType, ParamTypes, PrimaryType, TypeTree, Word};
 
 /// Parts of one kind, and what takes the rest.
 type Listed<T> = (Vec<T>, Option<Box<TypeTree>>);

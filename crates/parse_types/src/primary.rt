@@ -16,7 +16,7 @@ ghost use Rattle.parse_types.specs.Starts.{Leaves, LeavesAs, primary_left, Prima
 
 use crate::steps::{Missing, after_key, after_sign, int, key, optional, place, sign, word};
 use crate::types::TypeReader;
-use bal_base::{Keyword, Memory, Place, Sign, Stop, Token};
+use bal_base::{Keyword, Place, Sign, Stop, Token};
 use bal_tree::{BuiltinType, Literal, Prefix, PrimaryType, QualifiedName, TypeTree, Word};
 
 /// A name of a type, whose first token is a word.

@@ -1,19 +1,19 @@
 //! Record types.
 #![tactic(auto, using(crate::proofs::Readings::spelling, crate::proofs::TypeReadings::type_readings))]
 
-ghost use Rattle.std.specs.Prelude.{◌≡◌, ◌≤◌, ◌&&◌, ℕ, Some, None, true, false, Bool, length, map, option_map, is_some, IfOk, MatchResult};
+ghost use Rattle.std.specs.Prelude.{◌≡◌, ◌≤◌, ◌&&◌, ℕ, Some, None, true, false, length, map, option_map, is_some, IfOk};
 ghost use Rattle.std.specs.List.{list_all};
 ghost use Rattle.bal_base.specs.declared.token.Sign.TheVariants.{Semicolon, OpenBraceBar, OpenBrace, Question, CloseBrace, CloseBraceBar};
 ghost use Rattle.bal_tree.specs.declared.types.FieldTree.{out-FieldTree};
 ghost use Rattle.bal_tree.specs.Pieces.{sign as sign_piece, sign_if, joined, ◌&◌};
 ghost use Rattle.bal_tree.specs.NamePieces.{word_pieces};
 ghost use Rattle.bal_tree.specs.Spells.{Spells, kinds_of};
-ghost use Rattle.bal_tree.specs.TypePieces.{type_pieces, field_pieces};
-ghost use Rattle.bal_tree.specs.TypeRules.{type_is_formed, field_is_formed};
+ghost use Rattle.bal_tree.specs.TypePieces.{field_pieces};
+ghost use Rattle.bal_tree.specs.TypeRules.{field_is_formed};
 ghost use Rattle.parse_types.specs.Reaches as spec;
 ghost use Rattle.parse_types.specs.Reaches.{open_at};
 ghost use Rattle.parse_types.specs.Listings.{rest_is_formed, rest_field_pieces};
-ghost use Rattle.parse_types.specs.Starts.{Leaves, LeavesAs, IfMissing, primary_left, PrimaryReading, Reading};
+ghost use Rattle.parse_types.specs.Starts.{Leaves, LeavesAs, primary_left, PrimaryReading, Reading};
 
 use crate::steps::{Missing, after_sign, key, optional, place, sign, word};
 use crate::types::TypeReader;

@@ -1,7 +1,7 @@
 //! The signs behind a type that make another one of it.
 #![tactic(auto, using(crate::proofs::Readings::spelling, crate::proofs::TypeReadings::type_readings))]
 
-ghost use Rattle.std.specs.Prelude.{◌≡◌, true, false, option_map, IfOk, IfSome, IsTrue, ℕ};
+ghost use Rattle.std.specs.Prelude.{◌≡◌, true, false, option_map, IfOk, IfSome, ℕ};
 ghost use Rattle.bal_tree.specs.Pieces.{starts as starts_piece, ◌&◌};
 ghost use Rattle.bal_tree.specs.Spells.{kinds_of};
 ghost use Rattle.bal_tree.specs.TypePieces.{postfix_type_pieces};
