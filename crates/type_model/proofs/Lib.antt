@@ -7,5 +7,6 @@ pub mod Laws
 pub mod Names
 pub mod PartLaws
 pub mod Same
+pub mod SameShapes
 pub mod SameTypes
 pub mod Unfolding

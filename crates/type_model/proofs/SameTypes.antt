@@ -1,7 +1,6 @@
 -- Types that are the same name the same atoms and have the same shapes.
-use Rattle.std.proofs.Common.{◌≡◌, ℕ, ◌<◌, ◌↔◌, List, IsSomeAnd, slice_get, subst}
+use Rattle.std.proofs.Common.{ℕ, ◌<◌, ◌↔◌, List, IsSomeAnd, slice_get, subst}
 use Rattle.bal_base.specs.declared.shape.Shape.{Shape}
-use Rattle.type_model.specs.declared.basic.BasicSet.{BasicSet}
 use Rattle.type_model.specs.declared.basic.SemType.{SemType, Basic, Atom, Or', And', Not'}
 use Rattle.type_model.specs.declared.atoms.AtomDef.{AtomDef}
 use Rattle.type_model.specs.Basic.{InBasic}
