@@ -38,15 +38,12 @@ IsTooDeep file tokens fault = (i : ℕ) × (first_too_deep (enclosed 0 (kinds_of
 abbrev pub HasNoType : ℕ → List Token → Fault → Type 0
 HasNoType file tokens fault = (first_too_deep (enclosed 0 (kinds_of tokens)) ≡ None) × ((rest : Kinds) → StartsType false tokens rest → ⊥) × (fault ≡ refusal Syntax (first_place file tokens))
 
--- the call's own answer, and not want of memory, is as said
-abbrev pub IfFault : {F : Type 0} → Stop F → (F → Type 0) → Type 0
-IfFault Memory claim = Unit {0}
-IfFault (FaultOf f) claim = claim f
-
 -- ---- clauses of the functions that read
 
+-- the claim, where it is the call's own answer and not want of memory
 abbrev pub IfMissing : {F : Type 0} → Stop F → Type 0 → Type 0
-IfMissing stop claim = IfFault stop (λ f. claim)
+IfMissing Memory claim = Unit {0}
+IfMissing (FaultOf f) claim = claim
 
 -- what was read leaves what a reader leaves, and is missing exactly where that has nothing; `left` is what to say of the
 -- tree and the rest

@@ -14,11 +14,12 @@
 
 ghost use Rattle.std.specs.Prelude.{◌≡◌, ◌≤◌, ◌⊎◌, None, false, length, drop, IfOk, IfErr};
 ghost use Rattle.bal_base.specs.declared.stop.Stop.TheVariants.{Fault as FaultOf};
+ghost use Rattle.bal_base.specs.Stops.{IfFault};
 ghost use Rattle.bal_tree.specs.Spells.{kinds_of};
 ghost use Rattle.bal_tree.specs.Reads.{ReadsType};
 ghost use Rattle.parse_types.specs.Nesting as nesting_spec;
 ghost use Rattle.parse_types.specs.Reaches as reader;
-ghost use Rattle.parse_types.specs.Starts.{IfFault, IfMissing, IsTooDeep, HasNoType, LeavesAs, StartsType, TypeReading, refusal, type_left};
+ghost use Rattle.parse_types.specs.Starts.{IfMissing, IsTooDeep, HasNoType, LeavesAs, StartsType, TypeReading, refusal, type_left};
 ghost use Rattle.parse_types.specs.Tokens.{Kinds};
 
 mod lists;
@@ -52,7 +53,7 @@ pub fn parse_type(
     ensures reads { IfOk result (λ r. ReadsType file (drop from tokens.now) r.0 (drop r.1 tokens.now)) }
     ensures longest { IfOk result (λ r. (rest : Kinds) → StartsType false (drop from tokens.now) rest → length (drop r.1 tokens.now) ≤ length rest) }
     ensures not_deep { IfOk result (λ r. nesting_spec.first_too_deep (nesting_spec.enclosed 0 (kinds_of (drop from tokens.now))) ≡ None) }
-    ensures refused { IfErr result (λ stop. IfFault stop (λ f. IsTooDeep file (drop from tokens.now) f ⊎ HasNoType file (drop from tokens.now) f)) }
+    ensures refused { IfFault result (λ f. IsTooDeep file (drop from tokens.now) f ⊎ HasNoType file (drop from tokens.now) f) }
 {
     let front = rest_from(tokens, from);
     if let Some(deep) = first_too_deep(alloc, enclosed(front))? {

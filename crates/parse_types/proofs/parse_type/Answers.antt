@@ -1,9 +1,11 @@
-use Rattle.std.proofs.Common.{◌≡◌, ◌≤◌, ◌⊎◌, inr, false, None, length, drop, sym, ap, subst, ◌∙◌}
+use Rattle.std.proofs.Common.{◌≡◌, ◌≤◌, ◌⊎◌, ℕ, Err, inr, false, None, length, drop, sym, ap, subst, ◌∙◌}
 use Rattle.bal_base.specs.declared.fault.FaultCode.TheVariants.{Syntax}
 use Rattle.bal_tree.specs.Spells.{Spells, first_place, kinds_of}
+use Rattle.bal_tree.specs.declared.types.TypeTree.{TypeTree}
 use Rattle.bal_tree.specs.TypePieces.{type_pieces}
 use Rattle.parse_types.specs.Nesting.{first_too_deep, enclosed}
-use Rattle.parse_types.specs.Starts.{StartsType, IfFault, IsTooDeep, HasNoType, refusal}
+use Rattle.bal_base.specs.Stops.{IfFault}
+use Rattle.parse_types.specs.Starts.{StartsType, IsTooDeep, HasNoType, refusal}
 use Rattle.parse_types.specs.Tokens.{Kinds}
 use Rattle.parse_types.proofs.Parsing.{rest-place}
 use Rattle.parse_types.proofs.parse_type.Goals as goal
@@ -30,5 +32,5 @@ returns-in-Err-Fault-clause-refused c =
     in
     let none = rw c.in-Err-Fault.field-0-is at c.in-Err-Fault.ensures.none in
     let at = c.place.ensures ∙ ap (first_place file) front in
-    subst (λ stop. IfFault stop (λ f. IsTooDeep file tokens f ⊎ HasNoType file tokens f)) (sym c.refused-in-Err-Fault.ensures)
+    subst (λ stop. IfFault {T = TypeTree × ℕ} (Err stop) (λ f. IsTooDeep file tokens f ⊎ HasNoType file tokens f)) (sym c.refused-in-Err-Fault.ensures)
     (inr (shallow, subst (λ ts. (rest : Kinds) → StartsType false ts rest → ⊥) front none, ap (refusal Syntax) at))
