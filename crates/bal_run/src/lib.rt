@@ -20,6 +20,3 @@ mod words;
 pub use status::{Built, Run, Status, status_number};
 pub use top::bal_run;
 pub use words::dir_of;
-
-#[cfg(test)]
-mod tests;

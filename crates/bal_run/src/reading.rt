@@ -156,6 +156,3 @@ fn main(alloc: Global, size: u32, bytes: &[u8]) -> Result<Option<Def>, Memory>
     )?;
     Ok(Some(main))
 }
-
-#[cfg(test)]
-mod tests;

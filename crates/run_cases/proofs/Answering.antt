@@ -1,0 +1,47 @@
+-- What is known after a call of the top on objects in memory, as an answer to the call of a case.
+use Rattle.std.proofs.Common.{◌≡◌, List, Option, Some, Result, Ok, Err, String, subst, sym}
+use Rattle.std.specs.Global.{Global}
+use Rattle.std.specs.Prelude.{IfOk, IfSome, IsSome, ◌↔◌, string_bytes}
+use Rattle.bal_io.specs.Held.{HeldFolder, HeldOutput}
+use Rattle.bal_run.specs.Due.{FolderTells, SinkTells, StatusIsDue, folder_tells, outside}
+use Rattle.bal_run.specs.Report.{Reports}
+use Rattle.bal_run.specs.Words.{IsCommand, IsGood}
+use Rattle.bal_run.specs.declared.status.Run.{Run}
+use Rattle.bal_run.specs.declared.status.Status.{Status}
+use Rattle.run_cases.specs.Came.{IsAnswerTo, IsNamed, folder_told, nothing_told, sink_told}
+use Rattle.run_cases.specs.declared.case.Call.{Call}
+
+-- the objects told before the call what the case says
+pub answer-to : (call : Call) (words : List (String Global)) (before : FolderTells) (out diag : SinkTells)
+    (run : Run) (folder' : HeldFolder) (out' diag' : HeldOutput)
+    → words ≡ call.words.items
+    → before ≡ folder_tells 0 (Some call.files.items)
+    → out ≡ nothing_told
+    → diag ≡ nothing_told
+    → (due : Status) × StatusIsDue words (outside before out) (outside (folder_told folder') (sink_told out')) run due
+    × Reports due run.status diag (sink_told diag')
+    → IsAnswerTo call run out' diag'
+answer-to call words before out diag run folder' out' diag' w b o d (due, cause, told) =
+    record {
+      folder = folder';
+      due = due;
+      cause =
+          subst (λ (x : SinkTells). StatusIsDue call.words.items (outside (folder_tells 0 (Some call.files.items)) x) (outside (folder_told folder') (sink_told out')) run due) o
+          (subst (λ (x : FolderTells). StatusIsDue call.words.items (outside x out) (outside (folder_told folder') (sink_told out')) run due) b
+          (subst (λ (x : List (String Global)). StatusIsDue x (outside before out) (outside (folder_told folder') (sink_told out')) run due) w cause));
+      told = subst (λ (x : SinkTells). Reports due run.status x (sink_told diag')) d told;
+    }
+
+-- the words, as they are passed, are those of the case, and so is the folder that is kept
+pub named : (words words' : List (String Global)) (dir dir' : Option (String Global))
+    → words ≡ words' → dir' ≡ dir
+    → IfSome dir (λ name. IsCommand words (string_bytes name))
+    → IsSome dir ↔ IsGood words
+    → IsNamed words' dir'
+named words words' dir dir' w d name good =
+    subst (λ x. IsNamed words' x) (sym d) (subst (λ x. IsNamed x dir) w (record { name = name; good = good }))
+
+-- two facts of a value, if there is one, make a third
+pub both : {A E : Type 0} (r : Result A E) (P Q R : A → Type 0) → ((x : A) → P x → Q x → R x) → IfOk r P → IfOk r Q → IfOk r R
+both (Ok x) P Q R f p q = f x p q
+both (Err e) P Q R f p q = tt

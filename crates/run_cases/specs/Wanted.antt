@@ -1,0 +1,35 @@
+-- When what came of a call is what was wanted of it.
+use Rattle.std.specs.Prelude.{◌≡◌, ⊤, ℕ, Option, Some, None, IsSomeAnd, String, string_bytes}
+use Rattle.std.specs.Global.{Global}
+use Rattle.run_cases.specs.declared.came.Came.{Came}
+use Rattle.run_cases.specs.declared.came.Counts.{Counts}
+use Rattle.run_cases.specs.declared.case.Wanted.{Wanted}
+use Rattle.run_cases.specs.declared.case.WantedCounts.{WantedCounts}
+use Rattle.run_cases.specs.declared.case.WantedDir.{WantedDir}
+use Rattle.run_cases.specs.declared.case.WantedDir.TheVariants.{Any, Missing, Named}
+
+-- the count is the one that is wanted, if one is
+abbrev pub IsCountWanted : Option ℕ → ℕ → Type 0
+IsCountWanted (Some wanted) came = came ≡ wanted
+IsCountWanted None came = ⊤
+
+abbrev pub AreCountsWanted : WantedCounts → Counts → Type 0
+AreCountsWanted wanted came =
+    IsCountWanted wanted.steps came.steps
+    × IsCountWanted wanted.turns came.turns
+    × IsCountWanted wanted.places came.places
+
+-- the words name the folder that is wanted, or none where none is, if one is told
+abbrev pub IsDirWanted : WantedDir → Option (String Global) → Type 0
+IsDirWanted Any came = ⊤
+IsDirWanted Missing came = came ≡ None
+IsDirWanted (Named name) came = IsSomeAnd came (λ dir. string_bytes dir ≡ string_bytes name)
+
+-- the status, both outputs to the last byte, and the folder and each count that is wanted
+abbrev pub AsWanted : Wanted → Came → Type 0
+AsWanted wanted came =
+    (came.status ≡ wanted.status)
+    × (came.stdout.items ≡ wanted.stdout.items)
+    × (came.stderr.items ≡ wanted.stderr.items)
+    × IsDirWanted wanted.dir came.dir
+    × AreCountsWanted wanted.counts came.counts

@@ -1,0 +1,240 @@
+//! Cases as they are written, a line each for:
+//!
+//! - `case TITLE`, with which a case begins
+//! - `words A B C`: words of the command; `word WORD`: one that may have spaces. Where neither stands, the
+//!   one word `.`
+//! - `file NAME`: a file of the folder, whose text follows
+//! - `main`: the file `main.bal`, which imports `ballerina/io`, and in whose function `main` the text that
+//!   follows stands
+//! - `stdin`: the input, whose text follows
+//! - `fails OBJECT N ..`: the numbers, from 0, of the calls that fail on `folder`, `stdin`, `stdout` or `stderr`
+//! - `cut OBJECT N COUNT`: the call on `stdout` or `stderr` that fails, having taken so many bytes
+//! - `status N`: the status that is wanted
+//! - `stdout` and `stderr`: the outputs that are wanted, whose texts follow. Where they don't stand, nothing
+//! - `dir NAME`: the folder that the words name, or `nodir` where they name none. Where neither stands, any
+//! - `steps N`, `turns N` and `places N`: the steps, the turns, and the places of the code that is kept. Where
+//!   they don't stand, any
+//!
+//! A text is lines that the module `piece` tells; one that is opened again goes on. Empty lines, and those that begin with `//`, say nothing.
+
+use crate::case::{Call, Case, Wanted, WantedCounts, WantedDir};
+use crate::misread::{Misread, Read, refuse};
+use crate::piece::{add_piece, is_piece};
+use crate::words::{first_word, number, numbers, says_nothing, title_of, two_numbers};
+use std::alloc::Global;
+use std::mem;
+
+/// A case that is being read.
+#[derive(Drop)]
+pub struct Draft {
+    alloc: Global,
+    has_title: bool,
+    has_words: bool,
+    call: Call,
+    status: Option<u64>,
+    stdout: Vec<u8>,
+    stderr: Vec<u8>,
+    dir: WantedDir,
+    counts: WantedCounts,
+    open: Part,
+    text: Vec<u8>,
+}
+
+/// What the text is that lines add to.
+#[derive(Drop)]
+enum Part {
+    Nothing,
+    File(String),
+    Main,
+    Stdin,
+    Stdout,
+    Stderr,
+}
+
+impl Draft {
+    /// Nothing was read.
+    pub fn new(alloc: Global) -> Draft {
+        Draft {
+            alloc,
+            has_title: false,
+            has_words: false,
+            call: Call::new(alloc),
+            status: None,
+            stdout: Vec::new(alloc),
+            stderr: Vec::new(alloc),
+            dir: WantedDir::Any,
+            counts: WantedCounts {
+                steps: None,
+                turns: None,
+                places: None,
+            },
+            open: Part::Nothing,
+            text: Vec::new(alloc),
+        }
+    }
+
+    /// Reads the next line.
+    pub fn line(&mut self, line: &str) -> Read<()> {
+        if title_of(line).is_some() {
+            self.has_title = true;
+            return Ok(());
+        }
+        if says_nothing(line) {
+            return Ok(());
+        }
+        if !self.has_title {
+            return refuse(Misread::NoCase);
+        }
+        let (word, rest) = first_word(line);
+        if is_piece(word) {
+            return self.go_on(word, rest);
+        }
+        self.close()?;
+        self.begin(word, rest)
+    }
+
+    /// The case, once all its lines are read.
+    pub fn finish(self) -> Read<Case> {
+        let mut draft = self;
+        draft.close()?;
+        if !draft.has_words {
+            draft.word(".")?;
+        }
+        let Some(status) = draft.status else {
+            return refuse(Misread::NoStatus);
+        };
+        let Draft {
+            call,
+            stdout,
+            stderr,
+            dir,
+            counts,
+            ..
+        } = draft;
+        Ok(Case {
+            call,
+            wanted: Wanted {
+                status,
+                stdout,
+                stderr,
+                dir,
+                counts,
+            },
+        })
+    }
+
+    /// Adds a line to the text that is open.
+    fn go_on(&mut self, word: &str, rest: &str) -> Read<()> {
+        match self.open {
+            Part::Nothing => refuse(Misread::NoText),
+            _ => add_piece(self.alloc, &mut self.text, word, rest),
+        }
+    }
+
+    /// Puts the text that is open where it belongs.
+    fn close(&mut self) -> Read<()> {
+        let open = mem::replace(&mut self.open, Part::Nothing);
+        let text = mem::replace(&mut self.text, Vec::new(self.alloc));
+        match open {
+            Part::Nothing => {}
+            Part::File(name) => self.call.add_file(self.alloc, name.as_str(), text)?,
+            Part::Main => self.call.add_main(self.alloc, text.as_slice())?,
+            Part::Stdin => self.call.input.extend_from_slice(text.as_slice())?,
+            Part::Stdout => self.stdout.extend_from_slice(text.as_slice())?,
+            Part::Stderr => self.stderr.extend_from_slice(text.as_slice())?,
+        }
+        Ok(())
+    }
+
+    /// Reads a line that adds to no text.
+    fn begin(&mut self, word: &str, rest: &str) -> Read<()> {
+        match word {
+            "words" => self.words(rest),
+            "word" => self.word(rest),
+            "fails" => self.fails(rest),
+            "cut" => self.cut(rest),
+            "file" | "main" | "stdin" | "stdout" | "stderr" => self.open(word, rest),
+            "dir" => self.dir(WantedDir::Named(String::from_str(self.alloc, rest)?)),
+            "nodir" => self.dir(WantedDir::Missing),
+            "status" | "steps" | "turns" | "places" => self.count(word, rest),
+            _ => refuse(Misread::NotALine),
+        }
+    }
+
+    fn words(&mut self, rest: &str) -> Read<()> {
+        self.has_words = true;
+        for word in rest.split_ascii_whitespace() {
+            self.word(word)?;
+        }
+        Ok(())
+    }
+
+    fn word(&mut self, word: &str) -> Read<()> {
+        self.has_words = true;
+        self.call.words.push(String::from_str(self.alloc, word)?)?;
+        Ok(())
+    }
+
+    fn fails(&mut self, rest: &str) -> Read<()> {
+        let (object, rest) = first_word(rest);
+        let calls = numbers(self.alloc, rest)?;
+        match object {
+            "folder" => self.call.folder_fails.extend_from_slice(calls.as_slice())?,
+            "stdin" => self.call.input_fails.extend_from_slice(calls.as_slice())?,
+            "stdout" => self.call.stdout.list(calls.as_slice())?,
+            "stderr" => self.call.stderr.list(calls.as_slice())?,
+            _ => return refuse(Misread::NotALine),
+        }
+        Ok(())
+    }
+
+    fn cut(&mut self, rest: &str) -> Read<()> {
+        let (object, rest) = first_word(rest);
+        let (call, taken) = two_numbers(rest)?;
+        match object {
+            "stdout" => self.call.stdout.cut(call, taken),
+            "stderr" => self.call.stderr.cut(call, taken),
+            _ => refuse(Misread::NotALine),
+        }
+    }
+
+    /// Opens a text.
+    fn open(&mut self, word: &str, rest: &str) -> Read<()> {
+        self.open = match word {
+            "file" => Part::File(String::from_str(self.alloc, rest)?),
+            "main" => Part::Main,
+            "stdin" => Part::Stdin,
+            "stdout" => Part::Stdout,
+            _ => Part::Stderr,
+        };
+        Ok(())
+    }
+
+    fn dir(&mut self, dir: WantedDir) -> Read<()> {
+        match self.dir {
+            WantedDir::Any => {
+                self.dir = dir;
+                Ok(())
+            }
+            _ => refuse(Misread::Twice),
+        }
+    }
+
+    fn count(&mut self, word: &str, rest: &str) -> Read<()> {
+        let count = number(rest)?;
+        match word {
+            "status" => set_once(&mut self.status, count),
+            "steps" => set_once(&mut self.counts.steps, count),
+            "turns" => set_once(&mut self.counts.turns, count),
+            _ => set_once(&mut self.counts.places, count),
+        }
+    }
+}
+
+fn set_once(known: &mut Option<u64>, count: u64) -> Read<()> {
+    if known.is_some() {
+        return refuse(Misread::Twice);
+    }
+    *known = Some(count);
+    Ok(())
+}
