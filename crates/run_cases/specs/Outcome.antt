@@ -12,7 +12,7 @@ use Rattle.run_cases.specs.declared.outcome.Outcome.TheVariants.{Agrees, Differs
 abbrev pub IsVerdict : Wanted → Came → Outcome → Type 0
 IsVerdict wanted came Agrees = AsWanted wanted came
 IsVerdict wanted came (Differs wanted' came') = (AsWanted wanted came → ⊥) × (wanted' ≡ wanted) × (came' ≡ came)
-IsVerdict wanted came (Misread line why) = ⊥
+IsVerdict wanted came (Misread misread) = ⊥
 IsVerdict wanted came Memory = ⊥
 
 -- the verdict on what came of the call of a case, or want of memory
@@ -24,5 +24,5 @@ IsOutcomeOf case outcome =
 abbrev pub fails : Outcome → Bool
 fails Agrees = false
 fails (Differs wanted came) = true
-fails (Misread line why) = true
+fails (Misread misread) = true
 fails Memory = true

@@ -3,45 +3,30 @@
 use crate::case::Case;
 use crate::draft::Draft;
 use crate::misread::Misread;
-use crate::words::{says_nothing, title_of};
+use crate::words::says_nothing;
 use bal_base::Stop;
 use std::alloc::Global;
-
-/// A line of the input.
-#[derive(Drop)]
-pub struct Line {
-    /// Its number, from 1.
-    pub number: u64,
-    pub text: String,
-}
 
 /// Why a case isn't read.
 #[derive(Clone, Copy)]
 pub struct MisreadAt {
-    /// The number of the line.
-    pub line: u64,
+    /// The number of the line among those of the case, from 0.
+    pub line: usize,
     pub why: Stop<Misread>,
 }
 
 /// Whether there is no case in the lines.
-pub fn say_nothing(lines: &[Line]) -> bool {
-    lines.iter().all(|line| says_nothing(line.text.as_str()))
+pub fn say_nothing(lines: &[String]) -> bool {
+    lines.iter().all(|line| says_nothing(line.as_str()))
 }
 
 /// Reads the lines of a case.
-pub fn read_case(alloc: Global, lines: &[Line]) -> Result<Case, MisreadAt> {
+pub fn read_case(alloc: Global, lines: &[String]) -> Result<Case, MisreadAt> {
     let mut draft = Draft::new(alloc);
-    let mut first = 0u64;
-    for line in lines {
-        if title_of(line.text.as_str()).is_some() {
-            first = line.number;
-        }
-        if let Err(why) = draft.line(line.text.as_str()) {
-            return Err(MisreadAt {
-                line: line.number,
-                why,
-            });
+    for (i, line) in lines.iter().enumerate() {
+        if let Err(why) = draft.line(line.as_str()) {
+            return Err(MisreadAt { line: i, why });
         }
     }
-    draft.finish().map_err(|why| MisreadAt { line: first, why })
+    draft.finish().map_err(|why| MisreadAt { line: 0, why })
 }

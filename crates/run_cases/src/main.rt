@@ -19,7 +19,7 @@ mod piece;
 mod tell;
 mod words;
 
-use lines::{Line, say_nothing};
+use lines::say_nothing;
 use outcome::{Outcome, failures, outcome_of};
 use std::io::{self, BufRead, BufReader};
 use tell::tell;
@@ -28,15 +28,13 @@ use words::title_of;
 fn main(rt: HostRuntime) -> io::Result<()> {
     let mut outcomes = Vec::new(rt.alloc());
     let mut lines = Vec::new(rt.alloc());
-    let mut number = 0u64;
     for line in BufReader::new(rt.alloc(), rt.reader())?.lines(rt.alloc()) {
-        let text = line?;
-        number = number.saturating_add(1);
-        if title_of(text.as_str()).is_some() {
+        let line = line?;
+        if title_of(line.as_str()).is_some() {
             judge(&rt, &lines, &mut outcomes)?;
             lines.clear();
         }
-        lines.push(Line { number, text })?;
+        lines.push(line)?;
     }
     judge(&rt, &lines, &mut outcomes)?;
     let cases = outcomes.len();
@@ -47,7 +45,7 @@ fn main(rt: HostRuntime) -> io::Result<()> {
 /// Runs the case that these lines tell, if they tell one, tells it if it fails, and keeps what became of it.
 fn judge(
     rt: &(impl Print + AllocGlobal),
-    lines: &[Line],
+    lines: &[String],
     outcomes: &mut Vec<Outcome>,
 ) -> io::Result<()> {
     if say_nothing(lines) {

@@ -4,9 +4,8 @@ ghost use Rattle.run_cases.specs.Outcome.{IsOutcomeOf, IsVerdict, fails};
 
 use crate::came::{Came, came_of, is_as_wanted};
 use crate::case::{Case, Wanted};
-use crate::lines::{Line, MisreadAt, read_case};
-use crate::misread::Misread;
-use bal_base::{Memory, Stop};
+use crate::lines::{MisreadAt, read_case};
+use bal_base::Memory;
 use std::alloc::Global;
 
 /// What became of a case.
@@ -16,17 +15,17 @@ pub enum Outcome {
     Agrees,
     /// This came, and not what is wanted.
     Differs { wanted: Wanted, came: Came },
-    /// The line with this number is not read.
-    Misread { line: u64, why: Stop<Misread> },
+    /// It is not read.
+    Misread(MisreadAt),
     /// Memory ran out.
     Memory,
 }
 
 /// Reads a case, makes its call and compares.
-pub fn outcome_of(alloc: Global, lines: &[Line]) -> Outcome {
+pub fn outcome_of(alloc: Global, lines: &[String]) -> Outcome {
     match read_case(alloc, lines) {
         Ok(case) => outcome_of_call(alloc, case),
-        Err(MisreadAt { line, why }) => Outcome::Misread { line, why },
+        Err(misread) => Outcome::Misread(misread),
     }
 }
 
@@ -66,7 +65,7 @@ impl Outcome {
     {
         match self {
             Outcome::Agrees => false,
-            Outcome::Differs { .. } | Outcome::Misread { .. } | Outcome::Memory => true,
+            Outcome::Differs { .. } | Outcome::Misread(_) | Outcome::Memory => true,
         }
     }
 }

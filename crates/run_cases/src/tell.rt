@@ -3,7 +3,6 @@ ghost use Rattle.std.specs.Prelude.{◌≤◌, length};
 
 use crate::came::{Came, is_dir_wanted};
 use crate::case::{Wanted, WantedDir};
-use crate::lines::Line;
 use crate::misread::Misread;
 use crate::outcome::Outcome;
 use crate::words::title_of;
@@ -11,33 +10,38 @@ use bal_base::Stop;
 use std::io;
 
 /// Tells a case that fails by its title and the reason.
-pub fn tell(rt: &impl Print, lines: &[Line], outcome: &Outcome) -> io::Result<()> {
+pub fn tell(rt: &impl Print, lines: &[String], outcome: &Outcome) -> io::Result<()> {
     if !outcome.fails() {
         return Ok(());
     }
-    tell_title(rt, lines)?;
+    tell_title(rt, line_at(lines, 0))?;
     match outcome {
         Outcome::Agrees => Ok(()),
         Outcome::Differs { wanted, came } => tell_differences(rt, wanted, came),
-        Outcome::Misread { line, why } => tell_misread(rt, *line, *why),
+        Outcome::Misread(at) => tell_misread(rt, line_at(lines, at.line), at.why),
         Outcome::Memory => println!(rt; "    out of memory"),
     }
 }
 
-fn tell_misread(rt: &impl Print, line: u64, why: Stop<Misread>) -> io::Result<()> {
-    match why {
-        Stop::Fault(why) => println!(rt; "    line {line}: {why}"),
-        Stop::Memory => println!(rt; "    line {line}: out of memory"),
+fn line_at(lines: &[String], i: usize) -> &str {
+    match lines.get(i) {
+        Some(line) => line.as_str(),
+        None => "",
     }
 }
 
-fn tell_title(rt: &impl Print, lines: &[Line]) -> io::Result<()> {
-    let Some(line) = lines.first() else {
-        return Ok(());
-    };
-    let number = line.number;
-    let title = title_of(line.text.as_str()).unwrap_or("no title");
-    println!(rt; "line {number}: {title}")
+fn tell_title(rt: &impl Print, line: &str) -> io::Result<()> {
+    match title_of(line) {
+        Some(title) => println!(rt; "{title}"),
+        None => println!(rt; "no title"),
+    }
+}
+
+fn tell_misread(rt: &impl Print, line: &str, why: Stop<Misread>) -> io::Result<()> {
+    match why {
+        Stop::Fault(why) => println!(rt; "    {line}: {why}"),
+        Stop::Memory => println!(rt; "    {line}: out of memory"),
+    }
 }
 
 /// Tells each part that is not as it is wanted.
