@@ -1,0 +1,8 @@
+use Rattle.std.proofs.Common.{sym, subst}
+use Rattle.type_diagrams.specs.Decisions.{Grows, AddBelow}
+use Rattle.type_diagrams.proofs.Inserts.{nodes_in-Extends}
+use Rattle.type_diagrams.proofs.diagrams.Diagrams.step.Goals as goal
+
+pub returns-clause-extends : goal.returns-clause-extends
+returns-clause-extends c =
+    nodes_in-Extends 0 _ c.apply.new.self c.args.self.now c.self.invariant c.apply.ensures.grows c.apply.ensures.atoms c.self.view_is

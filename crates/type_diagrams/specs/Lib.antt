@@ -1,0 +1,17 @@
+pub mod Atoms
+pub mod Conditions
+pub mod Decisions
+pub mod Kept
+pub mod Kinds
+pub mod Members
+pub mod Merges
+pub mod Operations
+pub mod Paths
+pub mod Questions
+pub mod Reach
+pub mod Sets
+pub mod Simple
+pub mod Tables
+pub mod Trees
+pub mod Turns
+pub mod Whole

@@ -1,0 +1,86 @@
+//! Reading diagrams: their nodes, roots and paths.
+ghost use Rattle.std.specs.Prelude.{◌≡◌, ◌++◌, ℕ, Bool, IfOk, OnOk, map};
+ghost use Rattle.type_diagrams.specs.Paths.{paths_of, behind};
+ghost use Rattle.type_diagrams.specs.Tables.{AreNodes, IsDiagram, Leads, condition, tree_of};
+ghost use Rattle.type_diagrams.specs.Decisions.{IsNumber};
+ghost use Rattle.type_diagrams.specs.Whole.{HasOneNumberEach};
+ghost use Rattle.type_diagrams.specs.Questions.{HasPaths, IsUnionOf};
+
+use crate::diagrams::Diagrams;
+use crate::kind::Kind;
+use crate::node::Node;
+use crate::nodes::{FALSE, TRUE};
+use crate::path::Path;
+use bal_base::{AtomList, Memory};
+use std::alloc::Global;
+
+impl Diagrams {
+    /// The nodes, in the order of their numbers. Diagrams with equal conditions have one number. Takes no
+    /// memory.
+    pub fn nodes(&self) -> &[Node]
+        ensures nodes { result.now ≡ self.now.nodes }
+        ensures are { AreNodes self.now.nodes }
+        ensures one { HasOneNumberEach self.now }
+    {
+        self.nodes.as_slice()
+    }
+
+    /// Where the part of a kind begins, given as the followers of nodes are. Takes no memory.
+    pub fn root(&self, a: u32, kind: Kind) -> u32
+        requires { IsDiagram self.now a }
+        ensures number { IsNumber self.now.nodes result }
+        ensures leads { (v : ℕ → Bool) → Leads self.now.nodes v result ((condition self.now a).by_kind kind v) }
+    {
+        self.diagram(a).root(kind)
+    }
+
+    /// The paths of a kind, in order: those on which the first literal holds before the others.
+    pub fn paths(&self, alloc: Global, a: u32, kind: Kind) -> Result<Vec<Path>, Memory>
+        requires { IsDiagram self.now a }
+        ensures ordered { IfOk result (λ paths. HasPaths (condition self.now a) kind paths.items) }
+        ensures shapes { IfOk result (λ paths. IsUnionOf (condition self.now a) kind paths.items) }
+    {
+        let mut found = Vec::new(alloc);
+        let mut pos = Vec::new(alloc);
+        let mut neg = Vec::new(alloc);
+        let root = self.diagram(a).root(kind);
+        self.find_paths(root, &mut pos, &mut neg, &mut found)?;
+        Ok(found)
+    }
+
+    /// The paths from a number on, behind the literals on the way to it.
+    fn find_paths(
+        &self,
+        number: u32,
+        pos: &mut Vec<u32>,
+        neg: &mut Vec<u32>,
+        found: &mut Vec<Path>,
+    ) -> Result<(), Memory>
+        requires { IsNumber self.now.nodes number }
+        ensures pos { OnOk result (pos.new.items ≡ pos.old.items) }
+        ensures neg { OnOk result (neg.new.items ≡ neg.old.items) }
+        ensures found { OnOk result (found.new.items ≡ found.old.items ++ map (behind pos.old.items neg.old.items) (paths_of (tree_of self.now.nodes number))) }
+    {
+        match number {
+            FALSE => Ok(()),
+            TRUE => {
+                let path = Path {
+                    pos: AtomList::of(pos.clone()?),
+                    neg: AtomList::of(neg.clone()?),
+                };
+                found.push(path)?;
+                Ok(())
+            }
+            _ => {
+                let node = self.nodes()[number as usize - 2];
+                pos.push(node.on)?;
+                self.find_paths(node.yes, pos, neg, found)?;
+                pos.pop();
+                neg.push(node.on)?;
+                self.find_paths(node.no, pos, neg, found)?;
+                neg.pop();
+                Ok(())
+            }
+        }
+    }
+}

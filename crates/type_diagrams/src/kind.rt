@@ -1,0 +1,20 @@
+//! The kinds of shapes.
+
+/// A kind of shapes that atoms speak of. The other shapes are simple.
+#[derive(Clone, Copy, Debug, PartialEq, Eq)]
+pub enum Kind {
+    List,
+    Mapping,
+    Error,
+    Function,
+    Future,
+}
+
+/// All kinds.
+pub const KINDS: [Kind; 5] = [
+    Kind::List,
+    Kind::Mapping,
+    Kind::Error,
+    Kind::Function,
+    Kind::Future,
+];

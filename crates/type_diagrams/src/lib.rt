@@ -1,0 +1,24 @@
+//! Types as diagrams: for each kind of shapes a decision over the mark and the atoms, kept as shared
+//! nodes, so that equal conditions have one number.
+//!
+//! - [`Kind`]: the five kinds of shapes that atoms speak of; [`KINDS`]: all of them.
+//! - [`Node`] and [`MARK`]: a step of a decision, and the number that stands for the mark.
+//! - [`Path`]: a way through a decision to true.
+//! - [`Member`] and [`Turn`]: what a table tells of questions, and what is said of a path against it.
+#![tactic(auto)]
+
+mod diagrams;
+mod kind;
+mod merge;
+mod node;
+mod nodes;
+mod operation;
+mod path;
+mod simple;
+mod turn;
+
+pub use diagrams::Diagrams;
+pub use kind::{KINDS, Kind};
+pub use node::{MARK, Node};
+pub use path::Path;
+pub use turn::{Member, Turn};
