@@ -14,10 +14,12 @@ pub mod NewNodes
 pub mod NodeTrees
 pub mod Numbering
 pub mod OneNumber
+pub mod Outside
 pub mod PathLaws
 pub mod PathSteps
 pub mod Places
 pub mod Shapes
+pub mod SimpleFound
 pub mod SimpleLaws
 pub mod SimpleSets
 pub mod Splits

@@ -48,18 +48,18 @@ module _ (pos neg : List ℕ) (tree : Tree) (found : List Path) where
       append_nil [] = refl
       append_nil (x ∷ xs) = ap (λ ys. x ∷ ys) (append_nil xs)
 
-  pub found_node : (l : ℕ) (s t : Tree) (longer_pos neg_again pos_again longer_neg : List ℕ) (mid last : List Path) → tree ≡ By l s t
-      → longer_pos ≡ pos ++ l ∷ [] → neg_again ≡ neg → pos_again ≡ pos → longer_neg ≡ neg ++ l ∷ []
+  pub found_node : (l : ℕ) (s t : Tree) (longer_pos neg_again pos_again neg_before longer_neg : List ℕ) (mid last : List Path) → tree ≡ By l s t
+      → longer_pos ≡ pos ++ l ∷ [] → neg_again ≡ neg → pos_again ≡ pos → neg_before ≡ neg → longer_neg ≡ neg_before ++ l ∷ []
       → mid ≡ found ++ map (behind longer_pos neg_again) (paths_of s) → last ≡ mid ++ map (behind pos_again longer_neg) (paths_of t)
       → last ≡ found ++ map (behind pos neg) (paths_of tree)
-  found_node l s t longer_pos neg_again pos_again longer_neg mid last node lp n p ln first second =
+  found_node l s t longer_pos neg_again pos_again neg_before longer_neg mid last node lp n p before ln first second =
       second
-      ∙ (λ i. (first ∙ (λ j. found ++ map (behind (lp j) (n j)) (paths_of s))) i ++ map (behind (p i) (ln i)) (paths_of t))
+      ∙ (λ i. (first ∙ (λ j. found ++ map (behind (lp j) (n j)) (paths_of s))) i ++ map (behind (p i) ((ln ∙ ap (λ ns. ns ++ l ∷ []) before) i)) (paths_of t))
       ∙ append_assoc found (map (behind (pos ++ l ∷ []) neg) (paths_of s)) (map (behind pos (neg ++ l ∷ [])) (paths_of t))
       ∙ ap (λ ps. found ++ ps) (sym (behind-By pos neg l s t))
       ∙ ap (λ u. found ++ map (behind pos neg) (paths_of u)) (sym node)
 
 -- what is left when the last, which was put behind them, is taken away
-pub popped : (xs zs ys : List ℕ) (l : ℕ) (r : Option ℕ) (n : ℕ) → zs ≡ xs ++ l ∷ [] → zs ≡ ys ++ option_to_list r → IsSome r ↔ (0 < n) → n ≡ length zs → ys ≡ xs
-popped xs zs ys l (Some x) n e f some long = (same_from_push ys xs x l (sym f ∙ e)).0
-popped xs zs ys l None n e f some long = absurd (false≢true (some.1 (omega (arith, long, ap length e, length-append xs (l ∷ [])))))
+pub popped : (xs ws zs ys : List ℕ) (l : ℕ) (r : Option ℕ) (n : ℕ) → zs ≡ ws → ws ≡ xs ++ l ∷ [] → zs ≡ ys ++ option_to_list r → IsSome r ↔ (0 < n) → n ≡ length zs → ys ≡ xs
+popped xs ws zs ys l (Some x) n e g f some long = (same_from_push ys xs x l (sym f ∙ e ∙ g)).0
+popped xs ws zs ys l None n e g f some long = absurd (false≢true (some.1 (omega (arith, long, ap length (e ∙ g), length-append xs (l ∷ [])))))

@@ -115,7 +115,7 @@ module _ {X : Type 0} (cmp : X → X → Ordering) (total : IsTotalOrder cmp) wh
     none-covers x (p ∷ ps) h = (covers-none_before p x h.0, none-covers x ps h.1)
 
     -- the answer for a place at the head
-    at_head : (a : Bool) (p : X) (ps : List X) → IsBelowAll cmp p ps → answer_for test a (p ∷ ps) p ≡ not a
+    pub at_head : (a : Bool) (p : X) (ps : List X) → IsBelowAll cmp p ps → answer_for test a (p ∷ ps) p ≡ not a
     at_head a p ps h = ap (λ c. answer_for test (turned_if c a) ps p) (covers-itself p) ∙ answer-none test (not a) ps p (none-covers p ps h)
 
     not-same : (a : Bool) → a ≡ not a → ⊥

@@ -170,8 +170,3 @@ module _ (env : List AtomDef) where
   -- a valid shape that meets it
   abbrev pub IsShapeOf : Condition → Shape → Type 0
   IsShapeOf c x = IsValid x × Meets c x
-
--- a valid simple shape that meets the condition, or none where there is none
-abbrev pub FindsSimple : Condition → Option Shape → Type 0
-FindsSimple c (Some x) = IsSimple x × IsValid x × (c.simple x ≡ true)
-FindsSimple c None = (x : Shape) → IsSimple x → IsValid x → c.simple x ≡ false

@@ -1,6 +1,7 @@
 pub mod Atoms
 pub mod Conditions
 pub mod Decisions
+pub mod Found
 pub mod Kept
 pub mod Kinds
 pub mod Members

@@ -15,6 +15,7 @@ mod nodes;
 mod operation;
 mod path;
 mod simple;
+mod simple_shape;
 mod turn;
 
 pub use diagrams::Diagrams;

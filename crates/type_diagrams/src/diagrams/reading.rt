@@ -4,6 +4,7 @@ ghost use Rattle.type_diagrams.specs.Paths.{paths_of, behind};
 ghost use Rattle.type_diagrams.specs.Tables.{AreNodes, IsDiagram, Leads, condition, tree_of};
 ghost use Rattle.type_diagrams.specs.Decisions.{IsNumber};
 ghost use Rattle.type_diagrams.specs.Whole.{HasOneNumberEach};
+ghost use Rattle.type_diagrams.specs.Found.{FindsSimple};
 ghost use Rattle.type_diagrams.specs.Questions.{HasPaths, IsUnionOf};
 
 use crate::diagrams::Diagrams;
@@ -11,7 +12,7 @@ use crate::kind::Kind;
 use crate::node::Node;
 use crate::nodes::{FALSE, TRUE};
 use crate::path::Path;
-use bal_base::{AtomList, Memory};
+use bal_base::{AtomList, Memory, Shape};
 use std::alloc::Global;
 
 impl Diagrams {
@@ -46,6 +47,15 @@ impl Diagrams {
         let root = self.diagram(a).root(kind);
         self.find_paths(root, &mut pos, &mut neg, &mut found)?;
         Ok(found)
+    }
+
+    /// A simple shape of the diagram, or `None` where it has none.
+    pub fn simple_shape(&self, alloc: Global, a: u32) -> Result<Option<Shape>, Memory>
+        requires { IsDiagram self.now a }
+        ensures { IfOk result (FindsSimple (condition self.now a).simple) }
+    {
+        let diagram = self.diagram(a);
+        self.sets.as_slice()[diagram.simple as usize].shape(alloc)
     }
 
     /// The paths from a number on, behind the literals on the way to it.
