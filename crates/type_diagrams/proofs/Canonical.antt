@@ -7,18 +7,18 @@ use Rattle.type_diagrams.proofs.Literals.{by_rank}
 pub by_same : (l m : ℕ) (s t u w : Tree) → l ≡ m → s ≡ u → t ≡ w → By l s t ≡ By m u w
 by_same l m s t u w e f g = cc
 
-abbrev Same : Tree → Tree → Type 0
+abbrev pub Same : Tree → Tree → Type 0
 Same s t = (v : ℕ → Bool) → eval s v ≡ eval t v
 
 -- the assignment with another value for one literal
-abbrev set : (ℕ → Bool) → ℕ → Bool → ℕ → Bool
+abbrev pub set : (ℕ → Bool) → ℕ → Bool → ℕ → Bool
 set v l b m = if m == l then b else v m
 
-by_bool : (x : Bool) → (x ≡ true → ⊥) → x ≡ false
+pub by_bool : (x : Bool) → (x ≡ true → ⊥) → x ≡ false
 by_bool true f = absurd (f refl)
 by_bool false f = refl
 
-same_if : (x p q r s : Bool) → p ≡ q → r ≡ s → (if x then p else r) ≡ (if x then q else s)
+pub same_if : (x p q r s : Bool) → p ≡ q → r ≡ s → (if x then p else r) ≡ (if x then q else s)
 same_if true p q r s e f = e
 same_if false p q r s e f = f
 
@@ -36,10 +36,10 @@ ignores n (By m s t) v l b h lt =
     ap (λ x. if x then eval s (set v l b) else eval t (set v l b)) (set_off v l b m (omega (arith, lt, h.0)))
     ∙ same_if (v m) (eval s (set v l b)) (eval s v) (eval t (set v l b)) (eval t v) (ignores (rank m + 1) s v l b h.1 (omega (arith, lt, h.0))) (ignores (rank m + 1) t v l b h.2 (omega (arith, lt, h.0)))
 
-left : (l : ℕ) (s t : Tree) (v : ℕ → Bool) → RisesFrom (rank l + 1) s → eval (By l s t) (set v l true) ≡ eval s v
+pub left : (l : ℕ) (s t : Tree) (v : ℕ → Bool) → RisesFrom (rank l + 1) s → eval (By l s t) (set v l true) ≡ eval s v
 left l s t v h = ap (λ x. if x then eval s (set v l true) else eval t (set v l true)) (set_at v l true) ∙ ignores (rank l + 1) s v l true h (omega arith)
 
-right : (l : ℕ) (s t : Tree) (v : ℕ → Bool) → RisesFrom (rank l + 1) t → eval (By l s t) (set v l false) ≡ eval t v
+pub right : (l : ℕ) (s t : Tree) (v : ℕ → Bool) → RisesFrom (rank l + 1) t → eval (By l s t) (set v l false) ≡ eval t v
 right l s t v h = ap (λ x. if x then eval s (set v l false) else eval t (set v l false)) (set_at v l false) ∙ ignores (rank l + 1) t v l false h (omega arith)
 
 -- where the whole does not depend on its literal, both sides are the same

@@ -1,18 +1,16 @@
 -- Sets of simple shapes that are kept in the one way and have the same shapes are one.
-use Rattle.std.proofs.Common.{◌≡◌, ◌≢◌, ℕ, zero, suc, ℤ, ◌<◌, ◌≤◌, ◌+◌, rules, List, [], ◌∷◌, length, Bool, true, false, if◌then◌else◌, refl, sym, subst, ◌∙◌, ap, arith}
-use Rattle.std.proofs.lemmas.Bool.{false≢true}
+use Rattle.std.proofs.Common.{◌≡◌, ℕ, zero, suc, ◌<◌, ◌≤◌, ◌+◌, rules, List, [], ◌∷◌, length, true, false, refl, sym, ◌∙◌, ap, arith}
 use Rattle.std.proofs.lemmas.Cmp.{nat_list_cmp_total, int_cmp_total}
 use Rattle.std.proofs.lemmas.Map.Lookups.{exact_bytes, exact_signed}
 use Rattle.std.specs.declared.cmp.Ordering.{Ordering}
 use Rattle.std.specs.declared.cmp.Ordering.TheVariants.{Less, Equal, Greater}
-use Rattle.std.specs.Ordering.{int_cmp, nat_cmp, is_le, is_eq}
+use Rattle.std.specs.Ordering.{int_cmp, nat_cmp, is_eq}
 use Rattle.std.specs.Cmp.Lexicographic.{slice_cmp}
-use Rattle.std.specs.Str.{all_scalars}
 use Rattle.bal_base.specs.declared.text.Text.{Text}
 use Rattle.bal_base.specs.declared.shape.Shape.{Shape, Nil, Bool as BoolShape, Int, Str}
 use Rattle.bal_base.specs.Valid.{IsInt, IsText, IsValid}
 use Rattle.type_diagrams.specs.Kinds.{IsSimple}
-use Rattle.type_diagrams.specs.Sets.{Each, Simples, answer_for, covers, IsBelowAll, Rises, IsCanonical, has_shape, has_int, has_text, least_int}
+use Rattle.type_diagrams.specs.Sets.{Each, Simples, answer_for, covers, IsCanonical, has_shape, least_int}
 use Rattle.type_diagrams.proofs.Places.{answers-same, answer-none, none-covers}
 
 -- ---- a text that is none of a list's

@@ -1,12 +1,9 @@
 -- The condition of a diagram that is put together of the parts of two.
-use Rattle.std.proofs.Common.{◌≡◌, ◌≢◌, ℕ, zero, suc, ◌+◌, map, get_or, ◌<◌, lit<, if◌then◌else◌, List, Bool, true, false, Option, Some, None, slice_get, length, refl, sym, subst, ◌∙◌, ap, arith}
+use Rattle.std.proofs.Common.{◌≡◌, ◌≢◌, ℕ, zero, suc, ◌+◌, map, get_or, ◌<◌, lit<, if◌then◌else◌, List, Bool, true, false, Some, slice_get, length, refl, sym, subst, ◌∙◌, ap, arith}
 use Rattle.std.proofs.lemmas.Bool.{false≢true, eqb-true, eq-eqb}
 use Rattle.std.proofs.lemmas.Option.{slice_get_within, slice_get-get_or}
-use Rattle.bal_base.specs.declared.shape.Shape.{Shape}
-use Rattle.bal_base.specs.Valid.{IsValid}
 use Rattle.type_diagrams.specs.declared.kind.Kind.{Kind}
 use Rattle.type_diagrams.specs.declared.kind.Kind.TheVariants.{List as Lists, Mapping as Mappings, Error as Errors, Function as Functions, Future as Futures}
-use Rattle.type_diagrams.specs.declared.node.Node.{Node}
 use Rattle.type_diagrams.specs.declared.node.Diagram.{Diagram}
 use Rattle.type_diagrams.specs.declared.operation.Operation.{Operation}
 use Rattle.type_diagrams.specs.declared.operation.Step.{Step}

@@ -1,5 +1,5 @@
 -- A diagram or a set that is put into a table behind the others.
-use Rattle.std.proofs.Common.{◌≡◌, ℕ, ◌<◌, List, [], ◌∷◌, ◌++◌, map, length, Bool, true, false, Some, slice_get, refl, sym, subst, ◌∙◌, ap}
+use Rattle.std.proofs.Common.{◌≡◌, ℕ, ◌<◌, List, [], ◌∷◌, ◌++◌, map, length, false, Some, slice_get, refl, sym, subst, ◌∙◌, ap}
 use Rattle.std.specs.List.{list_any}
 use Rattle.indexmap.specs.IndexSet.{insert_key}
 use Rattle.type_diagrams.specs.contracts.node.DiagramPartialEq.TheImpl as same_diagram

@@ -1,13 +1,12 @@
 -- What stays of a table that grows.
-use Rattle.std.proofs.Common.{◌≡◌, ℕ, ◌<◌, ◌≤◌, ◌+◌, List, [], ◌∷◌, ◌++◌, length, Bool, Some, None, slice_get, ◌⊎◌, ⊎_elim, refl, sym, subst, ◌∙◌, ap, length-append, arith}
+use Rattle.std.proofs.Common.{◌≡◌, ℕ, ◌<◌, ◌≤◌, List, [], ◌∷◌, ◌++◌, length, Some, slice_get, ⊎_elim, refl, sym, subst, ◌∙◌, ap, length-append, arith}
 use Rattle.std.proofs.lemmas.Option.{slice_get_within}
-use Rattle.type_diagrams.specs.declared.kind.Kind.{Kind}
 use Rattle.type_diagrams.specs.declared.node.Node.{Node}
 use Rattle.type_diagrams.specs.declared.node.Diagram.{Diagram}
 use Rattle.type_diagrams.specs.declared.node.TheConstants.{MOST_NODES}
 use Rattle.type_diagrams.specs.Sets.{Simples, IsCanonical}
-use Rattle.type_diagrams.specs.Decisions.{Grows, IsNumber}
-use Rattle.type_diagrams.specs.Tables.{Table, AreNodes, IsDiagram, HasNoTwins, root_of, condition, condition_at, is_in_set}
+use Rattle.type_diagrams.specs.Decisions.{Grows}
+use Rattle.type_diagrams.specs.Tables.{Table, AreNodes, HasNoTwins, root_of, condition_at, is_in_set}
 use Rattle.type_diagrams.specs.Whole.{IsDiagramOver, IsTable, Keeps, Extends}
 use Rattle.type_diagrams.specs.Trees.{eval}
 use Rattle.type_diagrams.proofs.NodeTrees.{slice_get-append, member_at}

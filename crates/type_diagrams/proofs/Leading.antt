@@ -1,9 +1,9 @@
 -- Going along the nodes of a number ends in what its decision comes to.
-use Rattle.std.proofs.Common.{◌≡◌, ℕ, zero, suc, ◌<◌, ◌+◌, List, length, Bool, true, false, if◌then◌else◌, Some, slice_get, refl, sym, subst, ◌∙◌, ap, arith}
+use Rattle.std.proofs.Common.{◌≡◌, ℕ, zero, suc, ◌<◌, ◌+◌, List, Bool, true, false, if◌then◌else◌, Some, slice_get, refl, sym, subst, ap, arith}
 use Rattle.std.proofs.lemmas.Option.{slice_get_within}
 use Rattle.type_diagrams.specs.declared.node.Node.{Node}
 use Rattle.type_diagrams.specs.Trees.{eval}
-use Rattle.type_diagrams.specs.Tables.{AreNodes, Leads, at_false, at_true, to_yes, to_no, tree_of}
+use Rattle.type_diagrams.specs.Tables.{AreNodes, Leads, at_false, at_true, to_yes, to_no}
 use Rattle.type_diagrams.specs.Decisions.{IsNumber, value_of}
 use Rattle.type_diagrams.proofs.NodeTrees.{View, is_no, is_yes, is_node, view}
 

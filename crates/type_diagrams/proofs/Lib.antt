@@ -16,8 +16,10 @@ pub mod Numbering
 pub mod OneNumber
 pub mod Outside
 pub mod PathLaws
+pub mod PathLiterals
 pub mod PathSteps
 pub mod Places
+pub mod Reaching
 pub mod Shapes
 pub mod SimpleFound
 pub mod SimpleLaws

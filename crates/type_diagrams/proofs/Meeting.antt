@@ -1,5 +1,6 @@
 -- The shapes that meet a condition: those of a type, and those of conditions put together.
-use Rattle.std.proofs.Common.{Option, Some, None, ◌≡◌, ◌↔◌, ◌⊎◌, ⊎_elim, inl, inr, ℕ, ◌≤◌, ◌==◌, List, length, Bool, true, false, not, ◌&&◌, ◌||◌, IsTrue, MatchBool, refl, sym, subst, ◌∙◌, ap}
+use Rattle.std.proofs.Common.{Option, Some, None, ◌≡◌, ◌↔◌, ◌⊎◌, ⊎_elim, inl, inr, ℕ, ◌≤◌, ◌==◌, List, length, Bool, true, false, not, ◌&&◌, ◌||◌, IsTrue, MatchBool, refl, sym, subst, ◌∙◌}
+use Rattle.std.specs.List.{list_all, All}
 use Rattle.std.proofs.lemmas.Bool.{false≢true}
 use Rattle.bal_base.specs.declared.shape.Shape.{Shape, Nil, Bool as BoolShape, Int, Str, List', Mapping', Error', Function, Future'}
 use Rattle.type_model.specs.declared.basic.SemType.{SemType, Atom}
@@ -8,9 +9,9 @@ use Rattle.type_model.specs.Membership.{In}
 use Rattle.type_model.proofs.Decided.{Decided, In-decided}
 use Rattle.type_diagrams.specs.declared.kind.Kind.{Kind}
 use Rattle.type_diagrams.specs.Kinds.{kind_of, IsOfKind, IsSimple, IsMarked, HoldsOf, Says, the_mark}
-use Rattle.type_diagrams.specs.Conditions.{Condition, AreOne, or_of, and_of, without, condition_of, Meets}
+use Rattle.type_diagrams.specs.Conditions.{Condition, AreOne, or_of, and_of, without, condition_of, asks, nothing, Meets}
 use Rattle.bal_base.specs.Valid.{IsValid}
-use Rattle.type_diagrams.proofs.Truths.{or_true, and_true, not_true}
+use Rattle.type_diagrams.proofs.Truths.{or_true, and_true, not_true, all_true}
 use Rattle.type_diagrams.proofs.SimpleLaws.{In-simple}
 use Rattle.type_diagrams.proofs.KindLaws.{In-by_kind}
 
@@ -179,3 +180,29 @@ module _ (env : List AtomDef) where
       by_kind = λ k v i says. e.by_kind k v ∙ m.by_kind k v i says;
     },
   )
+
+  -- ---- questions
+
+  test_by-asks : (wanted unwanted : List Condition) (x : Shape) (o : Option Kind) → test_by (asks wanted unwanted) x o ≡ (list_all (λ c. test_by c x o) wanted && list_all (λ c. not (test_by c x o)) unwanted)
+  unfolding test_by
+  test_by-asks wanted unwanted x None = refl
+  test_by-asks wanted unwanted x (Some k) = refl
+
+  -- the shapes of a question meet all that is wanted and nothing that is unwanted
+  pub Meets-asks : (wanted unwanted : List Condition) (x : Shape) → Meets env (asks wanted unwanted) x ↔ (All (λ c. Meets env c x) wanted × All (λ c. ¬ Meets env c x) unwanted)
+  unfolding meets
+  Meets-asks wanted unwanted x =
+      through
+      (meets-by (asks wanted unwanted) x (list_all (λ c. meets c x) wanted && list_all (λ c. not (meets c x)) unwanted) (test_by-asks wanted unwanted x (kind_of x)))
+      (swap (and_true (list_all (λ c. meets c x) wanted) (list_all (λ c. not (meets c x)) unwanted)
+      (all_true (λ c. Meets env c x) (λ c. meets c x) wanted (λ c. Meets-meets c x))
+      (all_true (λ c. ¬ Meets env c x) (λ c. not (meets c x)) unwanted (λ c. not_true (meets c x) (Meets-meets c x)))))
+
+  test_by-nothing : (x : Shape) (o : Option Kind) → test_by nothing x o ≡ false
+  unfolding test_by
+  test_by-nothing x None = refl
+  test_by-nothing x (Some k) = refl
+
+  pub Meets-nothing : (x : Shape) → ¬ Meets env nothing x
+  unfolding meets
+  Meets-nothing x m = false≢true ((meets-by nothing x false (test_by-nothing x (kind_of x))).0 m)

@@ -1,5 +1,5 @@
 -- Values by their numbers, no two of them equal: what is found, and what is new.
-use Rattle.std.proofs.Common.{◌≡◌, ◌≢◌, ℕ, zero, suc, List, [], ◌∷◌, ◌++◌, map, Bool, true, false, ◌&&◌, ◌==◌, Option, Some, None, slice_get, length, get_or, refl, sym, subst, ◌∙◌, ap, arith}
+use Rattle.std.proofs.Common.{◌≡◌, ℕ, zero, suc, List, [], ◌∷◌, ◌++◌, map, Bool, true, false, ◌&&◌, ◌==◌, Some, None, slice_get, length, get_or, refl, sym, ◌∙◌, ap}
 use Rattle.std.specs.List.{list_any, position}
 use Rattle.std.specs.Bool.{Decides}
 use Rattle.std.specs.Cmp.{booleans_Decides}
@@ -13,7 +13,7 @@ use Rattle.type_diagrams.specs.contracts.node.DiagramPartialEq.TheImpl as same_d
 use Rattle.type_diagrams.specs.contracts.simple.SimpleSetPartialEq.TheImpl as same_set
 use Rattle.type_diagrams.specs.declared.node.Diagram.{Diagram}
 use Rattle.type_diagrams.specs.declared.simple.SimpleSet.{SimpleSet}
-use Rattle.type_diagrams.specs.Sets.{Simples, set_of}
+use Rattle.type_diagrams.specs.Sets.{set_of}
 use Rattle.type_diagrams.specs.Tables.{HasNoTwins}
 use Rattle.type_diagrams.proofs.Interning.{or_false, inserted, no_twins-new}
 

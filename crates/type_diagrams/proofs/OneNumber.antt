@@ -1,14 +1,13 @@
 -- Diagrams with equal conditions have one number.
-use Rattle.std.proofs.Common.{◌≡◌, ℕ, ◌<◌, ◌+◌, List, length, Bool, true, false, Some, slice_get, refl, sym, subst, ◌∙◌, ap, arith}
+use Rattle.std.proofs.Common.{◌≡◌, ℕ, Some, slice_get, sym, ◌∙◌, ap}
 use Rattle.bal_base.specs.declared.shape.Shape.{Shape}
 use Rattle.bal_base.specs.Valid.{IsValid}
 use Rattle.type_diagrams.specs.declared.kind.Kind.{Kind}
 use Rattle.type_diagrams.specs.declared.kind.Kind.TheVariants.{List as Lists, Mapping as Mappings, Error as Errors, Function as Functions, Future as Futures}
 use Rattle.type_diagrams.specs.declared.node.Diagram.{Diagram}
 use Rattle.type_diagrams.specs.Kinds.{IsSimple}
-use Rattle.type_diagrams.specs.Trees.{eval}
 use Rattle.type_diagrams.specs.Conditions.{AreOne}
-use Rattle.type_diagrams.specs.Tables.{Table, AreNodes, IsDiagram, condition, condition_at, is_in_set, root_of, tree_of}
+use Rattle.type_diagrams.specs.Tables.{Table, AreNodes, condition, condition_at, is_in_set, root_of, tree_of}
 use Rattle.type_diagrams.specs.Whole.{IsTable, HasOneNumberEach}
 use Rattle.type_diagrams.proofs.Canonical.{canonical}
 use Rattle.type_diagrams.proofs.CanonicalSets.{sets-same}

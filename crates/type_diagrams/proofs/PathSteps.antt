@@ -4,7 +4,7 @@ use Rattle.std.proofs.lemmas.Bool.{false≢true}
 use Rattle.std.proofs.lemmas.List.{same_from_push}
 use Rattle.std.proofs.Common.{◌≡◌, ◌↔◌, ◌<◌, length, Option, Some, None, IsSome, length-append, arith, ℕ, List, [], ◌∷◌, ◌++◌, map, refl, sym, ◌∙◌, ap, append_assoc}
 use Rattle.type_diagrams.specs.declared.path.Path.{Path}
-use Rattle.type_diagrams.specs.Trees.{Tree, No, Yes, By}
+use Rattle.type_diagrams.specs.Trees.{Tree, Yes, By}
 use Rattle.type_diagrams.specs.Paths.{paths_of, with_pos, with_neg, behind}
 
 map_append : (f : Path → Path) (ps qs : List Path) → map f (ps ++ qs) ≡ map f ps ++ map f qs

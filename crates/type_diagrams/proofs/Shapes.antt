@@ -1,7 +1,5 @@
 -- What the condition of a diagram says of its shapes.
-use Rattle.std.proofs.Common.{◌≡◌, ◌↔◌, ◌⊎◌, ℕ, ◌≤◌, List, length, Option, Result, Ok, Err, IfOk, sym, subst, ◌∙◌}
-use Rattle.bal_base.specs.declared.shape.Shape.{Shape}
-use Rattle.bal_base.specs.Valid.{IsValid}
+use Rattle.std.proofs.Common.{◌↔◌, ◌⊎◌, ℕ, ◌≤◌, List, length, Result, Ok, Err, IfOk, sym, subst, ◌∙◌}
 use Rattle.type_model.specs.declared.basic.SemType.{SemType}
 use Rattle.type_model.specs.declared.atoms.AtomDef.{AtomDef}
 use Rattle.type_model.specs.Membership.{In}

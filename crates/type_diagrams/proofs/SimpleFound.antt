@@ -1,13 +1,11 @@
 -- A shape that is found in a set of simple shapes, by its parts.
-use Rattle.std.proofs.Common.{rules, ◌≡◌, ℤ, List, [], ◌∷◌, Bool, true, false, Option, Some, None, slice_get, refl, sym, subst, ◌∙◌, ap}
-use Rattle.std.proofs.lemmas.Bool.{false≢true}
+use Rattle.std.proofs.Common.{rules, ◌≡◌, ℤ, List, [], ◌∷◌, true, false, Option, Some, None, slice_get, refl, sym, subst, ◌∙◌, ap}
 use Rattle.std.proofs.lemmas.Cmp.{nat_list_cmp_total, int_cmp_total}
 use Rattle.std.specs.Ordering.{int_cmp, nat_cmp}
 use Rattle.std.specs.Cmp.Lexicographic.{slice_cmp}
 use Rattle.bal_base.specs.declared.text.Text.{Text}
-use Rattle.bal_base.specs.declared.shape.Shape.{Shape, Nil, Bool as BoolShape, Int, Str, List', Mapping', Error', Function, Future'}
-use Rattle.bal_base.specs.Valid.{IsInt, IsText, IsValid}
-use Rattle.type_diagrams.specs.Kinds.{IsSimple}
+use Rattle.bal_base.specs.declared.shape.Shape.{Nil, Bool as BoolShape, Int, Str, List', Mapping', Error', Function, Future'}
+use Rattle.bal_base.specs.Valid.{IsInt, IsText}
 use Rattle.type_diagrams.specs.Sets.{Each, Rises, Simples, answer_for, covers, IsCanonical, has_shape, has_int, has_text, least_int}
 use Rattle.type_diagrams.specs.Found.{FindsSimple, FindsInt, FindsText, IsOutside}
 use Rattle.type_diagrams.proofs.Places.{answer-none, at_head, none-covers}

@@ -1,5 +1,5 @@
 -- Where decisions begin, and what follows.
-use Rattle.std.proofs.Common.{◌≡◌, ◌≢◌, ℕ, zero, suc, ◌<◌, ◌≤◌, ◌+◌, ◌-◌, List, length, get_or, Bool, true, false, if◌then◌else◌, nat_lt, Option, Some, None, slice_get, ⊎_elim, ◌⊎◌, inl, inr, refl, sym, subst, ◌∙◌, ap, arith}
+use Rattle.std.proofs.Common.{◌≡◌, ◌≢◌, ℕ, zero, suc, ◌<◌, ◌≤◌, ◌+◌, ◌-◌, List, length, get_or, Bool, true, false, if◌then◌else◌, nat_lt, Option, Some, None, slice_get, ⊎_elim, inl, inr, refl, sym, subst, ◌∙◌, ap, arith}
 use Rattle.std.proofs.lemmas.Bool.Decides.{nat_tests}
 use Rattle.std.proofs.lemmas.Option.{slice_get_within, slice_get-get_or}
 use Rattle.type_diagrams.specs.declared.node.Node.{Node}

@@ -1,6 +1,9 @@
 -- Truth values of what holds, and of types.
-use Rattle.std.proofs.Common.{◌≡◌, ◌↔◌, ◌⊎◌, ⊎_elim, inl, inr, ℕ, Bool, true, false, not, ◌&&◌, ◌||◌, refl}
+use Rattle.std.proofs.Common.{◌≡◌, ◌↔◌, ◌⊎◌, ⊎_elim, inl, inr, ℕ, List, Bool, true, false, not, ◌&&◌, ◌||◌, refl}
+use Rattle.std.specs.List.{list_all, list_any, All, Any}
 use Rattle.std.proofs.lemmas.Bool.{false≢true}
+use Rattle.std.proofs.lemmas.List.Folds.{Any-from_list_any, list_any-from_Any}
+use Rattle.std.proofs.lemmas.List.Sums.{AllPass-from_list_all, list_all-from_AllPass}
 use Rattle.type_model.specs.declared.basic.BasicSet.{BasicSet}
 use Rattle.type_model.specs.declared.basic.SemType.{SemType, Basic, Atom, Or', And', Not'}
 use Rattle.type_model.specs.Membership.{Holds}
@@ -33,3 +36,16 @@ truth-Holds P Q basic atom p q (Or' _ s _ u) =
 truth-Holds P Q basic atom p q (And' _ s _ u) =
     and_true (truth basic atom s) (truth basic atom u) (truth-Holds P Q basic atom p q s) (truth-Holds P Q basic atom p q u)
 truth-Holds P Q basic atom p q (Not' _ u) = not_true (truth basic atom u) (truth-Holds P Q basic atom p q u)
+
+-- what holds of each of a list
+pub all_true : {X : Type 0} (P : X → Type 0) (test : X → Bool) (xs : List X) → ((x : X) → P x ↔ (test x ≡ true)) → All P xs ↔ (list_all test xs ≡ true)
+all_true P test xs each = (
+  λ h. list_all-from_AllPass test xs (λ k d lt. (each _).0 (h k d lt)),
+  λ h k d lt. (each _).1 (AllPass-from_list_all test xs h k d lt),
+)
+
+pub any_true : {X : Type 0} (P : X → Type 0) (test : X → Bool) (xs : List X) → ((x : X) → P x ↔ (test x ≡ true)) → Any P xs ↔ (list_any test xs ≡ true)
+any_true P test xs each = (
+  λ h. list_any-from_Any test xs (h.0, h.1, h.2, h.3, (each h.1).0 h.4),
+  λ h. let a = Any-from_list_any test xs h in (a.0, a.1, a.2, a.3, (each a.1).1 a.4),
+)

@@ -1,18 +1,16 @@
 -- The shapes of a condition are those of its paths.
-use Rattle.std.proofs.Common.{◌≡◌, ◌↔◌, ℕ, List, Bool, true, not, ◌&&◌, Option, Some, None, refl, sym, subst, ◌∙◌, ap}
-use Rattle.std.specs.List.{list_all, list_any, All, Any}
-use Rattle.std.proofs.lemmas.List.Folds.{Any-from_list_any, list_any-from_Any}
-use Rattle.std.proofs.lemmas.List.Sums.{AllPass-from_list_all, list_all-from_AllPass}
+use Rattle.std.proofs.Common.{◌≡◌, ◌↔◌, ℕ, List, true, not, sym, ◌∙◌}
+use Rattle.std.specs.List.{list_all}
 use Rattle.bal_base.specs.declared.shape.Shape.{Shape}
 use Rattle.type_model.specs.declared.atoms.AtomDef.{AtomDef}
 use Rattle.type_diagrams.specs.declared.kind.Kind.{Kind}
 use Rattle.type_diagrams.specs.declared.path.Path.{Path}
 use Rattle.type_diagrams.specs.Kinds.{IsOfKind, HoldsOf}
-use Rattle.type_diagrams.specs.Trees.{Tree, eval}
+use Rattle.type_diagrams.specs.Trees.{Tree}
 use Rattle.type_diagrams.specs.Paths.{paths_of, is_along, IsOnPath}
-use Rattle.type_diagrams.specs.Conditions.{Condition, Meets}
+use Rattle.type_diagrams.specs.Conditions.{Condition}
 use Rattle.type_diagrams.specs.Questions.{IsTreeOf, IsUnionOf}
-use Rattle.type_diagrams.proofs.Truths.{and_true, not_true}
+use Rattle.type_diagrams.proofs.Truths.{and_true, not_true, all_true, any_true}
 use Rattle.type_diagrams.proofs.PathLaws.{eval-paths}
 use Rattle.type_diagrams.proofs.Meeting.{says_of, Says-says_of, Meets-by_kind}
 
@@ -21,18 +19,6 @@ through e f = (λ a. f.0 (e.0 a), λ c. e.1 (f.1 c))
 
 swap : {A B : Type 0} → A ↔ B → B ↔ A
 swap e = (λ b. e.1 b, λ a. e.0 a)
-
-all_true : (P : ℕ → Type 0) (test : ℕ → Bool) (ls : List ℕ) → ((l : ℕ) → P l ↔ (test l ≡ true)) → All P ls ↔ (list_all test ls ≡ true)
-all_true P test ls each = (
-  λ h. list_all-from_AllPass test ls (λ k d lt. (each _).0 (h k d lt)),
-  λ h k d lt. (each _).1 (AllPass-from_list_all test ls h k d lt),
-)
-
-any_true : (P : Path → Type 0) (test : Path → Bool) (ps : List Path) → ((p : Path) → P p ↔ (test p ≡ true)) → Any P ps ↔ (list_any test ps ≡ true)
-any_true P test ps each = (
-  λ h. list_any-from_Any test ps (h.0, h.1, h.2, h.3, (each h.1).0 h.4),
-  λ h. let a = Any-from_list_any test ps h in (a.0, a.1, a.2, a.3, (each a.1).1 a.4),
-)
 
 module _ (env : List AtomDef) (k : Kind) (x : Shape) (kind : IsOfKind k x) where
   along-IsOnPath : (p : Path) → IsOnPath env k p x ↔ (is_along (says_of env x) p ≡ true)

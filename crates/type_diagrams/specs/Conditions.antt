@@ -1,5 +1,5 @@
 -- Types as conditions. A question is compared by its condition, so it is one.
-use Rattle.std.specs.Prelude.{◌≡◌, ◌==◌, ℕ, List, Bool, true, false, not, ◌&&◌, ◌||◌, Option, Some, None, slice_get}
+use Rattle.std.specs.Prelude.{◌≡◌, ◌≢◌, ◌==◌, ℕ, List, Bool, true, false, not, ◌&&◌, ◌||◌, Option, Some, None, slice_get}
 use Rattle.std.specs.List.{list_all}
 use Rattle.std.specs.Ordering.{int_cmp, is_le}
 use Rattle.bal_base.specs.declared.shape.Shape.{Shape}
@@ -95,6 +95,10 @@ abbrev pub is_def_of : Kind → Option AtomDef → Bool
 is_def_of k None = false
 is_def_of k (Some d) = is_kind k (kind_of_def d)
 
+-- the literal is the mark or an atom of the kind
+abbrev pub IsLiteralOf : List AtomDef → Kind → ℕ → Type 0
+IsLiteralOf env k l = l ≢ the_mark → is_def_of k (slice_get env l) ≡ true
+
 -- the condition of a basic set, and that of an atom
 abbrev pub basic_condition : BasicSet → Condition
 basic_condition b = record { simple = λ x. has_simple x b; by_kind = λ k v. has_kind k (v the_mark) b }
@@ -154,6 +158,11 @@ asks wanted unwanted = record {
   simple = λ x. list_all (λ c. c.simple x) wanted && list_all (λ c. not (c.simple x)) unwanted;
   by_kind = λ k v. list_all (λ c. c.by_kind k v) wanted && list_all (λ c. not (c.by_kind k v)) unwanted;
 }
+
+-- at each kind it depends on the mark and on the atoms of that kind alone
+abbrev pub LooksAtKinds : List AtomDef → Condition → Type 0
+LooksAtKinds env c =
+    (k : Kind) (v w : ℕ → Bool) → ((l : ℕ) → IsLiteralOf env k l → v l ≡ w l) → c.by_kind k v ≡ c.by_kind k w
 
 -- no valid simple shape has it, and for each kind it is constantly false
 abbrev pub IsNothing : Condition → Type 0

@@ -9,7 +9,7 @@ use Rattle.type_diagrams.specs.declared.node.TheConstants.{MOST_NODES}
 use Rattle.type_diagrams.specs.Kinds.{the_mark}
 use Rattle.type_diagrams.specs.Trees.{Tree, No, Yes, By, eval, rank}
 use Rattle.type_diagrams.specs.Sets.{Simples, has_shape}
-use Rattle.type_diagrams.specs.Conditions.{Condition, AreOne, nothing}
+use Rattle.type_diagrams.specs.Conditions.{Condition, nothing}
 
 pub record Table : Type 0 where
   pub nodes : List Node

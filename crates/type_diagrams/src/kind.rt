@@ -3,10 +3,15 @@
 /// A kind of shapes that atoms speak of. The other shapes are simple.
 #[derive(Clone, Copy, Debug, PartialEq, Eq)]
 pub enum Kind {
+    /// Lists, marked and unmarked.
     List,
+    /// Mappings, marked and unmarked.
     Mapping,
+    /// Errors.
     Error,
+    /// Functions.
     Function,
+    /// Futures.
     Future,
 }
 

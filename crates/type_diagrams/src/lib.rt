@@ -1,6 +1,8 @@
 //! Types as diagrams: for each kind of shapes a decision over the mark and the atoms, kept as shared
 //! nodes, so that equal conditions have one number.
 //!
+//! - [`Diagrams`]: diagrams by their numbers. `of` makes that of a type, `union`, `inter` and `diff` those of
+//!   two; `nodes`, `root` and `paths` read the decisions of a diagram, `simple_shape` its simple shapes.
 //! - [`Kind`]: the five kinds of shapes that atoms speak of; [`KINDS`]: all of them.
 //! - [`Node`] and [`MARK`]: a step of a decision, and the number that stands for the mark.
 //! - [`Path`]: a way through a decision to true.

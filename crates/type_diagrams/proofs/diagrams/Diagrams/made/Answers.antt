@@ -7,7 +7,7 @@ use Rattle.type_diagrams.specs.Operations.{IsResultOf}
 use Rattle.type_diagrams.specs.Whole.{combined}
 use Rattle.type_diagrams.proofs.Shapes.{IfOk-map}
 use Rattle.type_diagrams.proofs.Keeping.{extends-on}
-use Rattle.type_diagrams.proofs.Combined.{ArePartsOf, one_kind, can-step, place-at, on_roots, combined-HasParts, parts-Gives}
+use Rattle.type_diagrams.proofs.Combined.{ArePartsOf, one_kind, can-step, place-at, combined-HasParts, parts-Gives}
 use Rattle.type_diagrams.proofs.diagrams.Diagrams.made.Goals as goal
 
 pub step-requires : goal.step-requires

@@ -1,6 +1,5 @@
-use Rattle.std.proofs.Common.{◌≡◌, ◌<◌, ℕ, Bool, false, None, Some, List, length, slice_get, refl, sym, subst, ◌∙◌, ap, arith}
+use Rattle.std.proofs.Common.{◌≡◌, ◌<◌, ℕ, Bool, false, None, Some, length, slice_get, sym, subst, arith}
 use Rattle.std.specs.Option.{is_some}
-use Rattle.type_diagrams.specs.declared.node.Diagram.{Diagram}
 use Rattle.type_diagrams.specs.Tables.{Table}
 use Rattle.type_diagrams.specs.Whole.{IsDiagramOver, HasOneNumberEach}
 use Rattle.type_diagrams.proofs.Interning.{found}

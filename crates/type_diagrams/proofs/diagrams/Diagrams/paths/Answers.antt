@@ -1,6 +1,5 @@
-use Rattle.std.proofs.Common.{◌≡◌, ℕ, List, [], ◌++◌, Bool, map, sym, subst, ◌∙◌, ap}
+use Rattle.std.proofs.Common.{◌≡◌, ℕ, List, [], ◌++◌, map, sym, subst, ◌∙◌, ap}
 use Rattle.type_diagrams.specs.declared.path.Path.{Path}
-use Rattle.type_diagrams.specs.Trees.{eval}
 use Rattle.type_diagrams.specs.Paths.{paths_of, behind}
 use Rattle.type_diagrams.specs.Tables.{tree_of, root_of, condition, condition_at}
 use Rattle.type_diagrams.specs.Questions.{IsTreeOf, IsUnionOf}

@@ -1,4 +1,4 @@
-use Rattle.std.proofs.Common.{◌≡◌, ◌<◌, ℕ, Bool, false, None, Some, List, length, map, slice_get, refl, sym, subst, ◌∙◌, ap, arith}
+use Rattle.std.proofs.Common.{◌≡◌, ◌<◌, ℕ, Bool, false, None, Some, length, map, slice_get, refl, sym, subst, ap, arith}
 use Rattle.std.specs.Option.{is_some}
 use Rattle.type_diagrams.specs.contracts.simple.SimpleSetPartialEq.TheImpl as same_set
 use Rattle.type_diagrams.specs.Sets.{set_of}

@@ -1,6 +1,5 @@
 use Rattle.std.proofs.Common.{◌≡◌, ◌<◌, IfOk, Some, length, slice_get, sym, subst, ◌∙◌, ap}
-use Rattle.bal_base.specs.declared.shape.Shape.{Shape}
-use Rattle.type_diagrams.specs.Sets.{Simples, has_shape, set_of}
+use Rattle.type_diagrams.specs.Sets.{has_shape, set_of}
 use Rattle.type_diagrams.specs.Tables.{Table, condition, condition_at, is_in_set}
 use Rattle.type_diagrams.specs.Found.{FindsSimple}
 use Rattle.type_diagrams.proofs.Combined.{set_at}

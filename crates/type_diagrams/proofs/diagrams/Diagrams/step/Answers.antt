@@ -1,5 +1,3 @@
-use Rattle.std.proofs.Common.{sym, subst}
-use Rattle.type_diagrams.specs.Decisions.{Grows, AddBelow}
 use Rattle.type_diagrams.proofs.Inserts.{nodes_in-Extends}
 use Rattle.type_diagrams.proofs.diagrams.Diagrams.step.Goals as goal
 
