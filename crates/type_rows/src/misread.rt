@@ -22,6 +22,8 @@ pub enum Misread {
     NotAType,
     #[error("it has a name that no line above defines")]
     UnknownName,
+    #[error("a name in a path isn't that of a list, mapping, function, error or future")]
+    NotAnAtom,
     #[error("it defines a name that is there")]
     NameTwice,
     #[error("two fields of a record have one name")]

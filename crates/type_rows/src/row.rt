@@ -3,7 +3,13 @@
 //! - nothing, or a comment after `//`
 //! - `type NAME = TYPE`, or several such with `;` between them, which may name each other
 //! - `SHAPE is TYPE => yes`, or `no`: whether the shape is in the type
+//! - `same TYPE, TYPE => yes`, or `no`: whether the types have one diagram
+//! - `simple TYPE => yes`, or `no`: whether the type has a simple shape
+//! - `paths KIND of TYPE => PATH | PATH`, or `never`: the paths of a type for a kind, in order, each as
+//!   `readonly & NAME & !NAME`, where names are those of atoms, or `any`
+//! - `exclusive NUMBER => yes`: whether the exclusive or of so many new atoms has one diagram in both orders
 
+use crate::drawn::{Way, are_one, has_paths, has_simple, in_both_orders};
 use crate::misread::{Misread, Read, refuse};
 use crate::names::Names;
 use crate::shapes::shape;
@@ -13,7 +19,8 @@ use bal_base::{Keyword, Name, Sign, Stop, Token, TokenKind};
 use bal_lexer::lex;
 use std::alloc::Global;
 use subtype_decider::holds;
-use type_model::{AtomDef, SemType, TypeEnv};
+use type_diagrams::{Diagrams, Kind, MARK};
+use type_model::{AtomDef, BasicSet, ChoiceList, SemType, Ty, TyList, TypeEnv};
 
 /// How deep brackets may be nested.
 const MOST_LEVELS: u32 = 100;
@@ -27,6 +34,8 @@ pub enum Outcome {
     Agrees,
     /// It asks a question, and this is the answer in place of its own.
     Differs(bool),
+    /// It asks for paths, and there are others.
+    OtherPaths,
 }
 
 /// What the lines so far define.
@@ -35,6 +44,7 @@ pub struct Rows {
     alloc: Global,
     env: TypeEnv,
     names: Names,
+    diagrams: Diagrams,
 }
 
 impl Rows {
@@ -44,6 +54,7 @@ impl Rows {
             alloc,
             env: TypeEnv::new(alloc),
             names: Names::new(alloc),
+            diagrams: Diagrams::new(alloc),
         }
     }
 
@@ -54,8 +65,125 @@ impl Rows {
         match rest.first() {
             None => Ok(Outcome::NoQuestion),
             Some(TokenKind::Keyword(Keyword::Type)) => self.define(tokens.as_slice()),
+            Some(TokenKind::Word(word)) => self.drawn(word, &mut rest),
             Some(_) => self.membership(&mut rest),
         }
+    }
+
+    /// Answers a question about diagrams, which this word begins.
+    fn drawn(&mut self, word: &Name, tokens: &mut Tokens) -> Read<Outcome> {
+        tokens.next();
+        match word.as_str() {
+            "same" => self.same(tokens),
+            "simple" => self.simple(tokens),
+            "paths" => self.paths(tokens),
+            "exclusive" => self.exclusive(tokens),
+            _ => refuse(Misread::NotALine),
+        }
+    }
+
+    /// Whether two types have one diagram.
+    fn same(&mut self, tokens: &mut Tokens) -> Read<Outcome> {
+        let mut reader = self.reader(Unknown::Misread);
+        let s = reader.whole(tokens, MOST_LEVELS)?;
+        tokens.expect(Sign::Comma, Misread::NotALine)?;
+        let t = reader.whole(tokens, MOST_LEVELS)?;
+        let defs = reader.into_defs();
+        let expected = yes_or_no(tokens)?;
+        self.add(defs)?;
+        let answer = are_one(&mut self.diagrams, &self.env, &s, &t)?;
+        Ok(judged(answer, expected))
+    }
+
+    /// Whether a type has a simple shape.
+    fn simple(&mut self, tokens: &mut Tokens) -> Read<Outcome> {
+        let mut reader = self.reader(Unknown::Misread);
+        let t = reader.whole(tokens, MOST_LEVELS)?;
+        let defs = reader.into_defs();
+        let expected = yes_or_no(tokens)?;
+        self.add(defs)?;
+        let answer = has_simple(self.alloc, &mut self.diagrams, &self.env, &t)?;
+        Ok(judged(answer, expected))
+    }
+
+    /// The paths of a type for a kind.
+    fn paths(&mut self, tokens: &mut Tokens) -> Read<Outcome> {
+        let kind = kind(tokens)?;
+        if tokens.name(Misread::NotALine)?.as_str() != "of" {
+            return refuse(Misread::NotALine);
+        }
+        let mut reader = self.reader(Unknown::Misread);
+        let t = reader.whole(tokens, MOST_LEVELS)?;
+        let defs = reader.into_defs();
+        tokens.expect(Sign::FatArrow, Misread::NotALine)?;
+        let ways = self.ways(tokens)?;
+        at_end(tokens)?;
+        self.add(defs)?;
+        if has_paths(self.alloc, &mut self.diagrams, &self.env, &t, kind, &ways)? {
+            Ok(Outcome::Agrees)
+        } else {
+            Ok(Outcome::OtherPaths)
+        }
+    }
+
+    /// Takes paths.
+    fn ways(&self, tokens: &mut Tokens) -> Read<Vec<Way>> {
+        let mut ways = Vec::new(self.alloc);
+        if tokens.takes_keyword(Keyword::Never) {
+            return Ok(ways);
+        }
+        for _ in 0..tokens.left() {
+            ways.push(self.way(tokens)?)?;
+            if !tokens.takes(Sign::Bar) {
+                break;
+            }
+        }
+        Ok(ways)
+    }
+
+    fn way(&self, tokens: &mut Tokens) -> Read<Way> {
+        let mut pos = Vec::new(self.alloc);
+        let mut neg = Vec::new(self.alloc);
+        if tokens.takes_keyword(Keyword::Any) {
+            return Ok(Way { pos, neg });
+        }
+        for _ in 0..tokens.left() {
+            if tokens.takes(Sign::Not) {
+                neg.push(self.literal(tokens)?)?;
+            } else {
+                pos.push(self.literal(tokens)?)?;
+            }
+            if !tokens.takes(Sign::Ampersand) {
+                break;
+            }
+        }
+        Ok(Way { pos, neg })
+    }
+
+    /// Takes `readonly`, for the mark, or the name of an atom.
+    fn literal(&self, tokens: &mut Tokens) -> Read<u32> {
+        if tokens.takes_keyword(Keyword::ReadOnly) {
+            return Ok(MARK);
+        }
+        match self.names.get(tokens.name(Misread::NotALine)?)? {
+            Some(SemType::Atom(number)) => Ok(number),
+            Some(_) => refuse(Misread::NotAnAtom),
+            None => refuse(Misread::UnknownName),
+        }
+    }
+
+    /// Whether the exclusive or of so many new list atoms has one diagram in both orders.
+    fn exclusive(&mut self, tokens: &mut Tokens) -> Read<Outcome> {
+        let count = tokens.int(Misread::NotALine)?;
+        let expected = yes_or_no(tokens)?;
+        let mut atoms = Vec::new(self.alloc);
+        for value in 0..count {
+            atoms.push(self.atoms())?;
+            let defs = one_int(self.alloc, value)?;
+            self.add(defs)?;
+        }
+        let answer = in_both_orders(self.alloc, &mut self.diagrams, &self.env, &atoms)?;
+        Ok(judged(answer, expected))
     }
 
     /// Whether a shape is in a type.
@@ -72,12 +200,7 @@ impl Rows {
         let defs = reader.into_defs();
         let expected = yes_or_no(tokens)?;
         self.add(defs)?;
-        let answer = holds(&self.env, &shape, &t);
-        if answer == expected {
-            Ok(Outcome::Agrees)
-        } else {
-            Ok(Outcome::Differs(answer))
-        }
+        Ok(judged(holds(&self.env, &shape, &t), expected))
     }
 
     /// Reads the definitions of a line.
@@ -198,4 +321,38 @@ fn at_end(tokens: &Tokens) -> Read<()> {
         None => Ok(()),
         Some(_) => refuse(Misread::NotALine),
     }
+}
+
+fn judged(answer: bool, expected: bool) -> Outcome {
+    if answer == expected {
+        Outcome::Agrees
+    } else {
+        Outcome::Differs(answer)
+    }
+}
+
+/// Takes the word for a kind.
+fn kind(tokens: &mut Tokens) -> Read<Kind> {
+    match tokens.next() {
+        Some(TokenKind::Keyword(Keyword::Error)) => Ok(Kind::Error),
+        Some(TokenKind::Keyword(Keyword::Function)) => Ok(Kind::Function),
+        Some(TokenKind::Keyword(Keyword::Future)) => Ok(Kind::Future),
+        Some(TokenKind::Word(word)) => match word.as_str() {
+            "list" => Ok(Kind::List),
+            "mapping" => Ok(Kind::Mapping),
+            _ => refuse(Misread::NotALine),
+        },
+        _ => refuse(Misread::NotALine),
+    }
+}
+
+/// The lists of one int alone.
+fn one_int(alloc: Global, value: i64) -> Read<Vec<AtomDef>> {
+    let item = Ty {
+        sem: SemType::Basic(BasicSet::IntRange(value, value)),
+        lists: ChoiceList::of(Vec::new(alloc)),
+        maps: ChoiceList::of(Vec::new(alloc)),
+    };
+    let fixed = TyList::of(vec![in alloc; item]?);
+    Ok(vec![in alloc; AtomDef::List { fixed, rest: None }]?)
 }
