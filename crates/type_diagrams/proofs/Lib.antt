@@ -24,6 +24,7 @@ pub mod Shapes
 pub mod SimpleFound
 pub mod SimpleLaws
 pub mod SimpleSets
+pub mod SmallCases
 pub mod Splits
 pub mod Steps
 pub mod Truths

@@ -13,7 +13,7 @@ use Rattle.std.specs.Cmp.Lexicographic.{slice_cmp}
 use Rattle.bal_base.specs.declared.text.Text.{Text}
 use Rattle.bal_base.specs.Valid.{IsText}
 use Rattle.type_diagrams.specs.Sets.{Each, IsBelowAll, Rises, covers}
-use Rattle.type_diagrams.specs.Found.{IsOutside}
+use Rattle.type_diagrams.specs.Found.{IsLeftOut}
 use Rattle.type_diagrams.proofs.Places.{answer-none}
 
 abbrev order : Text → Text → Ordering
@@ -79,7 +79,7 @@ module _ (texts : List Text) where
   each_at P [] h = tt
   each_at P (t ∷ ts) h = (h zero t refl, each_at P ts (λ k u e. h (suc k) u e))
 
-  pub all_seen : (seen : ℕ) (t : Text) → seen ≡ length texts → LeavesOut texts seen t → IsOutside texts t
+  pub all_seen : (seen : ℕ) (t : Text) → seen ≡ length texts → LeavesOut texts seen t → IsLeftOut texts t
   all_seen seen t all h = record { text = h.text; outside = answer-none (covers false order) true texts t (each_at (λ u. is_eq (order u t) ≡ false) texts (λ k u e. tied u (order u t) refl (h.apart k u (within k u e) e))) }
     where
       within : (k : ℕ) (u : Text) → slice_get texts k ≡ Some u → k < seen

@@ -7,7 +7,7 @@ use Rattle.bal_base.specs.declared.text.Text.{Text}
 use Rattle.bal_base.specs.declared.shape.Shape.{Nil, Bool as BoolShape, Int, Str, List', Mapping', Error', Function, Future'}
 use Rattle.bal_base.specs.Valid.{IsInt, IsText}
 use Rattle.type_diagrams.specs.Sets.{Each, Rises, Simples, answer_for, covers, IsCanonical, has_shape, has_int, has_text, least_int}
-use Rattle.type_diagrams.specs.Found.{FindsSimple, FindsInt, FindsText, IsOutside}
+use Rattle.type_diagrams.specs.Found.{FindsSimple, FindsInt, FindsText, IsLeftOut}
 use Rattle.type_diagrams.proofs.Places.{answer-none, at_head, none-covers}
 
 module _ (s : Simples) (is : IsCanonical s) where
@@ -24,7 +24,7 @@ module _ (s : Simples) (is : IsCanonical s) where
         (λ j. answer_for (covers true int_cmp) (e j) (f j) p) ∙ at_head int_cmp int_cmp_total true false p ps (subst (Rises int_cmp) f is.flips_rise).0,
       )
 
-  pub rest-FindsText : (t : Text) → s.rest ≡ true → IsOutside s.texts t → FindsText (has_text s) (Some t)
+  pub rest-FindsText : (t : Text) → s.rest ≡ true → IsLeftOut s.texts t → FindsText (has_text s) (Some t)
   rest-FindsText t e out = (out.text, ap (λ a. answer_for (covers false (slice_cmp nat_cmp)) a s.texts t) e ∙ out.outside)
 
   pub head-FindsText : (texts : List Text) → s.rest ≡ false → s.texts ≡ texts → FindsText (has_text s) (slice_get texts 0)

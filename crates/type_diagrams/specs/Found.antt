@@ -23,6 +23,6 @@ FindsText has (Some t) = IsText t × (has t ≡ true)
 FindsText has None = (t : Text) → IsText t → has t ≡ false
 
 -- a text that none of these is
-pub record IsOutside (texts : List Text) (t : Text) : Type 0 where
+pub record IsLeftOut (texts : List Text) (t : Text) : Type 0 where
   pub text : IsText t
   pub outside : answer_for (covers false (slice_cmp nat_cmp)) true texts t ≡ true

@@ -3,7 +3,7 @@ ghost use Rattle.std.specs.Prelude.{◌≡◌, ◌++◌, ◌∷◌, [], IfOk};
 ghost use Rattle.std.specs.Ordering.{nat_cmp};
 ghost use Rattle.std.specs.Cmp.Lexicographic.{slice_cmp};
 ghost use Rattle.type_diagrams.specs.Sets.{IsCanonical, Rises, set_of, has_shape, has_int, has_text};
-ghost use Rattle.type_diagrams.specs.Found.{FindsSimple, FindsInt, FindsText, IsOutside};
+ghost use Rattle.type_diagrams.specs.Found.{FindsSimple, FindsInt, FindsText, IsLeftOut};
 
 use crate::simple::SimpleSet;
 use bal_base::{Memory, Shape, Text};
@@ -63,7 +63,7 @@ impl SimpleSet {
 /// A text of letters "a" that is none of these: the shortest but for those that are among them.
 fn text_outside(alloc: Global, texts: &[Text]) -> Result<Text, Memory>
     requires { Rises (slice_cmp nat_cmp) texts.now }
-    ensures { IfOk result (IsOutside texts.now) }
+    ensures { IfOk result (IsLeftOut texts.now) }
 {
     let mut outside = Text::new(alloc, "")?;
     for text in texts {
