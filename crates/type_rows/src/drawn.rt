@@ -22,7 +22,8 @@ pub fn are_one(diagrams: &mut Diagrams, env: &TypeEnv, s: &SemType, t: &SemType)
     Ok(a == b)
 }
 
-/// Whether the paths of a type are these, in this order.
+/// Whether the paths of a type are these, in this order, and its decision begins at a number that is false
+/// exactly where there are none.
 pub fn has_paths(
     alloc: Global,
     diagrams: &mut Diagrams,
@@ -32,8 +33,10 @@ pub fn has_paths(
     ways: &[Way],
 ) -> Read<bool> {
     let a = diagram(diagrams, env, t)?;
+    let root = diagrams.root(a, kind) as usize;
+    let begins = (root == 0) == ways.is_empty() && root < diagrams.nodes().len() + 2;
     let paths = diagrams.paths(alloc, a, kind)?;
-    Ok(are_same(&paths, ways))
+    Ok(begins && are_same(&paths, ways))
 }
 
 /// Whether a type has a simple shape.
