@@ -9,9 +9,9 @@ use Rattle.type_model.specs.Membership.{In}
 use Rattle.type_model.proofs.Decided.{Decided, In-decided}
 use Rattle.type_diagrams.specs.declared.kind.Kind.{Kind}
 use Rattle.type_diagrams.specs.Kinds.{kind_of, IsOfKind, IsSimple, IsMarked, HoldsOf, Says, the_mark}
-use Rattle.type_diagrams.specs.Conditions.{Condition, AreOne, or_of, and_of, without, condition_of, asks, nothing, Meets}
-use Rattle.bal_base.specs.Valid.{IsValid}
-use Rattle.type_diagrams.proofs.Truths.{or_true, and_true, not_true, all_true}
+use Rattle.type_diagrams.specs.Conditions.{Condition, AreOne, or_of, and_of, without, condition_of, asks, nothing, frozen, Meets}
+use Rattle.bal_base.specs.Valid.{IsFrozen, IsValid}
+use Rattle.type_diagrams.proofs.Truths.{neither, sure, or_true, and_true, not_true, all_true}
 use Rattle.type_diagrams.proofs.SimpleLaws.{In-simple}
 use Rattle.type_diagrams.proofs.KindLaws.{In-by_kind}
 
@@ -206,3 +206,19 @@ module _ (env : List AtomDef) where
   pub Meets-nothing : (x : Shape) → ¬ Meets env nothing x
   unfolding meets
   Meets-nothing x m = false≢true ((meets-by nothing x false (test_by-nothing x (kind_of x))).0 m)
+
+  frozen_test : (x : Shape) → IsFrozen x ↔ (meets frozen x ≡ true)
+  unfolding meets test_by
+  frozen_test Nil = sure tt
+  frozen_test (BoolShape b) = sure tt
+  frozen_test (Int i) = sure tt
+  frozen_test (Str t) = sure tt
+  frozen_test (List' mark size items) = swap (Says-says_of (List' mark size items) the_mark)
+  frozen_test (Mapping' mark size fields) = swap (Says-says_of (Mapping' mark size fields) the_mark)
+  frozen_test (Error' size detail) = neither
+  frozen_test (Function isolated graph) = neither
+  frozen_test (Future' size results) = neither
+
+  -- what may stand in something marked
+  pub Meets-frozen : (x : Shape) → Meets env frozen x ↔ IsFrozen x
+  Meets-frozen x = through (Meets-meets frozen x) (swap (frozen_test x))

@@ -8,16 +8,17 @@ use Rattle.type_model.specs.Calls.{Asked, Without, Alone, Applied}
 use Rattle.type_diagrams.specs.declared.kind.Kind.{Kind}
 use Rattle.type_diagrams.specs.declared.kind.Kind.TheVariants.{Function as Functions}
 use Rattle.type_diagrams.specs.declared.path.Path.{Path}
+use Rattle.type_diagrams.specs.declared.turn.TheConstants.{MOST_QUESTIONS, MOST_ARROWS}
 use Rattle.type_diagrams.specs.Members.{atoms_in}
 use Rattle.type_diagrams.specs.Conditions.{Condition, AreOne, condition_of, asks}
 use Rattle.type_diagrams.specs.Questions.{IsPathOf, IsMemberQuestion, asks_arguments}
 
 -- how many questions a call may lead to, and how many arrows a path may want
 abbrev pub most_questions : ℕ
-most_questions = 65536
+most_questions = MOST_QUESTIONS
 
 abbrev pub most_arrows : ℕ
-most_arrows = 12
+most_arrows = MOST_ARROWS
 
 module _ (env : List AtomDef) where
   -- the question for a shape of the type

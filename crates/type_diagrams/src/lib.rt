@@ -6,7 +6,8 @@
 //! - [`Kind`]: the five kinds of shapes that atoms speak of; [`KINDS`]: all of them.
 //! - [`Node`] and [`MARK`]: a step of a decision, and the number that stands for the mark.
 //! - [`Path`]: a way through a decision to true.
-//! - [`Member`] and [`Turn`]: what a table tells of questions, and what is said of a path against it.
+//! - [`Member`] and [`Turn`]: what a table tells of questions, and what is said of a path against it;
+//!   [`MOST_QUESTIONS`] and [`MOST_ARROWS`]: the limits of a call.
 #![tactic(auto)]
 
 mod diagrams;
@@ -24,4 +25,4 @@ pub use diagrams::Diagrams;
 pub use kind::{KINDS, Kind};
 pub use node::{MARK, Node};
 pub use path::Path;
-pub use turn::{Member, Turn};
+pub use turn::{MOST_ARROWS, MOST_QUESTIONS, Member, Turn};

@@ -5,6 +5,12 @@ ghost use Rattle.type_diagrams.specs.Kept.{Tells};
 
 use bal_base::Shape;
 
+/// How many questions a call may lead to.
+pub const MOST_QUESTIONS: usize = 65_536;
+
+/// How many arrows a path may want.
+pub const MOST_ARROWS: usize = 12;
+
 /// What is said of a path against a table of questions.
 #[derive(Debug, Drop)]
 pub enum Turn {
