@@ -1,3 +1,4 @@
+pub mod AddedAtoms
 pub mod Canonical
 pub mod CanonicalSets
 pub mod Combined

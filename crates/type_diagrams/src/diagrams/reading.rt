@@ -3,7 +3,7 @@ ghost use Rattle.std.specs.Prelude.{◌≡◌, ◌++◌, ℕ, Bool, IfOk, OnOk, 
 ghost use Rattle.type_diagrams.specs.Paths.{paths_of, behind};
 ghost use Rattle.type_diagrams.specs.Tables.{AreNodes, IsDiagram, Leads, condition, tree_of};
 ghost use Rattle.type_diagrams.specs.Decisions.{IsNumber};
-ghost use Rattle.type_diagrams.specs.Whole.{HasOneNumberEach};
+ghost use Rattle.type_diagrams.specs.Whole.{HasOneNumberEach, IsTable};
 ghost use Rattle.type_diagrams.specs.Found.{FindsSimple};
 ghost use Rattle.type_diagrams.specs.Questions.{HasPaths, IsUnionOf};
 
@@ -22,6 +22,7 @@ impl Diagrams {
         ensures nodes { result.now ≡ self.now.nodes }
         ensures are { AreNodes self.now.nodes }
         ensures one { HasOneNumberEach self.now }
+        ensures table { IsTable self.now }
     {
         self.nodes.as_slice()
     }
