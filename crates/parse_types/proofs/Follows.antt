@@ -1,5 +1,6 @@
 -- What may stand behind a type so that it ends there.
-use Rattle.std.proofs.Common.{◌≡◌, ◌≤◌, Bool, true, false, length, Option, None, Some, refl, ap, arith}
+use Rattle.std.proofs.Common.{◌≡◌, ℕ, ◌≤◌, Bool, true, false, length, Option, None, Some, refl, sym, ap, ◌∙◌, arith}
+use Rattle.std.proofs.lemmas.Bool.{false≢true}
 use Rattle.bal_base.specs.declared.token.Keyword.TheVariants.{Returns}
 use Rattle.bal_base.specs.declared.token.Sign.TheVariants.{Bar, Ampersand, OpenParen, Less, Colon}
 use Rattle.bal_tree.specs.TypeRules.{TypeEnd}
@@ -47,17 +48,22 @@ pub closes-follow : (middle in_int in_result : Bool) (ks : Kinds) → Closes ks 
 closes-follow middle in_int true ks c = (closes-stay middle in_int ks c, c.ends)
 closes-follow middle in_int false ks c = closes-stay middle in_int ks c
 
--- what is left is no more than stood there, and just that where it could not be taken
+-- what is left is no more than stood there, and just that where it could not be taken; behind `int` a colon and a word were taken
 pub record Went (middle : Bool) (end : TypeEnd) (ks : Kinds) (left : Left) : Type 0 where
   pub no_more : length left.rest ≤ length ks
+  pub took : end.in_int ≡ true → (a : Kinds) → colon_word ks ≡ Some a → length left.rest ≤ length a
   pub just : Follows middle end.in_int end.in_result ks → left ≡ record { in_result = end.in_result; rest = ks }
 
 abbrev pub open_end : Bool → TypeEnd
 open_end in_int = record { in_result = false; in_int = in_int }
 
-pub went-here : (middle in_int : Bool) (ks : Kinds) → Went middle (open_end in_int) ks (open_at ks)
-went-here middle in_int ks = record { no_more = omega arith; just = λ _. refl }
+pub went-here : (middle : Bool) (ks : Kinds) → Went middle (open_end false) ks (open_at ks)
+went-here middle ks = record { no_more = omega arith; took = λ h. absurd (false≢true h); just = λ _. refl }
 
-pub went-option : (middle in_int : Bool) (o : Option Kinds) (ks : Kinds) → ((a : Kinds) → o ≡ Some a → length a ≤ length ks) → (Stays middle in_int ks → o ≡ None) → Went middle (open_end in_int) ks (open_at (else_stays o ks))
-went-option middle in_int None ks h k = went-here middle in_int ks
-went-option middle in_int (Some a) ks h k = record { no_more = h a refl; just = λ s. ap (λ o. open_at (else_stays o ks)) (k s) }
+pub went-option : (middle in_int : Bool) (o : Option Kinds) (ks : Kinds) → ((a : Kinds) → o ≡ Some a → length a ≤ length ks) → (in_int ≡ true → colon_word ks ≡ o) → (Stays middle in_int ks → o ≡ None) → Went middle (open_end in_int) ks (open_at (else_stays o ks))
+went-option middle in_int None ks h t k = record { no_more = omega arith; took = λ i a e. let bad : None ≡ Some a = sym (t i) ∙ e in cc bad; just = λ _. refl }
+went-option middle in_int (Some b) ks h t k = record {
+  no_more = h b refl;
+  took = λ i a e. let both : Some b ≡ Some a = sym (t i) ∙ e in let same : b ≡ a = cc both in let size = ap length same in omega arith;
+  just = λ s. ap (λ o. open_at (else_stays o ks)) (k s);
+}

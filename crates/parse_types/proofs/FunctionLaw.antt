@@ -1,6 +1,7 @@
 -- The law at function types.
 use Rattle.std.proofs.Common.{◌≡◌, ℕ, ◌≤◌, Bool, true, false, ◌∷◌, length, Option, None, Some, refl, ap, ◌∙◌, arith}
 use Rattle.std.proofs.lemmas.Option.{option_and_then_some}
+use Rattle.std.proofs.lemmas.Bool.{false≢true}
 use Rattle.bal_base.specs.declared.token.TokenKind.TheVariants.{Keyword as KeywordKind}
 use Rattle.bal_base.specs.declared.token.Keyword.TheVariants.{Returns}
 use Rattle.bal_base.specs.declared.token.Sign.TheVariants.{OpenParen, CloseParen, Ellipsis}
@@ -43,6 +44,7 @@ module _ (n : ℕ) where
   result-went : (middle : Bool) (ks : Kinds) → Went middle closed ks (result_if_there (inside n middle) ks)
   result-went middle ks = record {
     no_more = less (returns (inside n middle) ks) (returns-less middle ks);
+    took = λ h. absurd (false≢true h);
     just = λ s. ap (λ o. result_or (o >>= inside n middle) ks) s.returns;
   }
     where
@@ -53,6 +55,7 @@ module _ (n : ℕ) where
   any-went : (middle : Bool) (ks : Kinds) → Went middle closed ks (function_behind (inside n) middle ks)
   any-went middle ks = record {
     no_more = less (params (inside n false) ks) (params-less ks);
+    took = λ h. absurd (false≢true h);
     just = λ s. ap (λ o. params_or (inside n middle) (o >>= λ a. or_else (take_sign CloseParen a) (param_list (inside n false) a >>= take_sign CloseParen)) ks) s.paren;
   }
     where
@@ -81,5 +84,5 @@ module _ (n : ℕ) where
         record {
           left = record { in_result = true; rest = i.rest };
           is = with-params isolated (KeywordKind Returns ∷ onto q ks) e ∙ ap (λ o. Some (result_or o (KeywordKind Returns ∷ onto q ks))) i.is;
-          went = record { no_more = i.no_more; just = λ s. ap (λ r. record { in_result = true; rest = r }) (i.just s.0 s.1) };
+          went = record { no_more = i.no_more; took = i.took; just = λ s. ap (λ r. record { in_result = true; rest = r }) (i.just s.0 s.1) };
         }

@@ -8,7 +8,7 @@ use Rattle.bal_tree.specs.Spells.{onto}
 use Rattle.bal_tree.specs.TypeRules.{TypeEnd, TypeFacts}
 use Rattle.parse_types.specs.Loops.{◌>>=◌, many}
 use Rattle.parse_types.specs.Tokens.{Kinds}
-use Rattle.parse_types.specs.Reaches.{Left, open_at, left_length, suffix_step, ampersand_step, bar_step, primary, postfix, intersection, union, no_more, inside}
+use Rattle.parse_types.specs.Reaches.{Left, open_at, colon_word, left_length, suffix_step, ampersand_step, bar_step, primary, postfix, intersection, union, no_more, inside}
 use Rattle.parse_types.proofs.Going.{many-stops, many-less}
 use Rattle.parse_types.proofs.Levels.{no_more-passes}
 use Rattle.parse_types.proofs.Onto.{onto-longer}
@@ -98,6 +98,7 @@ pub record Inside (n : ℕ) (middle : Bool) (p : Pieces) (in_int : Bool) (ks : K
   pub rest : Kinds
   pub is : inside n middle (onto p ks) ≡ Some rest
   pub no_more : length rest ≤ length ks
+  pub took : in_int ≡ true → (a : Kinds) → colon_word ks ≡ Some a → length rest ≤ length a
   pub just : Stays middle in_int ks → Ends ks → rest ≡ ks
 
 pub follows-both : (middle in_int b : Bool) (ks : Kinds) → Stays middle in_int ks → Ends ks → Follows middle in_int b ks
@@ -115,6 +116,7 @@ inside-type p f law (suc n) middle ks formed fits =
       rest = (all_loops n middle at.left).rest;
       is = ap (no_more (onto p ks)) at.is ∙ no_more-passes (onto p ks) (all_loops n middle at.left) (omega arith);
       no_more = omega arith;
+      took = λ h a e. let t = at.went.took h a e in omega arith;
       just = λ s e. ap (λ l. (all_loops n middle l).rest) (at.went.just (follows-both middle f.end.in_int f.end.in_result ks s e)) ∙ ap (λ l. l.rest) (all_loops-end n middle f.end.in_result ks e);
     }
 

@@ -22,7 +22,7 @@ suffixed p f law q n middle ks opens formed fits stays is shorter =
     record {
       left = open_at ks;
       is = at.is ∙ ap (λ l. Some (suffixes l)) just ∙ ap Some (many-goes left_length suffix_step (open_at (onto q ks)) (open_at ks) step shorter);
-      went = went-here middle false ks;
+      went = went-here middle ks;
     }
 
 ampersand-stays : (middle in_int : Bool) (ks : Kinds) → Stays middle in_int (SignKind Ampersand ∷ ks)

@@ -16,6 +16,7 @@ pub mod Parsing
 pub mod PrimaryLaw
 pub mod Readings
 pub mod RecordLaw
+pub mod Settled
 pub mod Taking
 pub mod TypeReadings
 pub mod TypeRolls

@@ -2,6 +2,7 @@
 use Rattle.std.proofs.Common.{◌≡◌, ℕ, zero, suc, ◌≤◌, Bool, true, false, ◌∷◌, length, Option, None, Some, refl, ap, arith}
 use Rattle.std.specs.Prelude.{option_map}
 use Rattle.std.proofs.lemmas.Option.{option_and_then_some}
+use Rattle.std.proofs.lemmas.Bool.{false≢true}
 use Rattle.bal_base.specs.declared.token.TokenKind.TheVariants.{Word as WordKind, Keyword as KeywordKind, Sign as SignKind}
 use Rattle.bal_base.specs.declared.token.Sign.{Sign}
 use Rattle.bal_base.specs.declared.token.Sign.TheVariants.{Colon, Greater, Less, OpenParen, CloseParen}
@@ -26,7 +27,7 @@ use Rattle.parse_types.proofs.Law.{At, TypeLaw, before, inside-less}
 
 -- what is read exactly
 pub found : (n : ℕ) (middle : Bool) {xs : Kinds} (ks : Kinds) → primary (inside n) middle xs ≡ Some (open_at ks) → At (primary (inside n) middle) (λ l. l) xs middle closed ks
-found n middle ks e = record { left = open_at ks; is = e; went = went-here middle false ks }
+found n middle ks e = record { left = open_at ks; is = e; went = went-here middle ks }
 
 -- no type begins with a sign that is none of its first ones
 pub no-type : (s : Sign) (ks : Kinds) → ((inner : Bool → Kinds → Option Kinds) (middle : Bool) → sign_type inner middle s (SignKind s ∷ ks) ≡ None) → (n : ℕ) (middle : Bool) → inside n middle (SignKind s ∷ ks) ≡ None
@@ -46,7 +47,7 @@ int-law : (n : ℕ) (middle : Bool) (ks : Kinds) → At (primary (inside n) midd
 int-law n middle ks = record {
   left = open_at (else_stays (colon_word ks) ks);
   is = refl;
-  went = went-option middle true (colon_word ks) ks (colon_word-less ks) (λ s. s.int_colon refl);
+  went = went-option middle true (colon_word ks) ks (colon_word-less ks) (λ _. refl) (λ s. s.int_colon refl);
 }
 
 pub builtin-law : (b : BuiltinType) (n : ℕ) (middle : Bool) (ks : Kinds) → At (primary (inside n) middle) (λ l. l) (KeywordKind (builtin_key b) ∷ ks) middle (open_end (is_int b)) ks
@@ -64,7 +65,7 @@ word-law n true ks e = found n true ks e
 word-law n false ks e = record {
   left = open_at (else_stays (colon_word ks) ks);
   is = e;
-  went = went-option false false (colon_word ks) ks (colon_word-less ks) (λ s. ap (λ o. o >>= take_word) (s.colon refl));
+  went = went-option false false (colon_word ks) ks (colon_word-less ks) (λ h. absurd (false≢true h)) (λ s. ap (λ o. o >>= take_word) (s.colon refl));
 }
 
 pub name-law : (name : QualifiedName) (n : ℕ) (middle : Bool) (ks : Kinds) → name_fits middle name.prefix ≡ true → At (primary (inside n) middle) (λ l. l) (onto (name_pieces name) ks) middle closed ks
@@ -118,5 +119,5 @@ pub error-law : (n : ℕ) (middle : Bool) {xs : Kinds} (ks : Kinds) → primary 
 error-law n middle ks e = record {
   left = open_at (else_stays (in_angles (inside n middle) ks) ks);
   is = e;
-  went = went-option middle false (in_angles (inside n middle) ks) ks (in_angles-less n middle ks) (λ s. ap (λ o. o >>= λ a. inside n middle a >>= take_sign Greater) s.less);
+  went = went-option middle false (in_angles (inside n middle) ks) ks (in_angles-less n middle ks) (λ h. absurd (false≢true h)) (λ s. ap (λ o. o >>= λ a. inside n middle a >>= take_sign Greater) s.less);
 }

@@ -8,6 +8,7 @@ use Rattle.bal_base.specs.declared.fault.FaultCode.{FaultCode}
 use Rattle.bal_base.specs.declared.fault.FaultCode.TheVariants.{Depth, Syntax}
 use Rattle.bal_base.specs.declared.fault.Kept.TheVariants.{Nothing}
 use Rattle.bal_base.specs.declared.place.Place.{Place}
+use Rattle.bal_base.specs.declared.token.Sign.TheVariants.{Question}
 use Rattle.bal_base.specs.declared.token.Token.{Token}
 use Rattle.bal_tree.specs.declared.types.TypeTree.{TypeTree}
 use Rattle.bal_tree.specs.declared.types.IntersectionType.{IntersectionType}
@@ -18,8 +19,8 @@ use Rattle.bal_tree.specs.Spells.{Spells, onto, kinds_of, first_place}
 use Rattle.bal_tree.specs.TypePieces.{type_pieces, intersection_pieces, postfix_type_pieces, primary_type_pieces}
 use Rattle.bal_tree.specs.TypeRules.{type_is_formed, intersection_is_formed, postfix_type_is_formed, primary_type_is_formed, type_end, intersection_end, postfix_type_end, primary_type_end}
 use Rattle.parse_types.specs.Nesting.{first_too_deep, enclosed}
-use Rattle.parse_types.specs.Tokens.{Kinds}
-use Rattle.parse_types.specs.Reaches.{Left}
+use Rattle.parse_types.specs.Tokens.{Kinds, take_sign}
+use Rattle.parse_types.specs.Reaches.{Left, colon_word}
 
 -- ---- promises
 
@@ -53,6 +54,11 @@ LeavesAs left want result = MatchResult result (λ r. want ≡ Some (left r.0 (k
 -- the same of what is left alone
 abbrev pub Leaves : {T F : Type 0} → Option Kinds → Result (T × Bor (List Token)) (Stop F) → Type 0
 Leaves want result = LeavesAs (λ t ks. ks) want result
+
+-- behind a type that reaches as far as it can stands no `?`, and where it ends in `int`, no colon and a word
+pub record Settled (in_int : Bool) (ks : Kinds) : Type 0 where
+  pub no_question : take_sign Question ks ≡ None
+  pub no_name : in_int ≡ true → colon_word ks ≡ None
 
 abbrev pub type_left : TypeTree → Kinds → Left
 type_left t ks = record { in_result = (type_end t).in_result; rest = ks }

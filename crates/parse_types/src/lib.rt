@@ -6,7 +6,8 @@
 //! - [`first_too_deep`]: the first token that is nested too deeply, over all tokens or over those before the first
 //!   closing bracket that closes nothing of them ([`enclosed`]).
 //! - [`Missing`] and [`optional`], [`place`], [`sign`], [`after_sign`], [`key`], [`after_key`], [`int`] and [`word`]:
-//!   steps over the tokens at the front.
+//!   steps over the tokens at the front; [`isolated_if_there`]: that word.
+//! - [`rest_from`] and [`refused`]: how a parser begins at a place, and how it refuses.
 //!
 //! `types` reads the levels of types from the loosest to the tightest, `primary`, `lists` and `records` what is
 //! tightest. `specs/Starts.antt` says what is promised, `specs/Nesting.antt` how deep a token is.
@@ -16,10 +17,11 @@ ghost use Rattle.std.specs.Prelude.{◌≡◌, ◌≤◌, ◌⊎◌, None, false
 ghost use Rattle.bal_base.specs.declared.stop.Stop.TheVariants.{Fault as FaultOf};
 ghost use Rattle.bal_base.specs.Stops.{IfFault};
 ghost use Rattle.bal_tree.specs.Spells.{kinds_of};
+ghost use Rattle.bal_tree.specs.TypeRules.{type_end};
 ghost use Rattle.bal_tree.specs.Reads.{ReadsType};
 ghost use Rattle.parse_types.specs.Nesting as nesting_spec;
 ghost use Rattle.parse_types.specs.Reaches as reader;
-ghost use Rattle.parse_types.specs.Starts.{IfMissing, IsTooDeep, HasNoType, LeavesAs, StartsType, TypeReading, refusal, type_left};
+ghost use Rattle.parse_types.specs.Starts.{IfMissing, IsTooDeep, HasNoType, LeavesAs, Settled, StartsType, TypeReading, refusal, type_left};
 ghost use Rattle.parse_types.specs.Tokens.{Kinds};
 
 mod lists;
@@ -33,6 +35,7 @@ mod types;
 use crate::types::TypeReader;
 use bal_base::{Fault, FaultCode, Kept, Place, Stop, Token};
 use bal_tree::TypeTree;
+pub use lists::isolated_if_there;
 pub use nesting::{enclosed, first_too_deep};
 use std::alloc::Global;
 pub use steps::{Missing, after_key, after_sign, int, key, optional, place, sign, word};
@@ -81,7 +84,9 @@ pub fn longest_type(
     ensures longest { IfOk result (λ r. (rest : Kinds) → StartsType middle tokens.now rest → length r.1.now ≤ length rest) }
     ensures none { IfErr result (λ stop. IfMissing stop ((rest : Kinds) → StartsType middle tokens.now rest → ⊥)) }
 
-    // For the proofs of parsers of what holds types: how far it goes is a function of the kinds of the tokens alone.
+    // For the proofs of parsers of what holds types: how far it goes is a function of the kinds of the tokens alone, and what
+    // cannot stand behind it.
+    ensures settled { IfOk result (λ r. Settled (type_end r.0).in_int (kinds_of r.1.now)) }
     ensures reaches { LeavesAs type_left (reader.longest_type middle (kinds_of tokens.now)) result }
 {
     let reader = TypeReader {
@@ -92,14 +97,16 @@ pub fn longest_type(
     reader.type_tree(tokens.len(), tokens)
 }
 
-fn rest_from(tokens: &[Token], from: usize) -> &[Token]
+/// The tokens from this place on.
+pub fn rest_from(tokens: &[Token], from: usize) -> &[Token]
     requires { from ≤ length tokens.now }
     ensures { result.now ≡ drop from tokens.now }
 {
     &tokens[from..]
 }
 
-fn refused(code: FaultCode, at: Place) -> Stop<Fault>
+/// The answer of a parser that refuses what stands at this place.
+pub fn refused(code: FaultCode, at: Place) -> Stop<Fault>
     ensures { result ≡ FaultOf (refusal code at) }
 {
     Stop::Fault(Fault {

@@ -186,8 +186,8 @@ impl TypeReader {
     }
 }
 
-/// `isolated`, if it is there.
-fn isolated_if_there(tokens: &[Token]) -> (bool, &[Token])
+/// Whether `isolated` stands at the front, and what follows it.
+pub fn isolated_if_there(tokens: &[Token]) -> (bool, &[Token])
     ensures end { kinds_of result.1.now ≡ spec.isolated_if_there (kinds_of tokens.now) }
     ensures spells { (file : ℕ) → Spells file (key_if result.0 IsolatedKey) tokens.now result.1.now }
     ensures no_longer { length result.1.now ≤ length tokens.now }
