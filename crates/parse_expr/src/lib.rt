@@ -2,8 +2,7 @@
 //!
 //! - [`parse_expr`]: the longest expression that stands at a place.
 //! - [`longest_expr`]: the same at the front of tokens of which it is known that none is nested too deeply, for parsers of what
-//!   holds expressions; [`longest_postfix`] and [`params`]: the same of an expression without operators but suffixes, and of the
-//!   parameters of a function.
+//!   holds expressions; [`params`]: the same of the parameters of a function.
 //! - [`name`]: a name at the front of the tokens.
 //! - [`parse_type`]: the longest type that stands at a place.
 //!
@@ -45,6 +44,7 @@ use bal_base::{Fault, FaultCode, Stop, Token};
 use bal_tree::{Expr, Level};
 pub use names::name;
 pub use parameters::params;
+pub use parse_types::parse_type;
 use parse_types::{Missing, enclosed, first_too_deep, place, refused, rest_from};
 use std::alloc::Global;
 
