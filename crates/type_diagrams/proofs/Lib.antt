@@ -1,7 +1,11 @@
 pub mod AddedAtoms
+pub mod AskedDiagrams
+pub mod Asking
 pub mod Canonical
 pub mod CanonicalSets
 pub mod Combined
+pub mod Copied
+pub mod Elements
 pub mod Growing
 pub mod Inserts
 pub mod Interning
@@ -9,6 +13,7 @@ pub mod Keeping
 pub mod KindLaws
 pub mod Leading
 pub mod Literals
+pub mod MarkAndAtoms
 pub mod Meeting
 pub mod Merging
 pub mod NewNodes
@@ -18,6 +23,7 @@ pub mod OneNumber
 pub mod Outside
 pub mod PathLaws
 pub mod PathLiterals
+pub mod PathShapes
 pub mod PathSteps
 pub mod Places
 pub mod Reaching
@@ -28,6 +34,7 @@ pub mod SimpleSets
 pub mod SmallCases
 pub mod Splits
 pub mod Steps
+pub mod Tellings
 pub mod Truths
 pub mod TypeParts
 pub mod Unions

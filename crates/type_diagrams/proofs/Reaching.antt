@@ -36,10 +36,10 @@ module _ (env : List AtomDef) where
   abbrev Looks : Condition → Type 0
   Looks = LooksAtKinds env
 
-  one-Looks : (c d : Condition) → AreOne d c → Looks c → Looks d
+  pub one-Looks : (c d : Condition) → AreOne d c → Looks c → Looks d
   one-Looks c d one looks k v w agree = one.by_kind k v ∙ looks k v w agree ∙ sym (one.by_kind k w)
 
-  type-Looks : (t : SemType) → Looks (condition_of env t)
+  pub type-Looks : (t : SemType) → Looks (condition_of env t)
   type-Looks t k v w agree = λ i. truth (has_kind k (mark i)) (λ a. atom a (is_def_of k (slice_get env a)) refl i) t
     where
       mark : v the_mark ≡ w the_mark
@@ -122,7 +122,7 @@ module _ (env : List AtomDef) where
   results : (a : ℕ) → Looks (results_of env a)
   results a = asked-Looks (condition_of env) type-Looks (parts_of future_part env a)
 
-  member-Looks : (k : Kind) (p : Path) (d : Condition) → IsMemberQuestion env k p d → Looks d
+  pub member-Looks : (k : Kind) (p : Path) (d : Condition) → IsMemberQuestion env k p d → Looks d
   member-Looks Lists p d (place, q) =
       parts-Looks (item_of env place) (IsListOutOfPlay env (atoms_in p.pos)) p d
       (λ a. asked-Looks (λ e. type_asked env (item_type e.0 e.1 place)) (λ e. part (item_type e.0 e.1 place)) (parts_of list_parts env a)) q

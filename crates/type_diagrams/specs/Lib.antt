@@ -13,6 +13,7 @@ pub mod Reach
 pub mod Sets
 pub mod Simple
 pub mod Tables
+pub mod Told
 pub mod Trees
 pub mod Turns
 pub mod Whole

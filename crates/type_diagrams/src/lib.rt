@@ -7,7 +7,8 @@
 //! - [`Node`] and [`MARK`]: a step of a decision, and the number that stands for the mark.
 //! - [`Path`]: a way through a decision to true.
 //! - [`Member`] and [`Turn`]: what a table tells of questions, and what is said of a path against it;
-//!   [`MOST_QUESTIONS`] and [`MOST_ARROWS`]: the limits of a call.
+//!   [`Told`] and [`look_up`]: what it tells, with a copy of the shape; [`MOST_QUESTIONS`] and
+//!   [`MOST_ARROWS`]: the limits of a call.
 #![tactic(auto)]
 
 mod diagrams;
@@ -19,10 +20,12 @@ mod operation;
 mod path;
 mod simple;
 mod simple_shape;
+mod told;
 mod turn;
 
 pub use diagrams::Diagrams;
 pub use kind::{KINDS, Kind};
 pub use node::{MARK, Node};
 pub use path::Path;
+pub use told::{Told, look_up};
 pub use turn::{MOST_ARROWS, MOST_QUESTIONS, Member, Turn};

@@ -50,10 +50,12 @@ impl Diagrams {
         Ok(found)
     }
 
-    /// A simple shape of the diagram, or `None` where it has none.
+    /// A simple shape of the diagram, or `None` where it has none. Diagrams with equal conditions have one
+    /// number.
     pub fn simple_shape(&self, alloc: Global, a: u32) -> Result<Option<Shape>, Memory>
         requires { IsDiagram self.now a }
-        ensures { IfOk result (FindsSimple (condition self.now a).simple) }
+        ensures found { IfOk result (FindsSimple (condition self.now a).simple) }
+        ensures one { HasOneNumberEach self.now }
     {
         let diagram = self.diagram(a);
         self.sets.as_slice()[diagram.simple as usize].shape(alloc)

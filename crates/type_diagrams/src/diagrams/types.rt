@@ -56,7 +56,7 @@ impl Diagrams {
     }
 
     /// The diagram of all shapes.
-    fn every(&mut self) -> Result<u32, Memory>
+    pub fn every(&mut self) -> Result<u32, Memory>
         ensures extends { Extends 0 self.old self.new }
         ensures one { OnOk result (HasOneNumberEach self.new) }
         ensures condition { IfOk result (Gives self.new everything) }
