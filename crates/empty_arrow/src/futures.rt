@@ -1,0 +1,73 @@
+//! Future paths.
+ghost use Rattle.std.specs.Prelude.{◌≤◌, length, All, IfOk, OnOk};
+ghost use Rattle.type_diagrams.specs.declared.kind.Kind.TheVariants.{Future as Futures};
+ghost use Rattle.type_diagrams.specs.Kinds.{the_mark};
+ghost use Rattle.type_diagrams.specs.Tables.{IsDiagram, condition};
+ghost use Rattle.type_diagrams.specs.Turns.{IsReady, IsSound, Turns};
+ghost use Rattle.type_diagrams.specs.Whole.{Extends, HasOneNumberEach};
+ghost use Rattle.empty_arrow.specs.Parts.{HasPart};
+ghost use Rattle.empty_arrow.specs.Results.{TellsResults};
+
+use crate::parts::part;
+use crate::questions::{outside, within_parts};
+use bal_base::{Memory, Shape, Shapes};
+use std::alloc::Global;
+use type_diagrams::{Diagrams, Member, Path, Told, Turn, look_up};
+use type_model::TypeEnv;
+
+/// A shape of a future path, that there is none, or a question about a result: for each unwanted atom, a
+/// result in all wanted atoms' results that isn't in this one's. No future is marked.
+pub fn fut_shape<M: Member>(
+    alloc: Global,
+    env: &TypeEnv,
+    dia: &mut Diagrams,
+    path: &Path,
+    m: &M,
+) -> Result<Turn, Memory>
+    requires { IsReady env.now dia.old (M.kept m.now) Futures path.now }
+    ensures extends { Extends (length env.now) dia.old dia.new }
+    ensures one { OnOk result (HasOneNumberEach dia.new) }
+    ensures turns { IfOk result (Turns env.now dia.new (M.kept m.now) Futures path.now) }
+{
+    let wanted = path.wanted(alloc)?;
+    let unwanted = path.unwanted(alloc)?;
+    let all = within_parts(env, dia, &wanted)?;
+    if path.is_marked() {
+        return Ok(Turn::Empty);
+    }
+    results(alloc, env, dia, all, &unwanted, m)
+}
+
+/// A future with results in the diagram, one outside each atom's results; or that the table has none for
+/// an atom, or the question about it.
+fn results<M: Member>(
+    alloc: Global,
+    env: &TypeEnv,
+    dia: &mut Diagrams,
+    all: u32,
+    unwanted: &[u32],
+    m: &M,
+) -> Result<Turn, Memory>
+    requires diagram { IsDiagram dia.old all }
+    requires one { HasOneNumberEach dia.old }
+    requires atoms { All (HasPart env.now) unwanted.now }
+    requires sound { All (IsSound env.now dia.old) (M.kept m.now) }
+    ensures extends { Extends (length env.now) dia.old dia.new }
+    ensures one { OnOk result (HasOneNumberEach dia.new) }
+    ensures tells { IfOk result (TellsResults env.now dia.new (M.kept m.now) (condition dia.old all) unwanted.now) }
+{
+    let defs = env.defs();
+    let mut found = Vec::new(alloc);
+    for atom in unwanted {
+        let question = outside(env, dia, all, part(defs, *atom))?;
+        let result = match look_up(alloc, m, question)? {
+            Told::Part(result) => result,
+            Told::Held => return Ok(Turn::Empty),
+            Told::Unknown => return Ok(Turn::Ask(question)),
+        };
+        found.push(result)?;
+    }
+    Ok(Turn::Shape(Shape::Future {
+        results: Shapes::of(found),
+    }))
+}

@@ -1,0 +1,150 @@
+//! Pairs of arguments and answers that all wanted arrows allow.
+ghost use Rattle.std.specs.Prelude.{◌≡◌, [], false, length, All, IfOk, IfSome, OnOk, List, ℕ};
+ghost use Rattle.type_diagrams.specs.Tables.{IsDiagram, condition};
+ghost use Rattle.type_diagrams.specs.Turns.{IsSound};
+ghost use Rattle.type_diagrams.specs.Whole.{Extends, HasOneNumberEach};
+ghost use Rattle.empty_arrow.specs.Arrows.{IsArrow};
+ghost use Rattle.empty_arrow.specs.Pairs.{AreArguments, IsArguments, TellsPair};
+ghost use Rattle.bal_base.specs.declared.shape.Shape.{List as ListOf};
+ghost use Rattle.type_model.specs.declared.atoms.AtomDef.{AtomDef};
+
+use crate::arrows::arrow_of;
+use crate::questions::{outside, within};
+use bal_base::{Case, Memory, Shape, Shapes};
+use std::alloc::Global;
+use type_diagrams::{Diagrams, Member, Told, look_up};
+use type_model::TypeEnv;
+
+/// What is sought of a pair.
+#[derive(Clone, Copy, Debug)]
+pub(crate) struct Sought {
+    /// The diagram of the arguments.
+    pub(crate) args: u32,
+    /// The diagram of the result.
+    pub(crate) result: u32,
+    /// Whether the answer may be a failure.
+    pub(crate) may_fail: bool,
+}
+
+/// What is found.
+#[derive(Debug, Drop)]
+pub(crate) enum Found {
+    /// Such a pair.
+    Pair(Case),
+    /// For each such pair, its arguments or its result are in a question that the table holds to be empty.
+    Empty,
+    /// A question about arguments or results that the table doesn't know.
+    Ask(u32),
+}
+
+/// A pair that is sought and that these arrows allow. Each of them either doesn't take the arguments, or
+/// gives the result.
+pub(crate) fn find_pair<M: Member>(
+    alloc: Global,
+    env: &TypeEnv,
+    dia: &mut Diagrams,
+    arrows: &[u32],
+    sought: Sought,
+    m: &M,
+) -> Result<Found, Memory>
+    requires args { IsDiagram dia.old sought.args }
+    requires results { IsDiagram dia.old sought.result }
+    requires lists { AreArguments env.now (condition dia.old sought.args) }
+    requires arrows { All (IsArrow env.now) arrows.now }
+    requires sound { All (IsSound env.now dia.old) (M.kept m.now) }
+    requires one { HasOneNumberEach dia.old }
+    ensures extends { Extends (length env.now) dia.old dia.new }
+    ensures one { OnOk result (HasOneNumberEach dia.new) }
+    ensures tells { IfOk result (TellsPair env.now dia.new (M.kept m.now) (condition dia.old sought.args) (condition dia.old sought.result) sought.may_fail arrows.now) }
+{
+    if let Some(found) = settled(dia, sought, m) {
+        return Ok(found);
+    }
+    match arrows {
+        [] => kept_pair(alloc, env, dia, sought, m),
+        [first, rest @ ..] => {
+            let arrow = arrow_of(env.defs(), *first);
+            let args = outside(env, dia, sought.args, arrow.args)?;
+            let left = Sought { args, ..sought };
+            match find_pair(alloc, env, dia, rest, left, m)? {
+                Found::Empty => {}
+                Found::Pair(case) => return Ok(Found::Pair(case)),
+                Found::Ask(question) => return Ok(Found::Ask(question)),
+            }
+            let result = within(env, dia, sought.result, arrow.result)?;
+            let taken = Sought {
+                result,
+                may_fail: false,
+                ..sought
+            };
+            find_pair(alloc, env, dia, rest, taken, m)
+        }
+    }
+}
+
+/// What the table tells already, whatever the arrows are: that the arguments or the results are held to be
+/// empty, or that it doesn't know one of these questions.
+fn settled<M: Member>(dia: &Diagrams, sought: Sought, m: &M) -> Option<Found>
+    requires args { IsDiagram dia.now sought.args }
+    requires results { IsDiagram dia.now sought.result }
+    ensures { IfSome result (λ found. (env : List AtomDef) (arrows : List ℕ) → TellsPair env dia.now (M.kept m.now) (condition dia.now sought.args) (condition dia.now sought.result) sought.may_fail arrows found) }
+{
+    match m.seen(sought.args) {
+        None => return Some(Found::Ask(sought.args)),
+        Some(None) => return Some(Found::Empty),
+        Some(Some(_)) => {}
+    }
+    if sought.may_fail {
+        return None;
+    }
+    match m.seen(sought.result) {
+        None => Some(Found::Ask(sought.result)),
+        Some(None) => Some(Found::Empty),
+        Some(Some(_)) => None,
+    }
+}
+
+/// A pair of kept shapes.
+fn kept_pair<M: Member>(
+    alloc: Global,
+    env: &TypeEnv,
+    dia: &Diagrams,
+    sought: Sought,
+    m: &M,
+) -> Result<Found, Memory>
+    requires args { IsDiagram dia.now sought.args }
+    requires results { IsDiagram dia.now sought.result }
+    requires lists { AreArguments env.now (condition dia.now sought.args) }
+    requires sound { All (IsSound env.now dia.now) (M.kept m.now) }
+    ensures { IfOk result (TellsPair env.now dia.now (M.kept m.now) (condition dia.now sought.args) (condition dia.now sought.result) sought.may_fail []) }
+{
+    let args = match look_up(alloc, m, sought.args)? {
+        Told::Part(part) => items(part),
+        Told::Held => return Ok(Found::Empty),
+        Told::Unknown => return Ok(Found::Ask(sought.args)),
+    };
+    if sought.may_fail {
+        return Ok(Found::Pair(Case { args, result: None }));
+    }
+    match look_up(alloc, m, sought.result)? {
+        Told::Part(part) => Ok(Found::Pair(Case {
+            args,
+            result: Some(part),
+        })),
+        Told::Held => Ok(Found::Empty),
+        Told::Unknown => Ok(Found::Ask(sought.result)),
+    }
+}
+
+/// The items of an unmarked list.
+fn items(arguments: Shape) -> Shapes
+    requires { IsArguments arguments }
+    ensures { arguments ≡ ListOf false result }
+{
+    match arguments {
+        Shape::List { items, .. } => items,
+        Shape::Nil | Shape::Bool(_) | Shape::Int(_) | Shape::Str(_) => unreachable!(),
+        Shape::Mapping { .. } | Shape::Error { .. } => unreachable!(),
+        Shape::Function { .. } | Shape::Future { .. } => unreachable!(),
+    }
+}
