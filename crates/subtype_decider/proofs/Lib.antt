@@ -1,2 +1,17 @@
+pub mod Descent
+pub mod Dropped
+pub mod Ends
+pub mod Entered
+pub mod EntryLists
+pub mod Gathered
+pub mod Grown
 pub mod KeyTests
+pub mod LastQuestion
+pub mod Members
+pub mod Moved
+pub mod NextPath
+pub mod OneItems
+pub mod Passing
+pub mod Stepped
 pub mod Steps
+pub mod Works

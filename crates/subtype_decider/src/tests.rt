@@ -1,4 +1,6 @@
 //! One question of each answer. The table of questions is that of the program `type_rows`.
+mod questions;
+
 use crate::holds;
 use bal_base::{Shape, Shapes};
 use type_model::{AtomDef, BasicSet, ChoiceList, SemType, Ty, TyList, TypeEnv};
