@@ -3,7 +3,7 @@
 //! - [`parse_expr`]: the longest expression that stands at a place.
 //! - [`longest_expr`]: the same at the front of tokens of which it is known that none is nested too deeply, for parsers of what
 //!   holds expressions; [`params`]: the same of the parameters of a function.
-//! - [`name`]: a name at the front of the tokens.
+//! - [`name`] and [`int_name`]: a name at the front of the tokens; [`type_here`]: a type there.
 //! - [`parse_type`]: the longest type that stands at a place.
 //!
 //! | Module | What it reads |
@@ -42,8 +42,8 @@ mod suffixes;
 use crate::reader::ExprReader;
 use bal_base::{Fault, FaultCode, Stop, Token};
 use bal_tree::{Expr, Level};
-pub use names::name;
-pub use parameters::params;
+pub use names::{int_name, name};
+pub use parameters::{params, type_here};
 pub use parse_types::parse_type;
 use parse_types::{Missing, enclosed, first_too_deep, place, refused, rest_from};
 use std::alloc::Global;

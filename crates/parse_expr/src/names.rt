@@ -33,7 +33,7 @@ pub fn name(file: u32, middle: bool, tokens: &[Token]) -> Option<(QualifiedName,
 }
 
 /// The name at the front that begins with `int`.
-pub(crate) fn int_name(file: u32, tokens: &[Token]) -> Option<(QualifiedName, &[Token])>
+pub fn int_name(file: u32, tokens: &[Token]) -> Option<(QualifiedName, &[Token])>
     ensures end { option_map (λ r. kinds_of r.1.now) result ≡ spec.int_name (kinds_of tokens.now) }
     ensures reads { (middle : _) → IfSome result (λ r. Reading (name_fits middle r.0.prefix) (name_pieces r.0) file tokens.now r.1.now) }
 {

@@ -66,7 +66,7 @@ fn param_list(
 }
 
 /// The longest type at the front, in the middle of a conditional expression or not.
-pub(crate) fn type_here(
+pub fn type_here(
     alloc: Global,
     file: u32,
     middle: bool,

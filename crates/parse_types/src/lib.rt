@@ -36,7 +36,7 @@ use crate::types::TypeReader;
 use bal_base::{Fault, FaultCode, Kept, Place, Stop, Token};
 use bal_tree::TypeTree;
 pub use lists::isolated_if_there;
-pub use nesting::{enclosed, first_too_deep};
+pub use nesting::{depth_behind, enclosed, first_too_deep};
 use std::alloc::Global;
 pub use steps::{Missing, after_key, after_sign, int, key, optional, place, sign, word};
 

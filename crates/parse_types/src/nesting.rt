@@ -58,7 +58,7 @@ fn enclosed_len(tokens: &[Token]) -> usize
 }
 
 /// How many brackets are open behind the token, unless it closes one that is not open here.
-fn depth_behind(kind: &TokenKind, depth: usize) -> Option<usize>
+pub fn depth_behind(kind: &TokenKind, depth: usize) -> Option<usize>
     requires { depth < 2 ^ 64 - 1 }
     ensures behind { result ≡ depth_behind kind.now depth }
     ensures slowly { IfSome result (λ d. d ≤ depth + 1) }
