@@ -1,0 +1,4 @@
+pub mod Ahead
+pub mod Reaches
+pub mod Shapes
+pub mod Starts
