@@ -1,20 +1,21 @@
 -- Each fact of a call by the cause of its status.
-use Rattle.std.proofs.Common.{◌≡◌, ◌≢◌, ◌⊎◌, ℕ, ◌<◌, List, Bool, true, false, Option, Some, None, refl, sym, ap, subst, ◌∙◌, inl, inr, ⊎_elim, arith}
+use Rattle.std.proofs.Common.{◌≡◌, ◌⊎◌, ℕ, ◌<◌, List, Bool, true, false, Some, refl, sym, ap, subst, ◌∙◌, inl, inr, ⊎_elim, arith}
 use Rattle.std.specs.Prelude.{IfSome, IfNone, IsSome, IsSomeAnd, slice_get, map, String}
 use Rattle.std.specs.Global.{Global}
 use Rattle.bal_base.specs.End.{End, Returned, Panicked as PanickedEnd}
+use Rattle.bal_base.specs.declared.fault.Fault.{Fault}
 use Rattle.bal_base.specs.declared.fault.Refusal.{Refusal}
 use Rattle.bal_io.specs.Faults.{Rises}
-use Rattle.bal_tree.specs.declared.def.FileTree.{FileTree}
 use Rattle.bal_run.specs.declared.status.Built.{Built}
 use Rattle.bal_run.specs.declared.status.Run.{Run}
 use Rattle.bal_run.specs.declared.status.Status.{Status}
-use Rattle.bal_run.specs.declared.status.Status.TheVariants.{Done, ErrorReturned, Panicked, Refused, GoesOn, Stalled, FolderFault, InputFault, OutFault, Memory, Words, Limit, DiagFault}
-use Rattle.bal_run.specs.Due.{BadFolder, BadWords, CameToEnd, CodeRan, FolderFails, FolderRefused, IsBeforeRun, IsRefusalOf, NoMemoryToBuild, NoMemoryToRun, NothingRan, OutputFailed, Outside, RunEnded, RunStopped, SinkTells, StatusIsDue, WroteFrontOf, status_of}
+use Rattle.bal_run.specs.declared.status.Status.TheVariants.{Done, Panicked, Refused, FolderFault, OutFault, Memory, Words}
+use Rattle.bal_run.specs.Due.{BadFolder, BadWords, CameToEnd, CodeRan, FolderFails, FolderRefused, IsAsked, IsBeforeRun, NoMemoryToBuild, NoMemoryToRun, NothingRan, OutputFailed, Outside, RunEnded, RunStopped, SinkTells, StatusIsDue, WroteFrontOf, status_of}
 use Rattle.bal_run.specs.Evaluation.{Evaluates}
-use Rattle.bal_run.specs.Files.{Files, HasNoMain, HasNoProgram, CompilesTo, IsMainFile, IsProgram, IsTreeOf}
+use Rattle.bal_run.specs.Files.{Files, HasNoMain, CompilesTo, IsBuiltOf, IsMainFile, IsRefusalOf, IsRefusedSo, MainHas}
 use Rattle.bal_run.specs.Progress.{CameSoFar, StoppedInPrint}
-use Rattle.bal_run.specs.Status.{no_main, not_a_definition}
+use Rattle.bal_run.specs.Source.{HasFault, ReadsWith, no_main, refusal_of}
+use Rattle.bal_run.specs.Sums.{IsSumProgram}
 use Rattle.bal_run.specs.Words.{IsGood}
 use Rattle.stack_code.specs.Outcome.{Outcome, nothing}
 use Rattle.bal_run.proofs.DueAfterRun.{front-so-far}
@@ -123,7 +124,7 @@ module _ (words : List (String Global)) (before after : Outside) (run : Run) (du
   pub built-front : IfSome run.built (λ b. WroteFrontOf b before.out.written after.out.written)
   built-front =
       built-where-some (λ b. WroteFrontOf b before.out.written after.out.written)
-      (λ c. front-so-far c.built run.steps before.out.written after.out.written c.compiled.1 (so-far c.built run.steps before.out after.out due c.cause))
+      (λ c. front-so-far c.built run.steps before.out.written after.out.written c.compiled.2.simulates (so-far c.built run.steps before.out after.out due c.cause))
 
   pub unbuilt-written : IfNone run.built (after.out.written ≡ before.out.written)
   unbuilt-written = none-built (after.out.written ≡ before.out.written) (λ n. n.written)
@@ -194,39 +195,49 @@ module _ (words : List (String Global)) (before after : Outside) (run : Run) (du
   abbrev OrFailed : Status → Type 0
   OrFailed other = (due ≡ other) ⊎ ((due ≡ FolderFault) ⊎ (due ≡ Memory))
 
-  -- a folder without a program is refused so, unless it failed or memory ran out
-  refusal-or-failed : (all : Files) (r : Refusal) → before.folder.files ≡ Some all → IsGood words → ((t : FileTree) → IsTreeOf all t → ⊥) → ((q : Refusal) → IsRefusalOf before.folder.files q → q ≡ r) → OrFailed (Refused r)
-  refusal-or-failed all r e good none one =
+  -- where one refusal alone may come, and nothing is compiled, it comes, unless the folder failed or memory ran out
+  refused-so : (r : Refusal) → IsGood words → ((q : Refusal) → IsRefusalOf before.folder.files q → q ≡ r) → ((built : Built) → CompilesTo before.folder.files built → ⊥) → OrFailed (Refused r)
+  refused-so r good one none =
       by-stage
       (λ b. absurd (b.bad good))
       (λ b. ⊎_elim (λ f. inr (inl f.0)) (λ q. ⊎_elim (λ f. inl (f.1 ∙ ap Refused (one f.0 f.2))) (λ f. inr (inr f.0)) q) b.cause)
-      (λ c. absurd (none c.built.tree (subst (λ f. IfSome f (λ a. IsTreeOf a c.built.tree)) e c.compiled.0)))
+      (λ c. absurd (none c.built c.compiled))
 
-  pub no-main-due : (all : Files) → before.folder.files ≡ Some all → IsGood words → HasNoMain all → OrFailed (Refused no_main)
-  no-main-due all e good none =
-      refusal-or-failed all no_main e good (λ t h. main-there all h.0 none h.1)
-      (λ q h. ⊎_elim (λ a. a.0) (λ b. absurd (let p = subst (λ f. IfSome f HasNoProgram) e b.1 in main-there all p.0 none p.1)) h)
+  pub no-file-due : (all : Files) → before.folder.files ≡ Some all → IsGood words → HasNoMain all → OrFailed (Refused no_main)
+  no-file-due all e good none =
+      refused-so no_main good
+      (λ q h. ⊎_elim (λ a. a.0) (λ b. absurd (main-there all b.0 none (subst (λ f. MainHas f b.0) e b.1))) h)
+      (λ built h. main-there all h.0 none (subst (λ f. MainHas f h.0) e h.1))
 
-  pub no-program-due : (all : Files) → before.folder.files ≡ Some all → IsGood words → HasNoProgram all → OrFailed (Refused not_a_definition)
-  no-program-due all e good none =
-      refusal-or-failed all not_a_definition e good
-      (λ t h. none.2 t (subst (λ l. IsProgram l t) (one-main all h.0 none.0 h.1 none.1) h.2))
-      (λ q h. ⊎_elim (λ a. absurd (main-there all none.0 (subst (λ f. IfSome f HasNoMain) e a.1) none.1)) (λ b. b.0) h)
+  -- the bytes of `main.bal` are those that were compiled
+  module _ (bytes : List ℕ) (asked : IsAsked words before.folder.files bytes) where
+    its-bytes : (other : List ℕ) → MainHas before.folder.files other → other ≡ bytes
+    its-bytes other h = one-main asked.1.0 other bytes (subst (λ f. MainHas f other) asked.1.1 h) asked.1.2
 
-  -- what compiles is built, unless the folder failed or memory ran out
-  pub built-due : (all : Files) (tree : FileTree) → before.folder.files ≡ Some all → IsGood words → IsTreeOf all tree → IsSome run.built ⊎ ((due ≡ FolderFault) ⊎ (due ≡ Memory))
-  built-due all tree e good is =
-      by-stage
-      (λ b. absurd (b.bad good))
-      (λ b. ⊎_elim (λ f. inr (inl f.0)) (λ q. ⊎_elim (λ f. absurd (refused f.0 f.2)) (λ f. inr (inr f.0)) q) b.cause)
-      (λ c. inl (subst (λ o. IsSome o) (sym c.kept) refl))
-    where
-      refused : (r : Refusal) → IsRefusalOf before.folder.files r → ⊥
-      refused r h =
-          ⊎_elim
-          (λ a. main-there all is.0 (subst (λ f. IfSome f HasNoMain) e a.1) is.1)
-          (λ b. let none = subst (λ f. IfSome f HasNoProgram) e b.1 in none.2 tree (subst (λ l. IsProgram l tree) (one-main all is.0 none.0 is.1 none.1) is.2))
-          h
+    -- a fault comes
+    pub fault-due : (fault : Fault) → HasFault bytes fault → OrFailed (Refused (refusal_of bytes fault))
+    fault-due fault is =
+        refused-so (refusal_of bytes fault) asked.0
+        (λ q h. ⊎_elim
+        (λ a. absurd (main-there asked.1.0 bytes (subst (λ f. IfSome f HasNoMain) asked.1.1 a.1) asked.1.2))
+        (λ b. let here = subst (λ l. IsRefusedSo l q) (its-bytes b.0 b.1) b.2 in here.is ∙ ap (refusal_of bytes) (sym (here.only fault is)))
+        h)
+        (λ built h. (subst (λ l. IsBuiltOf l built) (its-bytes h.0 h.1) h.2).sound fault is)
+
+    -- a program is built, unless the folder failed or memory ran out
+    pub built-due : ReadsWith bytes IsSumProgram → IsSome run.built ⊎ ((due ≡ FolderFault) ⊎ (due ≡ Memory))
+    built-due is =
+        by-stage
+        (λ b. absurd (b.bad asked.0))
+        (λ b. ⊎_elim (λ f. inr (inl f.0)) (λ q. ⊎_elim (λ f. absurd (refused f.0 f.2)) (λ f. inr (inr f.0)) q) b.cause)
+        (λ c. inl (subst (λ o. IsSome o) (sym c.kept) refl))
+      where
+        refused : (r : Refusal) → IsRefusalOf before.folder.files r → ⊥
+        refused r h =
+            ⊎_elim
+            (λ a. main-there asked.1.0 bytes (subst (λ f. IfSome f HasNoMain) asked.1.1 a.1) asked.1.2)
+            (λ b. (subst (λ l. IsRefusedSo l r) (its-bytes b.0 b.1) b.2).no_program is.0 (is.1, is.2))
+            h
 
   -- ---- the run
 
@@ -245,7 +256,7 @@ module _ (words : List (String Global)) (before after : Outside) (run : Run) (du
   end-due fine =
       built-where-some (λ b. (outcome : Outcome) → Evaluates b.tree nothing outcome → (due ≡ status_of outcome.end) ⊎ (due ≡ Memory))
       (λ c outcome means. ⊎_elim
-      (λ f. let r = c.compiled.1.runs nothing outcome means in
+      (λ f. let r = c.compiled.2.simulates.runs nothing outcome means in
       let same = CodeRuns-one c.built.code nothing f.3.ended.count r.0 f.0 outcome f.3.ended.runs r.1 in
       inl (f.1 ∙ ap (λ (o : Outcome). status_of o.end) same))
       (λ q. ⊎_elim (λ f. absurd (fine f.1)) (λ f. inr f.0) q)

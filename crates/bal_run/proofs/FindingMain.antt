@@ -1,21 +1,13 @@
 -- The search for the folder's `main.bal`.
 use Rattle.std.proofs.Common.{◌≡◌, ◌⊎◌, ℕ, ◌+◌, ◌<◌, ◌≤◌, List, length, take, Bool, true, false, Option, Some, None, refl, sym, ap, subst, ◌∙◌, ⊎_elim, arith}
-use Rattle.std.specs.Prelude.{IfSome, slice_get, map, Result, Ok, Err, Vec}
+use Rattle.std.specs.Prelude.{IfSome, slice_get, map, Vec}
 use Rattle.std.specs.Global.{Global}
-use Rattle.std.specs.Str.{chars}
-use lib.Utf8.{encode, encodes}
 use Rattle.std.specs.Option.{option_map}
 use Rattle.std.proofs.lemmas.List.{length-take, take_all}
 use Rattle.std.proofs.lemmas.Option.{slice_get-map, slice_get_within}
 use Rattle.bal_base.specs.declared.limits.TheConstants.{MOST_FILE_BYTES}
-use Rattle.bal_base.specs.declared.stop.Stop.{Stop}
-use Rattle.bal_base.specs.declared.stop.Stop.TheVariants.{Memory, Fault}
 use Rattle.bal_io.specs.Content.{IsNameAt, IsFrontAt}
-use Rattle.bal_run.specs.declared.compile.LoadFault.{LoadFault}
-use Rattle.bal_run.specs.declared.compile.LoadFault.TheVariants.{Folder, NoMain, NotOfForm}
-use Rattle.bal_run.specs.declared.status.Built.{Built}
-use Rattle.bal_run.specs.Form.{FileReads}
-use Rattle.bal_run.specs.Files.{Files, Compiled, HasNoMain, IsBuiltFrom, IsFrontOfMain, IsSearched, main_name}
+use Rattle.bal_run.specs.Files.{Files, HasNoMain, IsFrontOfMain, IsSearched, main_name}
 
 abbrev pub NoneBefore : Files → ℕ → Type 0
 NoneBefore all i = (j : ℕ) → j < i → IsNameAt all j main_name → ⊥
@@ -59,7 +51,7 @@ searched-none w v i n e before count le = by v (subst (λ o. IfSome o (λ all. N
 
 -- ---- the bytes of the file
 
-whole-bytes : (all : Files) (k : ℕ) (front : List ℕ) → IsFrontAt all k (MOST_FILE_BYTES + 1) front → (bytes : List ℕ) × (slice_get (map (λ f. f.1) all) k ≡ Some bytes) × (front ≡ take (MOST_FILE_BYTES + 1) bytes)
+pub whole-bytes : (all : Files) (k : ℕ) (front : List ℕ) → IsFrontAt all k (MOST_FILE_BYTES + 1) front → (bytes : List ℕ) × (slice_get (map (λ f. f.1) all) k ≡ Some bytes) × (front ≡ take (MOST_FILE_BYTES + 1) bytes)
 whole-bytes all k front h = by (slice_get all k) refl
   where
     by : (o : Option (List ℕ × List ℕ)) → slice_get all k ≡ o → (bytes : List ℕ) × (slice_get (map (λ f. f.1) all) k ≡ Some bytes) × (front ≡ take (MOST_FILE_BYTES + 1) bytes)
@@ -69,42 +61,17 @@ whole-bytes all k front h = by (slice_get all k) refl
     by None e =
         absurd (let bad : Some front ≡ None = sym h ∙ (slice_get-map (λ g. take (MOST_FILE_BYTES + 1) g.1) all k ∙ ap (option_map (λ g. take (MOST_FILE_BYTES + 1) g.1)) e) in let no : ⊥ = cc in no)
 
-short-front : (bytes front : List ℕ) → front ≡ take (MOST_FILE_BYTES + 1) bytes → length front ≤ MOST_FILE_BYTES → front ≡ bytes
+pub short-front : (bytes front : List ℕ) → front ≡ take (MOST_FILE_BYTES + 1) bytes → length front ≤ MOST_FILE_BYTES → front ≡ bytes
 short-front bytes front e short =
     let small : length bytes ≤ MOST_FILE_BYTES + 1 = omega (arith, ap length e, length-take (MOST_FILE_BYTES + 1) bytes) in e ∙ take_all (MOST_FILE_BYTES + 1) bytes small
-
-short-bytes : (bytes front : List ℕ) → front ≡ take (MOST_FILE_BYTES + 1) bytes → length bytes ≤ MOST_FILE_BYTES → front ≡ bytes
-short-bytes bytes front e short = e ∙ take_all (MOST_FILE_BYTES + 1) bytes (omega arith)
-
-pub compiled-of : (w : Option Files) (front : Vec ℕ Global) (r : Result Built (Stop LoadFault)) → IfSome w (λ all. IsFrontOfMain all (Some front)) → IsBuiltFrom front.items r → Compiled w r
-compiled-of (Some all) front (Ok built) (k, main, h) b =
-    let file = whole-bytes all k front.items h in
-    let same = short-front file.0 front.items file.2 b.0.0 in
-    ((file.0, (k, main, file.1), subst (λ l. (length l ≤ MOST_FILE_BYTES) × FileReads l built.tree) same b.0), b.1)
-compiled-of None front (Ok built) h b = (tt, b.1)
-compiled-of (Some all) front (Err (Fault NotOfForm)) (k, main, h) b =
-    let file = whole-bytes all k front.items h in
-    (file.0, (k, main, file.1), λ tree p. b tree (subst (λ l. (length l ≤ MOST_FILE_BYTES) × FileReads l tree) (sym (short-bytes file.0 front.items file.2 p.0)) p))
-compiled-of None front (Err (Fault NotOfForm)) h b = tt
-compiled-of w front (Err Memory) h b = tt
-compiled-of w front (Err (Fault Folder)) h b = absurd b
-compiled-of w front (Err (Fault NoMain)) h b = absurd b
 
 pub front-found : (w : Option Files) (k : ℕ) (front : Vec ℕ Global) → IfSome w (λ all. IsSearched all (Some k)) → IfSome w (λ all. IsFrontAt all k (MOST_FILE_BYTES + 1) front.items) → IfSome w (λ all. IsFrontOfMain all (Some front))
 front-found (Some all) k front s f = (k, s, f)
 front-found None k front s f = tt
 
--- ---- the name
+-- ---- tests
 
 -- a test does not answer both
 pub no-answer : (b : Bool) → b ≡ true → b ≡ false → ⊥
 no-answer true p q = let bad : ⊥ = cc in bad
 no-answer false p q = let bad : ⊥ = cc in bad
-
-pub chars-name : chars main_name ≡ main_name
-unfolding chars
-chars-name = refl
-
-pub encodes-name : encodes main_name ≡ main_name
-unfolding encode
-encodes-name = refl

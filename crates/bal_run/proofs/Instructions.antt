@@ -1,5 +1,5 @@
 -- What the machine's instructions do is what the definition says, and what they need is there.
-use Rattle.std.proofs.Common.{◌≡◌, ℕ, ◌+◌, ◌<◌, zero, suc, List, [], ◌∷◌, ◌++◌, length, Option, Some, None, refl, sym, ap, subst, ◌∙◌, inl, inr, ⊎_elim, ℤ, ◌+ℤ◌, ◌*ℤ◌, arith, append_assoc, reverse}
+use Rattle.std.proofs.Common.{◌≡◌, ℕ, ◌+◌, ◌<◌, zero, suc, List, [], ◌∷◌, ◌++◌, length, Option, Some, None, refl, sym, ap, subst, ◌∙◌, inl, inr, ℤ, ◌+ℤ◌, ◌*ℤ◌, arith, reverse}
 use Rattle.std.specs.Prelude.{IsSomeAnd, slice_get, FitsSigned, Result, Ok, Err, Vec}
 use Rattle.std.specs.Global.{Global}
 use Rattle.std.specs.Int.{w64}
@@ -21,10 +21,10 @@ use Rattle.bal_run.specs.Running.{Acts, CanDo, ComputesLast, EndsWithInts, Print
 use Rattle.stack_code.specs.declared.code.Code.{Code}
 use Rattle.stack_code.specs.declared.instr.Constant.{Constant}
 use Rattle.stack_code.specs.declared.instr.Instr.{Instr}
-use Rattle.stack_code.specs.declared.instr.Instr.TheVariants.{Tick, Const, Add, Mul, Native, Pop, Return}
+use Rattle.stack_code.specs.declared.instr.Instr.TheVariants.{Const, Add, Mul, Native, Pop, Return}
 use Rattle.stack_code.specs.declared.value.Value.{Value}
 use Rattle.stack_code.specs.declared.value.Value.TheVariants.{Nil, Int}
-use Rattle.stack_code.specs.Machine.{State, Next, On, Ends, Computes, PrintsLine, Drops, Leaves, Does, Step, RunsFrom, IsPrint, PrintsNext, went, value_of, value_text}
+use Rattle.stack_code.specs.Machine.{State, Next, On, Ends, Computes, PrintsLine, Drops, Leaves, Does, Step, IsPrint, went, value_of}
 use Rattle.bal_run.proofs.Steps.{at_some}
 
 -- ---- ints

@@ -9,7 +9,7 @@ use Rattle.bal_run.specs.declared.status.Status.TheVariants.{Done, ErrorReturned
 use Rattle.bal_run.specs.declared.status.Built.{Built}
 use Rattle.bal_run.specs.Due.{IsBeforeRun, SinkTells, status_of}
 use Rattle.stack_code.specs.Outcome.{Outcome}
-use Rattle.bal_run.specs.Report.{AppendsFronts, CanReport, ComesTo, CountsDiagFaults, IsToldWhole, Reports, ReportedMemory, ReportedWhole, ReportFailed, WroteFrontOfSomeText, WroteFrontOfText, WroteFrontsOfSomeTexts, WroteFrontsOfTexts, WroteText}
+use Rattle.bal_run.specs.Report.{AppendsFronts, CanReport, ComesTo, CountsDiagFaults, IsToldWhole, Reports, ReportedMemory, ReportedWhole, ReportFailed, WroteFrontOfSomeText, WroteFrontsOfSomeTexts, WroteFrontsOfTexts, WroteText}
 use Rattle.bal_run.specs.Status.{HasText}
 
 -- ---- what was written

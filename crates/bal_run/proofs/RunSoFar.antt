@@ -17,7 +17,7 @@ use Rattle.stack_code.specs.declared.instr.Instr.{Instr}
 use Rattle.stack_code.specs.declared.instr.Instr.TheVariants.{Tick, Const, Add, Mul, Native, Pop, Return}
 use Rattle.stack_code.specs.declared.value.Value.{Value}
 use Rattle.stack_code.specs.declared.value.Value.TheVariants.{Nil, Int}
-use Rattle.stack_code.specs.Machine.{State, Next, On, Ends, Computes, PrintsLine, Drops, Leaves, Does, Step, RunsFrom, CodeRuns, IsStart, Leads, Reaches, went, value_of, value_text}
+use Rattle.stack_code.specs.Machine.{State, On, Ends, Computes, PrintsLine, Drops, Leaves, Does, Step, RunsFrom, CodeRuns, Leads, Reaches, went, value_of, value_text}
 use Rattle.stack_code.specs.Outcome.{Given, Outcome}
 use Rattle.bal_run.proofs.Simulation.{start-one}
 use Rattle.bal_run.proofs.Steps.{Goes, Step-one, outcome}

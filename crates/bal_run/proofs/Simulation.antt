@@ -3,20 +3,23 @@ use Rattle.std.proofs.Common.{◌≡◌, ℕ, ◌+◌, ◌<◌, List, [], ◌∷
 use Rattle.std.proofs.lemmas.List.{append-nil}
 use Rattle.std.specs.Prelude.{slice_get, IsSomeAnd}
 use Rattle.std.specs.List.{AllByRecursion}
+use Rattle.std.proofs.Common.{All}
+use Rattle.std.proofs.lemmas.List.Elements.{All-head, All-tail}
 use Rattle.std.specs.Fmt.{signed_decimal}
 use Rattle.bal_base.specs.End.{End, Returned, Panicked, number_overflow}
 use Rattle.bal_tree.specs.declared.expr.Expr.{Expr, Postfix}
 use Rattle.bal_tree.specs.declared.expr.Postfix.{Call}
-use Rattle.bal_tree.specs.declared.expr.Call.{Function' as FunctionCall'}
+use Rattle.bal_tree.specs.declared.expr.Call.{Function' as FunctionCall', items-the_row-Expr as exprs_in}
 use Rattle.bal_tree.specs.declared.action.Rhs.TheVariants.{Expr as Expression}
 use Rattle.bal_tree.specs.declared.stmt.Stmt.{Stmt, Rhs}
 use Rattle.bal_tree.specs.declared.def.FileTree.{FileTree}
+use Rattle.bal_tree.specs.declared.def.FunctionDef.{FunctionDef}
 use Rattle.bal_tree.specs.declared.def.Def.{Def}
 use Rattle.bal_tree.specs.declared.def.Def.TheVariants.{Function}
 use Rattle.bal_tree.specs.declared.def.Body.{Body}
 use Rattle.bal_tree.specs.declared.def.Body.TheVariants.{Block}
 use Rattle.bal_run.specs.Evaluation.{Evaluates, Gives, Overflows, Prints, PrintsBy, Runs, IsMain, HasStmts}
-use Rattle.bal_run.specs.Sums.{IsSum, PrintsSum}
+use Rattle.bal_run.specs.Sums.{CallPrints, DefinePrints, IsOneSum, IsShortSum, IsSum, MainPrints, PrintsSum}
 use Rattle.stack_code.specs.declared.value.Value.TheVariants.{Nil, Int}
 use Rattle.stack_code.specs.declared.instr.Constant.TheVariants.{Nil as ConstantNil}
 use Rattle.stack_code.specs.declared.instr.Instr.{Instr}
@@ -40,13 +43,27 @@ same-sum : (s : Stmt) (e f : Expr) → Prints s e → Prints s f → e ≡ f
 same-sum (Rhs (Expression call) place) e f h k = same-argument call.value e f h k
 same-sum s e f h k = absurd h
 
+one-sum : (es : List Expr) → IsOneSum es → (e : Expr) × (es ≡ e ∷ []) × IsShortSum e
+one-sum (e ∷ []) h = (e, refl, h)
+one-sum es h = absurd h
+
+call-prints : (call : Expr) → CallPrints call → (e : Expr) × PrintsBy call e × IsShortSum e
+call-prints (Postfix (Call (FunctionCall' _ callee _ args at))) h = let o = one-sum (exprs_in _ args) h.1 in (o.0, (h.0, o.1), o.2)
+call-prints call h = absurd h
+
+-- what a statement that prints a sum prints
+printed : (s : Stmt) → PrintsSum s → (e : Expr) × Prints s e × IsShortSum e
+printed (Rhs (Expression call) place) h = call-prints call.value h
+printed s h = absurd h
+
 pub statements-end : (ss : List Stmt) → AllByRecursion PrintsSum ss → (o : Outcome) × Runs ss o
 statements-end [] h = (outcome [] Returned, refl)
-statements-end (s ∷ ss) ((e, p, q), h) =
+statements-end (s ∷ ss) (prints, h) =
+    let p = printed s prints in
     ⊎_elim
-    (λ g. let r = statements-end ss h in (outcome (signed_decimal g.0 ++ (10 ∷ r.0.output)) r.0.end, (e, p, inl (g.0, r.0, g.1, r.1, refl))))
-    (λ o. (outcome [] (Panicked number_overflow), (e, p, inr (o, refl))))
-    (sum-ends e q)
+    (λ g. let r = statements-end ss h in (outcome (signed_decimal g.0 ++ (10 ∷ r.0.output)) r.0.end, (p.0, p.1, inl (g.0, r.0, g.1, r.1, refl))))
+    (λ o. (outcome [] (Panicked number_overflow), (p.0, p.1, inr (o, refl))))
+    (sum-ends p.0 p.2.0)
 
 -- ---- statements
 
@@ -122,6 +139,14 @@ module _ (code : Code) where
   prints-run (e ∷ es) [] first place out o p r h = absurd p
 
 -- ---- programs
+
+pub one-defined : (defs : List Def) → DefinePrints defs → (f : FunctionDef) × (defs ≡ Function f ∷ []) × MainPrints f
+one-defined (Function f ∷ []) h = (f, refl, h)
+one-defined defs h = absurd h
+
+pub by-recursion : {X : Type 0} (P : X → Type 0) (xs : List X) → All P xs → AllByRecursion P xs
+by-recursion P [] h = tt
+by-recursion P (x ∷ xs) h = (All-head P x xs h, by-recursion P xs (All-tail P x xs h))
 
 pub same-statements : (main : Def) (ss ts : List Stmt) → IsMain ss main → IsMain ts main → ss ≡ ts
 same-statements (Function f) ss ts h k = by f.body h.2 k.2

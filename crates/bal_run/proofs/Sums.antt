@@ -1,6 +1,5 @@
 -- The code of a sum does what the sum means.
-use Rattle.std.proofs.Common.{◌≡◌, ◌⊎◌, ℕ, ◌+◌, List, [], ◌∷◌, ◌++◌, length, Some, refl, sym, ap, subst, inl, inr, ⊎_elim, arith, length-append, ℤ, pos, negsuc}
-use Rattle.std.specs.Prelude.{slice_get}
+use Rattle.std.proofs.Common.{◌≡◌, ◌⊎◌, ℕ, ◌+◌, List, ◌∷◌, ◌++◌, length, refl, sym, ap, subst, inl, inr, ⊎_elim, arith, length-append, ℤ, pos, negsuc}
 use Rattle.std.proofs.lemmas.Int.{by_lt_z, ints}
 use Rattle.bal_base.specs.End.{Panicked, number_overflow}
 use Rattle.bal_base.specs.Valid.{IsInt}

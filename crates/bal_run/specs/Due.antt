@@ -1,8 +1,10 @@
 -- The status that is due of a call of the top: why, and what was built and written. A call comes to its end at the words,
 -- at the folder or in the run, and there is a record for each of the three.
-use Rattle.std.specs.Prelude.{◌≡◌, ◌⊎◌, ⊤, ℕ, List, Option, Some, None, IfSome, String}
+use Rattle.std.specs.Prelude.{◌≡◌, ◌⊎◌, ⊤, ℕ, List, Option, Some, None, String}
 use Rattle.std.specs.Global.{Global}
 use Rattle.bal_base.specs.End.{End, Returned, Panicked as PanickedEnd}
+use Rattle.bal_base.specs.declared.fault.Fault.{Fault}
+use Rattle.bal_base.specs.declared.fault.FaultCode.{FaultCode}
 use Rattle.bal_base.specs.declared.fault.Refusal.{Refusal}
 use Rattle.bal_io.specs.Content.{Told, AppendsFront}
 use Rattle.bal_io.specs.Faults.{Rises}
@@ -11,9 +13,9 @@ use Rattle.bal_run.specs.declared.status.Run.{Run}
 use Rattle.bal_run.specs.declared.status.Status.{Status}
 use Rattle.bal_run.specs.declared.status.Status.TheVariants.{Done, ErrorReturned, Panicked, Refused, GoesOn, Stalled, FolderFault, InputFault, OutFault, Memory, Words, Limit, DiagFault}
 use Rattle.bal_run.specs.Evaluation.{Evaluates}
-use Rattle.bal_run.specs.Files.{Files, HasNoMain, HasNoProgram, CompilesTo}
+use Rattle.bal_run.specs.Files.{Files, CompilesTo, IsMainFile, IsRefusalOf, MainHas}
 use Rattle.bal_run.specs.Progress.{Ended, StoppedAt, StoppedInPrint}
-use Rattle.bal_run.specs.Status.{no_main, not_a_definition}
+use Rattle.bal_run.specs.Source.{refusal_of}
 use Rattle.bal_run.specs.Words.{IsGood}
 use Rattle.stack_code.specs.Outcome.{Outcome, nothing}
 
@@ -58,11 +60,6 @@ pub record BadWords (words : List (String Global)) (before after : Outside) (run
   pub bad : ¬ (IsGood words)
   pub folder : after.folder.faults ≡ before.folder.faults
   pub nothing : NothingRan before after run
-
--- the refusal is that of the folder's files, as far as they are told
-abbrev pub IsRefusalOf : Option Files → Refusal → Type 0
-IsRefusalOf files r =
-    ((r ≡ no_main) × IfSome files HasNoMain) ⊎ ((r ≡ not_a_definition) × IfSome files HasNoProgram)
 
 -- why a folder came to no code: it failed, it is refused, or memory ran out
 abbrev pub FolderFails : FolderTells → FolderTells → Status → Type 0
@@ -161,3 +158,16 @@ CameToEnd end built made before after =
 abbrev pub WroteFrontOf : Built → Option (List ℕ) → Option (List ℕ) → Type 0
 WroteFrontOf built before after =
     (outcome : Outcome) → Evaluates built.tree nothing outcome → Told (AppendsFront outcome.output) before after
+
+-- the command is good, and the folder tells its files, of which `main.bal` has these bytes
+abbrev pub IsAsked : List (String Global) → Option Files → List ℕ → Type 0
+IsAsked words files bytes = IsGood words × ((all : Files) × (files ≡ Some all) × IsMainFile all bytes)
+
+-- the folder's `main.bal`, as far as it is told, has a fault of which this is so, and this is its refusal
+abbrev pub MainIsRefused : Option Files → Refusal → (List ℕ → Fault → Type 0) → Type 0
+MainIsRefused files refusal Cause =
+    (bytes : List ℕ) × (fault : Fault) × MainHas files bytes × Cause bytes fault × (refusal ≡ refusal_of bytes fault)
+
+-- a program is refused so, with this code
+abbrev pub RefusedWith : FaultCode → Status → Refusal → Type 0
+RefusedWith code status refusal = (status ≡ Refused refusal) × (refusal.fault.code ≡ code)

@@ -1,5 +1,5 @@
 -- What a program means: which output its evaluation writes, and how it ends.
-use Rattle.std.specs.Prelude.{◌≡◌, ◌++◌, ◌⊎◌, ℤ, ◌+ℤ◌, ◌*ℤ◌, ℕ, List, [], ◌∷◌, Option, Some, Any, IsTrue, codes}
+use Rattle.std.specs.Prelude.{◌≡◌, ◌++◌, ◌⊎◌, ℤ, ◌+ℤ◌, ◌*ℤ◌, List, [], ◌∷◌, Option, Some, Any, IsTrue, codes}
 use Rattle.std.specs.Fmt.{signed_decimal}
 use Rattle.bal_base.specs.End.{Returned, Panicked, number_overflow}
 use Rattle.bal_base.specs.Valid.{IsInt}

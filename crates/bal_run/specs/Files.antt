@@ -1,5 +1,5 @@
 -- Which file of a folder is compiled, and what compiling it comes to.
-use Rattle.std.specs.Prelude.{◌≡◌, ◌≤◌, ◌<◌, ◌+◌, ℕ, List, Option, Some, None, IfSome, Result, Ok, Err, length, map, slice_get, codes, ⊤, Vec}
+use Rattle.std.specs.Prelude.{◌≡◌, ◌⊎◌, ◌<◌, ◌+◌, ℕ, List, Option, Some, None, IfSome, Result, Ok, Err, map, slice_get, codes, ⊤, Vec}
 use Rattle.std.specs.Global.{Global}
 use Rattle.bal_base.specs.declared.limits.TheConstants.{MOST_FILE_BYTES}
 use Rattle.bal_base.specs.declared.stop.Stop.{Stop}
@@ -7,11 +7,13 @@ use Rattle.bal_base.specs.declared.stop.Stop.TheVariants.{Memory, Fault}
 use Rattle.bal_io.specs.Content.{IsNameAt, IsFrontAt}
 use Rattle.bal_io.specs.Faults.{Rises}
 use Rattle.bal_tree.specs.declared.def.FileTree.{FileTree}
+use Rattle.bal_base.specs.declared.fault.Fault.{Fault as FaultOf}
+use Rattle.bal_base.specs.declared.fault.Refusal.{Refusal}
 use Rattle.bal_run.specs.declared.compile.LoadFault.{LoadFault}
-use Rattle.bal_run.specs.declared.compile.LoadFault.TheVariants.{Folder, NoMain, NotOfForm}
+use Rattle.bal_run.specs.declared.compile.LoadFault.TheVariants.{Folder, Source}
 use Rattle.bal_run.specs.declared.status.Built.{Built}
-use Rattle.bal_run.specs.Form.{FileReads}
 use Rattle.bal_run.specs.Lowering.{Simulates}
+use Rattle.bal_run.specs.Source.{HasFault, IsProgram, no_main, refusal_of}
 
 -- files by number, each with its name and its bytes
 abbrev pub Files : Type 0
@@ -31,28 +33,40 @@ IsMainAt files k = IsNameAt files k main_name × ((j : ℕ) → j < k → IsName
 abbrev pub IsMainFile : Files → List ℕ → Type 0
 IsMainFile files bytes = (k : ℕ) × IsMainAt files k × (slice_get (map (λ f. f.1) files) k ≡ Some bytes)
 
--- the bytes are those of a program with this tree, and not too many
-abbrev pub IsProgram : List ℕ → FileTree → Type 0
-IsProgram bytes tree = (length bytes ≤ MOST_FILE_BYTES) × FileReads bytes tree
+-- the first file that is named `main.bal` has these bytes, where the folder tells its files
+abbrev pub MainHas : Option Files → List ℕ → Type 0
+MainHas files bytes = IfSome files (λ all. IsMainFile all bytes)
 
 -- ---- what compiling comes to
 
--- the tree is that of the folder's `main.bal`
-abbrev pub IsTreeOf : Files → FileTree → Type 0
-IsTreeOf files tree = (bytes : List ℕ) × IsMainFile files bytes × IsProgram bytes tree
+-- what is kept of a program with these bytes: a tree that they read as, which is one of sums, and code that does what it means;
+-- they have no fault
+pub record IsBuiltOf (bytes : List ℕ) (built : Built) : Type 0 where
+  pub program : IsProgram bytes built.tree
+  pub sound : (fault : FaultOf) → HasFault bytes fault → ⊥
+  pub simulates : Simulates built.tree built.code
 
--- the folder's `main.bal` is no program
-abbrev pub HasNoProgram : Files → Type 0
-HasNoProgram files = (bytes : List ℕ) × IsMainFile files bytes × ((tree : FileTree) → IsProgram bytes tree → ⊥)
+-- a file with these bytes is refused for a fault that it has; it has no other one, and is no program
+pub record IsRefusedSo (bytes : List ℕ) (refusal : Refusal) : Type 0 where
+  pub fault : FaultOf
+  pub has : HasFault bytes fault
+  pub only : (other : FaultOf) → HasFault bytes other → other ≡ fault
+  pub no_program : (tree : FileTree) → IsProgram bytes tree → ⊥
+  pub is : refusal ≡ refusal_of bytes fault
 
 abbrev pub CompilesTo : Option Files → Built → Type 0
-CompilesTo files built = IfSome files (λ all. IsTreeOf all built.tree) × Simulates built.tree built.code
+CompilesTo files built = (bytes : List ℕ) × MainHas files bytes × IsBuiltOf bytes built
+
+-- the refusal is that of the folder's files, as far as they are told: there is no `main.bal`, or it is refused so
+abbrev pub IsRefusalOf : Option Files → Refusal → Type 0
+IsRefusalOf files refusal =
+    ((refusal ≡ no_main) × IfSome files HasNoMain) ⊎ ((bytes : List ℕ) × MainHas files bytes × IsRefusedSo bytes refusal)
 
 abbrev pub Compiled : Option Files → Result Built (Stop LoadFault) → Type 0
 Compiled files (Ok built) = CompilesTo files built
-Compiled files (Err (Fault NoMain)) = IfSome files HasNoMain
-Compiled files (Err (Fault NotOfForm)) = IfSome files HasNoProgram
-Compiled files (Err _) = ⊤
+Compiled files (Err Memory) = ⊤
+Compiled files (Err (Fault Folder)) = ⊤
+Compiled files (Err (Fault (Source refusal))) = IsRefusalOf files refusal
 
 -- the count of faults rose exactly where the folder failed
 abbrev pub CountsFolderFaults : ℕ → ℕ → Result Built (Stop LoadFault) → Type 0
@@ -71,8 +85,8 @@ abbrev pub IsFrontOfMain : Files → Option (Vec ℕ Global) → Type 0
 IsFrontOfMain files (Some front) = (k : ℕ) × IsMainAt files k × IsFrontAt files k (MOST_FILE_BYTES + 1) front.items
 IsFrontOfMain files None = HasNoMain files
 
-abbrev pub IsBuiltFrom : List ℕ → Result Built (Stop LoadFault) → Type 0
-IsBuiltFrom bytes (Ok built) = IsProgram bytes built.tree × Simulates built.tree built.code
+-- the program of a file with these bytes, or its refusal
+abbrev pub IsBuiltFrom : List ℕ → Result Built (Stop Refusal) → Type 0
+IsBuiltFrom bytes (Ok built) = IsBuiltOf bytes built
 IsBuiltFrom bytes (Err Memory) = ⊤
-IsBuiltFrom bytes (Err (Fault NotOfForm)) = (tree : FileTree) → IsProgram bytes tree → ⊥
-IsBuiltFrom bytes (Err _) = ⊥
+IsBuiltFrom bytes (Err (Fault refusal)) = IsRefusedSo bytes refusal

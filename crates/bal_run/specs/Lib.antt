@@ -1,12 +1,11 @@
 pub mod Due
 pub mod Evaluation
 pub mod Files
-pub mod Form
 pub mod Lowering
 pub mod Progress
-pub mod Reading
 pub mod Report
 pub mod Running
+pub mod Source
 pub mod Status
 pub mod Sums
 pub mod Words

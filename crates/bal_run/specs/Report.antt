@@ -3,6 +3,7 @@
 use Rattle.std.specs.Prelude.{◌≡◌, ◌≢◌, ◌⊎◌, ◌++◌, ⊤, ℕ, List, Option}
 use Rattle.bal_io.specs.Content.{Told, Appends, AppendsFront, IsPrefixOf}
 use Rattle.bal_io.specs.Faults.{Rises}
+use Rattle.bal_base.specs.declared.fault.Refusal.{Refusal}
 use Rattle.bal_run.specs.declared.status.Status.{Status}
 use Rattle.bal_run.specs.declared.status.Status.TheVariants.{Done, ErrorReturned, Panicked, Refused, GoesOn, Stalled, FolderFault, InputFault, OutFault, Memory, Words, Limit, DiagFault}
 use Rattle.bal_run.specs.Due.{SinkTells}
@@ -79,6 +80,10 @@ Reports due status before after =
 -- the due status is the answer, unless memory ran out, or the diagnostics failed in its text; a program that is done has none
 abbrev pub ComesTo : Status → Status → Type 0
 ComesTo due status = (status ≡ due) ⊎ ((status ≡ Memory) ⊎ ((status ≡ DiagFault) × (due ≢ Done)))
+
+-- the program is refused so, unless the folder failed, or what else comes in its place
+abbrev pub ComesToRefusal : Refusal → Status → Type 0
+ComesToRefusal refusal status = ComesTo (Refused refusal) status ⊎ ComesTo FolderFault status
 
 -- the count of faults of the diagnostics rose where the status is theirs, and stayed where it is neither theirs nor
 -- want of memory

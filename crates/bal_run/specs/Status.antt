@@ -1,9 +1,8 @@
 -- The numbers and the texts of the statuses.
-use Rattle.std.specs.Prelude.{◌≡◌, ◌⊎◌, ◌++◌, ℕ, List, [], ◌∷◌, Option, Some, None, codes, decimal, encode_utf8_all}
+use Rattle.std.specs.Prelude.{◌≡◌, ◌++◌, ℕ, List, [], ◌∷◌, Option, Some, None, codes, decimal, encode_utf8_all}
 use Rattle.bal_base.specs.FaultCode.{code_number}
 use Rattle.bal_base.specs.declared.fault.FaultCode.{FaultCode}
-use Rattle.bal_base.specs.declared.fault.FaultCode.TheVariants.{NoMain, Syntax}
-use Rattle.bal_base.specs.declared.fault.Kept.TheVariants.{Nothing}
+use Rattle.bal_base.specs.declared.fault.FaultCode.TheVariants.{NotUtf8, BadToken, Syntax, Depth, LeftOut, NotBuilt, NoMain}
 use Rattle.bal_base.specs.declared.fault.Refusal.{Refusal}
 use Rattle.bal_base.specs.declared.place.Place.{Place}
 use Rattle.bal_run.specs.declared.status.Status.{Status}
@@ -24,29 +23,18 @@ exit_status Words = 10
 exit_status (Limit k) = 11
 exit_status DiagFault = 12
 
--- ---- refusals
-
--- there is no public function `main`: it has no place
-abbrev pub no_main : Refusal
-no_main = record { fault = record { code = NoMain; at = None; kept = Nothing }; file = []; line = 0; column = 0 }
-
--- no definition starts at the file's first byte
-abbrev pub not_a_definition : Refusal
-not_a_definition =
-    record {
-      fault = record { code = Syntax; at = Some (record { file = 0; at = 0 }); kept = Nothing };
-      file = codes "main.bal";
-      line = 1;
-      column = 1;
-    }
-
 -- ---- texts
 
--- what the codes say that come so far
+-- what the codes say that come so far, and no other
 abbrev pub Says : FaultCode → List ℕ → Type 0
-Says code words =
-    ((code ≡ NoMain) × (words ≡ codes "no public function main"))
-    ⊎ ((code ≡ Syntax) × (words ≡ codes "not a definition"))
+Says NotUtf8 words = words ≡ codes "not UTF-8"
+Says BadToken words = words ≡ codes "not a token"
+Says Syntax words = words ≡ codes "not a definition"
+Says Depth words = words ≡ codes "nested too deeply"
+Says LeftOut words = words ≡ codes "left out of this profile"
+Says NotBuilt words = words ≡ codes "not built yet"
+Says NoMain words = words ≡ codes "no public function main"
+Says _ words = ⊥
 
 -- the text behind its place, `FILE:LINE:COLUMN: `, where the fault has one
 abbrev pub at_place : Refusal → Option Place → List ℕ → List ℕ

@@ -4,15 +4,17 @@
 //! - [`Status`] and [`status_number`]: how a call ended, and the exit status of a program that ends so.
 //! - [`dir_of`]: the folder that the words of a command name.
 //!
-//! The layers below the call have no crates of their own yet: `reading` makes the tree of a source file,
-//! `lower` its code, `machine` runs code, and `compile` puts the first two together. `report` tells how a call ended.
+//! The layers below the call that have no crates of their own yet: `source` makes the tree of a source file or says
+//! why it is refused, by `form` where it is no program of sums; `lower` makes its code, `compile` puts these together,
+//! and `machine` runs code. `report` tells how a call ended.
 #![tactic(auto)]
 
 mod compile;
+mod form;
 mod lower;
 mod machine;
-mod reading;
 mod report;
+mod source;
 mod status;
 mod top;
 mod words;

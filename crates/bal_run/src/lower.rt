@@ -1,11 +1,9 @@
 //! Lowering: from the tree of a program of sums to its code.
-ghost use Rattle.std.specs.Prelude.{◌≡◌, ◌++◌, ℕ, List, [], ◌∷◌, Ok, IfOk, OnOk, length};
-ghost use Rattle.bal_tree.specs.declared.stmt.Stmt.{Stmt};
-ghost use Rattle.std.specs.List.{AllByRecursion};
+ghost use Rattle.std.specs.Prelude.{◌≡◌, ◌++◌, ℕ, [], ◌∷◌, All, IfOk, OnOk, length};
 ghost use Rattle.bal_run.specs.Lowering.{Simulates, constants_of, sum_code, operator, IsMainOf, StartsAtZero};
 ghost use Rattle.bal_tree.specs.declared.expr.Expr.{Postfix as PostfixExpr};
-ghost use Rattle.bal_run.specs.Evaluation.{IsMain, HasStmts, Prints, PrintsBy};
-ghost use Rattle.bal_run.specs.Sums.{IsSum, IsSumOp, PrintsSum, PrintsSumBy, IsSumProgram};
+ghost use Rattle.bal_run.specs.Evaluation.{HasStmts, Prints, PrintsBy};
+ghost use Rattle.bal_run.specs.Sums.{BodyPrints, CallPrints, DefinePrints, IsSum, IsSumOp, PrintsSum, IsSumProgram};
 ghost use Rattle.stack_code.specs.declared.instr.Constant.TheVariants.{Int as ConstantInt};
 ghost use Rattle.stack_code.specs.declared.instr.Instr.TheVariants.{Const, Native, Pop};
 
@@ -160,7 +158,7 @@ fn main_stmts(tree: &FileTree) -> &[Stmt]
 }
 
 fn function_of(def: &Def) -> &FunctionDef
-    requires { (stmts : List Stmt) × IsMain stmts def.now }
+    requires { DefinePrints (def.now ∷ []) }
     ensures { def.now ≡ Def.Function result.now }
 {
     match def {
@@ -170,8 +168,9 @@ fn function_of(def: &Def) -> &FunctionDef
 }
 
 fn stmts_of(body: &Body) -> &[Stmt]
-    requires { (stmts : List Stmt) × HasStmts body.now stmts }
-    ensures { HasStmts body.now result.now }
+    requires { BodyPrints body.now }
+    ensures has { HasStmts body.now result.now }
+    ensures print { All PrintsSum result.now }
 {
     match body {
         Body::Block { stmts, .. } => stmts.as_slice(),
@@ -196,7 +195,7 @@ fn printed(stmt: &Stmt) -> &Expr
 
 /// The one argument of the call that prints a sum.
 fn argument(call: &Expr) -> &Expr
-    requires { PrintsSumBy call.now }
+    requires { CallPrints call.now }
     ensures prints { PrintsBy call.now result.now }
     ensures sum { IsSum result.now }
 {

@@ -92,8 +92,13 @@ fn words_of(code: FaultCode) -> &'static str
     ensures { Says code result.now }
 {
     match code {
-        FaultCode::NoMain => "no public function main",
+        FaultCode::NotUtf8 => "not UTF-8",
+        FaultCode::BadToken => "not a token",
         FaultCode::Syntax => "not a definition",
+        FaultCode::Depth => "nested too deeply",
+        FaultCode::LeftOut => "left out of this profile",
+        FaultCode::NotBuilt => "not built yet",
+        FaultCode::NoMain => "no public function main",
         _ => unreachable!(),
     }
 }

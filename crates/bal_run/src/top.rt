@@ -1,17 +1,19 @@
 //! The top call.
 ghost use Rattle.std.specs.Prelude.{◌≡◌, ◌<◌, ◌⊎◌, ℕ, List, Some, None, IfOk, IfSome, IfNone, IsSome, IsSomeAnd};
 ghost use Rattle.bal_base.specs.End.{Returned, Panicked};
+ghost use Rattle.bal_base.specs.declared.fault.Fault.{Fault as FaultOf};
+ghost use Rattle.bal_base.specs.declared.fault.FaultCode.TheVariants.{NotUtf8, BadToken, Syntax, Depth, LeftOut, NotBuilt, NoMain};
 ghost use Rattle.bal_base.specs.declared.fault.Refusal.{Refusal as Refused};
 ghost use Rattle.bal_io.specs.Faults.{Rises};
-ghost use Rattle.bal_tree.specs.declared.def.FileTree.{FileTree};
-ghost use Rattle.bal_run.specs.Due.{CameToEnd, IsBeforeRun, IsRefusalOf, RunStopped, StatusIsDue, WroteFrontOf, folder_tells, outside, sink_tells, status_of};
+ghost use Rattle.bal_run.specs.Due.{CameToEnd, IsAsked, IsBeforeRun, MainIsRefused, RefusedWith, RunStopped, StatusIsDue, WroteFrontOf, folder_tells, outside, sink_tells, status_of};
 ghost use Rattle.bal_run.specs.Evaluation.{Evaluates};
-ghost use Rattle.bal_run.specs.Files.{Files, CompilesTo, HasNoMain, HasNoProgram, IsTreeOf};
+ghost use Rattle.bal_run.specs.Files.{Files, CompilesTo, HasNoMain, IsRefusalOf};
 ghost use Rattle.bal_run.specs.Lowering.{Simulates};
 ghost use Rattle.bal_run.specs.Progress.{CameSoFar, StoppedInPrint};
-ghost use Rattle.bal_run.specs.Report.{CanReport, ComesTo, CountsDiagFaults, IsToldWhole, Reports, WroteFrontOfSomeText, WroteFrontsOfSomeTexts, WroteText};
-ghost use Rattle.bal_run.specs.Work.{IsRefusedOr, IsStatusOfLoad, IsStatusOfRun};
-ghost use Rattle.bal_run.specs.Status.{no_main, not_a_definition};
+ghost use Rattle.bal_run.specs.Report.{CanReport, ComesTo, ComesToRefusal, CountsDiagFaults, IsToldWhole, Reports, WroteFrontOfSomeText, WroteFrontsOfSomeTexts, WroteText};
+ghost use Rattle.bal_run.specs.Source.{Broken, IsNotBuilt, LacksMain, NotText, NotTokens, ReadsWith, TooDeep, TooLong, no_main, not_built, refusal_of};
+ghost use Rattle.bal_run.specs.Sums.{IsSumProgram};
+ghost use Rattle.bal_run.specs.Work.{IsStatusOfLoad, IsStatusOfRun};
 ghost use Rattle.bal_run.specs.Words.{IsGood};
 ghost use Rattle.bal_run.specs.declared.status.Status.{Status as AnyStatus};
 ghost use Rattle.stack_code.specs.Outcome.{Outcome, nothing};
@@ -21,7 +23,7 @@ use crate::machine::{Ending, run};
 use crate::report::report;
 use crate::status::{Built, Run, Status};
 use crate::words::is_good;
-use bal_base::{Failed, Fault, FaultCode, Kept, Memory, Name, Place, Refusal, Stop};
+use bal_base::{Failed, Stop};
 use bal_io::{Folder, Sink, Source};
 use std::alloc::Global;
 
@@ -48,7 +50,7 @@ pub fn bal_run<F: Folder, I: Source, O: Sink, E: Sink>(
 
     // What was built.
     ensures built { IfSome result.built (CompilesTo (F.files folder.old)) }
-    ensures built_due { IsGood words.now → (files : Files) (tree : FileTree) → F.files folder.old ≡ Some files → IsTreeOf files tree
+    ensures built_due { (bytes : List ℕ) → IsAsked words.now (F.files folder.old) bytes → ReadsWith bytes IsSumProgram
         → IsSome result.built ⊎ ComesTo Status.FolderFault result.status }
 
     // How far the code ran, and what was written by then.
@@ -74,13 +76,37 @@ pub fn bal_run<F: Folder, I: Source, O: Sink, E: Sink>(
     // Each cause, both ways. A cause comes to its status, unless the diagnostics fail or memory runs out.
     ensures words { result.status ≡ Status.Words → IsGood words.now → ⊥ }
     ensures words_due { (IsGood words.now → ⊥) → ComesTo Status.Words result.status }
-    ensures refused { (r : Refused) → result.status ≡ Status.Refused r → IsRefusalOf (F.files folder.old) r }
-    ensures no_main_due { IsGood words.now → (files : Files) → F.files folder.old ≡ Some files → HasNoMain files
-        → ComesTo (Status.Refused no_main) result.status ⊎ ComesTo Status.FolderFault result.status }
-    ensures no_program_due { IsGood words.now → (files : Files) → F.files folder.old ≡ Some files → HasNoProgram files
-        → ComesTo (Status.Refused not_a_definition) result.status ⊎ ComesTo Status.FolderFault result.status }
     ensures folder_fault { result.status ≡ Status.FolderFault → Rises (F.faults folder.old) (F.faults folder.new) }
     ensures folder_due { F.faults folder.old < F.faults folder.new → ComesTo Status.FolderFault result.status }
+
+    // Why a program is refused: there is no `main.bal`, or that has a fault. Each both ways, with its code and its place.
+    ensures refused { (r : Refused) → result.status ≡ Status.Refused r → IsRefusalOf (F.files folder.old) r }
+    ensures no_file_due { IsGood words.now → (files : Files) → F.files folder.old ≡ Some files → HasNoMain files
+        → ComesToRefusal no_main result.status }
+    ensures not_text { (r : Refused) → RefusedWith NotUtf8 result.status r → MainIsRefused (F.files folder.old) r NotText }
+    ensures not_text_due { (bytes : List ℕ) (fault : FaultOf) → IsAsked words.now (F.files folder.old) bytes → NotText bytes fault
+        → ComesToRefusal (refusal_of bytes fault) result.status }
+    ensures bad_token { (r : Refused) → RefusedWith BadToken result.status r → MainIsRefused (F.files folder.old) r NotTokens }
+    ensures left_out { (r : Refused) → RefusedWith LeftOut result.status r → MainIsRefused (F.files folder.old) r NotTokens }
+    ensures not_tokens_due { (bytes : List ℕ) (fault : FaultOf) → IsAsked words.now (F.files folder.old) bytes → NotTokens bytes fault
+        → ComesToRefusal (refusal_of bytes fault) result.status }
+    ensures too_deep { (r : Refused) → RefusedWith Depth result.status r → MainIsRefused (F.files folder.old) r TooDeep }
+    ensures too_deep_due { (bytes : List ℕ) (fault : FaultOf) → IsAsked words.now (F.files folder.old) bytes → TooDeep bytes fault
+        → ComesToRefusal (refusal_of bytes fault) result.status }
+    ensures syntax { (r : Refused) → RefusedWith Syntax result.status r
+        → MainIsRefused (F.files folder.old) r (λ bytes fault. TooLong bytes fault ⊎ Broken bytes fault) }
+    ensures too_long_due { (bytes : List ℕ) (fault : FaultOf) → IsAsked words.now (F.files folder.old) bytes → TooLong bytes fault
+        → ComesToRefusal (refusal_of bytes fault) result.status }
+    ensures broken_due { (bytes : List ℕ) (fault : FaultOf) → IsAsked words.now (F.files folder.old) bytes → Broken bytes fault
+        → ComesToRefusal (refusal_of bytes fault) result.status }
+    ensures no_main { (r : Refused) → RefusedWith NoMain result.status r
+        → (r ≡ no_main) × (IfSome (F.files folder.old) HasNoMain ⊎ MainIsRefused (F.files folder.old) r (λ bytes fault. ReadsWith bytes LacksMain)) }
+    ensures no_main_due { (bytes : List ℕ) → IsAsked words.now (F.files folder.old) bytes → ReadsWith bytes LacksMain
+        → ComesToRefusal no_main result.status }
+    ensures not_built { (r : Refused) → RefusedWith NotBuilt result.status r
+        → (r ≡ not_built) × MainIsRefused (F.files folder.old) r (λ bytes fault. ReadsWith bytes IsNotBuilt) }
+    ensures not_built_due { (bytes : List ℕ) → IsAsked words.now (F.files folder.old) bytes → ReadsWith bytes IsNotBuilt
+        → ComesToRefusal not_built result.status }
 
     // The output failed in a print: at that state's step, having written no more than a first part of it.
     ensures out_fault { result.status ≡ Status.OutFault → Rises (O.faults out.old) (O.faults out.new) }
@@ -125,7 +151,7 @@ fn work<F: Folder, O: Sink>(alloc: Global, words: &[String], folder: &mut F, out
     }
     match compile(alloc, folder) {
         Ok(built) => execute(alloc, built, out),
-        Err(stop) => not_run(load_status(alloc, stop)),
+        Err(stop) => not_run(load_status(stop)),
     }
 }
 
@@ -172,55 +198,12 @@ fn run_status(end: Result<Ending, Stop<Failed>>) -> Status
 }
 
 /// The status of a folder that does not compile.
-fn load_status(alloc: Global, stop: Stop<LoadFault>) -> Status
-    ensures status { IsStatusOfLoad stop result }
-    ensures text { CanReport result }
+fn load_status(stop: Stop<LoadFault>) -> Status
+    ensures { IsStatusOfLoad stop result }
 {
     match stop {
         Stop::Memory => Status::Memory,
         Stop::Fault(LoadFault::Folder) => Status::FolderFault,
-        Stop::Fault(LoadFault::NoMain) => refused(no_main(alloc)),
-        Stop::Fault(LoadFault::NotOfForm) => refused(not_a_definition(alloc)),
+        Stop::Fault(LoadFault::Source(refusal)) => Status::Refused(refusal),
     }
-}
-
-fn refused(refusal: Result<Refusal, Memory>) -> Status
-    ensures { IsRefusedOr refusal result }
-{
-    match refusal {
-        Ok(refusal) => Status::Refused(refusal),
-        Err(Memory) => Status::Memory,
-    }
-}
-
-/// There is no file with a public function `main`.
-fn no_main(alloc: Global) -> Result<Refusal, Memory>
-    ensures { IfOk result (λ refusal. refusal ≡ no_main) }
-{
-    Ok(Refusal {
-        fault: Fault {
-            code: FaultCode::NoMain,
-            at: None,
-            kept: Kept::Nothing,
-        },
-        file: Name::new(alloc, "")?,
-        line: 0,
-        column: 0,
-    })
-}
-
-/// `main.bal` is not of the form, which shows at its first byte.
-fn not_a_definition(alloc: Global) -> Result<Refusal, Memory>
-    ensures { IfOk result (λ refusal. refusal ≡ not_a_definition) }
-{
-    Ok(Refusal {
-        fault: Fault {
-            code: FaultCode::Syntax,
-            at: Some(Place { file: 0, at: 0 }),
-            kept: Kept::Nothing,
-        },
-        file: Name::new(alloc, "main.bal")?,
-        line: 1,
-        column: 1,
-    })
 }

@@ -1,10 +1,6 @@
-use Rattle.std.proofs.Common.{subst}
-use Rattle.std.specs.Prelude.{IfNone}
-use Rattle.bal_tree.specs.declared.def.FileTree.{FileTree}
-use Rattle.bal_run.specs.Form.{FileReads}
+use Rattle.bal_run.proofs.Compiling.{refused-bytes}
 use Rattle.bal_run.proofs.compile.program.Goals as goal
 
-pub returns-in_default : goal.returns-in_default
-returns-in_default c =
-    let none = subst (λ o. IfNone o ((tree : FileTree) → FileReads c.args.bytes.now tree → ⊥)) c.in_default.is c.in_ok-tree.ensures.none in
-    λ tree p. none tree p.1
+pub returns-in-Err : goal.returns-in-Err
+returns-in-Err c =
+    refused-bytes c.args.bytes.now c.in-Err.fault c.refusal.result c.stop.result c.in-Err.ensures.refused c.refusal.ensures c.stop.ensures

@@ -1,4 +1,4 @@
-use Rattle.std.proofs.Common.{◌≡◌, ◌∷◌, ◌++◌, [], codes, decimal, string_bytes, sym, ap, subst, ◌∙◌}
+use Rattle.std.proofs.Common.{◌≡◌, ◌∷◌, ◌++◌, [], codes, decimal, string_bytes, sym, subst, ◌∙◌}
 use Rattle.bal_base.specs.FaultCode.{code_number}
 use Rattle.bal_run.specs.Status.{at_place}
 use Rattle.bal_run.proofs.Texts.{bytes-of}

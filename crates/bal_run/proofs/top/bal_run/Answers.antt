@@ -1,10 +1,12 @@
-use Rattle.std.proofs.Common.{inl, inr, ⊎_elim}
+use Rattle.std.proofs.Common.{inl, inr, ⊎_elim, refl}
 use Rattle.bal_base.specs.End.{Returned, Panicked as PanickedEnd}
 use Rattle.bal_run.specs.Evaluation.{Evaluates}
 use Rattle.stack_code.specs.Outcome.{nothing}
-use Rattle.bal_run.specs.Status.{no_main, not_a_definition}
+use Rattle.bal_base.specs.declared.fault.FaultCode.TheVariants.{NotUtf8, BadToken, Syntax, Depth, LeftOut, NotBuilt, NoMain}
+use Rattle.bal_run.specs.Source.{fault_of, no_main, not_built, refusal_of}
 use Rattle.bal_run.specs.declared.status.Status.TheVariants.{Done, Panicked, Refused, FolderFault, OutFault, Words}
-use Rattle.bal_run.proofs.DueStatus.{built-compiles, built-due, built-front, built-progress, built-turns, due-again, end-due, ended-so, folder-rose, no-main-due, no-program-due, nothing-ran, only-folder, only-out, only-words, out-failed, refusal, unbuilt-steps, unbuilt-turns, unbuilt-written, words-bad}
+use Rattle.bal_run.proofs.DueStatus.{built-compiles, built-due, built-front, built-progress, built-turns, due-again, end-due, ended-so, fault-due, folder-rose, no-file-due, nothing-ran, only-folder, only-out, only-words, out-failed, refusal, unbuilt-steps, unbuilt-turns, unbuilt-written, words-bad}
+use Rattle.bal_run.proofs.Refusals.{main-missing, main-refused, not-built-yet}
 use Rattle.bal_run.proofs.Reporting.{before-run-due, come-or-fail, come-or-memory, comes-from, counts, diag-fault-text, done-text, due-is, end-comes, memory-text, whole-text}
 use Rattle.bal_run.proofs.top.bal_run.Goals as goal
 
@@ -32,9 +34,6 @@ returns-clause-unbuilt_steps g c = unbuilt-steps _ _ _ _ _ c.work-due.ensures.du
 pub returns-clause-unbuilt_turns : goal.returns-clause-unbuilt_turns
 returns-clause-unbuilt_turns g c = unbuilt-turns _ _ _ _ _ c.work-due.ensures.due
 
-pub returns-clause-built_due : goal.returns-clause-built_due
-returns-clause-built_due g c = λ good files tree told is. ⊎_elim (λ b. inl b) (λ q. inr (come-or-memory _ _ _ _ c.report-status.ensures FolderFault q)) (built-due _ _ _ _ _ c.work-due.ensures.due files tree told good is)
-
 pub returns-clause-before_run : goal.returns-clause-before_run
 returns-clause-before_run g c = λ h. (nothing-ran _ _ _ _ _ c.work-due.ensures.due (before-run-due _ _ _ _ c.report-status.ensures h)).built
 
@@ -55,15 +54,6 @@ returns-clause-words g c = λ e. words-bad _ _ _ _ _ c.work-due.ensures.due (due
 
 pub returns-clause-words_due : goal.returns-clause-words_due
 returns-clause-words_due g c = λ bad. comes-from _ _ _ _ c.report-status.ensures Words (only-words _ _ _ _ _ c.work-due.ensures.due bad)
-
-pub returns-clause-refused : goal.returns-clause-refused
-returns-clause-refused g c = λ r e. refusal _ _ _ _ _ c.work-due.ensures.due r (due-is _ _ _ _ c.report-status.ensures (Refused r) (λ f. let bad : ⊥ = cc in bad) (λ f. let bad : ⊥ = cc in bad) e)
-
-pub returns-clause-no_main_due : goal.returns-clause-no_main_due
-returns-clause-no_main_due g c = λ good files told none. come-or-fail _ _ _ _ c.report-status.ensures (Refused no_main) (no-main-due _ _ _ _ _ c.work-due.ensures.due files told good none)
-
-pub returns-clause-no_program_due : goal.returns-clause-no_program_due
-returns-clause-no_program_due g c = λ good files told none. come-or-fail _ _ _ _ c.report-status.ensures (Refused not_a_definition) (no-program-due _ _ _ _ _ c.work-due.ensures.due files told good none)
 
 pub returns-clause-folder_fault : goal.returns-clause-folder_fault
 returns-clause-folder_fault g c = λ e. folder-rose _ _ _ _ _ c.work-due.ensures.due (due-is _ _ _ _ c.report-status.ensures FolderFault (λ f. let bad : ⊥ = cc in bad) (λ f. let bad : ⊥ = cc in bad) e)
@@ -97,3 +87,54 @@ returns-clause-diag_fault_text g c = diag-fault-text _ _ _ _ c.report-status.ens
 
 pub returns-clause-memory_text : goal.returns-clause-memory_text
 returns-clause-memory_text g c = memory-text _ _ _ _ c.report-status.ensures
+
+pub returns-clause-built_due : goal.returns-clause-built_due
+returns-clause-built_due g c = λ bytes asked is. ⊎_elim (λ b. inl b) (λ q. inr (come-or-memory _ _ _ _ c.report-status.ensures FolderFault q)) (built-due _ _ _ _ _ c.work-due.ensures.due bytes asked is)
+
+pub returns-clause-refused : goal.returns-clause-refused
+returns-clause-refused g c = λ r e. refusal _ _ _ _ _ c.work-due.ensures.due r (due-is _ _ _ _ c.report-status.ensures (Refused r) (λ f. let bad : ⊥ = cc in bad) (λ f. let bad : ⊥ = cc in bad) e)
+
+pub returns-clause-no_file_due : goal.returns-clause-no_file_due
+returns-clause-no_file_due g c = λ good files told none. come-or-fail _ _ _ _ c.report-status.ensures (Refused no_main) (no-file-due _ _ _ _ _ c.work-due.ensures.due files told good none)
+
+pub returns-clause-not_text : goal.returns-clause-not_text
+returns-clause-not_text g c = λ r h. main-refused _ r NotUtf8 (refusal _ _ _ _ _ c.work-due.ensures.due r (due-is _ _ _ _ c.report-status.ensures (Refused r) (λ f. let bad : ⊥ = cc in bad) (λ f. let bad : ⊥ = cc in bad) h.0)) h.1 (λ e. let bad : ⊥ = cc in bad)
+
+pub returns-clause-bad_token : goal.returns-clause-bad_token
+returns-clause-bad_token g c = λ r h. main-refused _ r BadToken (refusal _ _ _ _ _ c.work-due.ensures.due r (due-is _ _ _ _ c.report-status.ensures (Refused r) (λ f. let bad : ⊥ = cc in bad) (λ f. let bad : ⊥ = cc in bad) h.0)) h.1 (λ e. let bad : ⊥ = cc in bad)
+
+pub returns-clause-left_out : goal.returns-clause-left_out
+returns-clause-left_out g c = λ r h. main-refused _ r LeftOut (refusal _ _ _ _ _ c.work-due.ensures.due r (due-is _ _ _ _ c.report-status.ensures (Refused r) (λ f. let bad : ⊥ = cc in bad) (λ f. let bad : ⊥ = cc in bad) h.0)) h.1 (λ e. let bad : ⊥ = cc in bad)
+
+pub returns-clause-too_deep : goal.returns-clause-too_deep
+returns-clause-too_deep g c = λ r h. main-refused _ r Depth (refusal _ _ _ _ _ c.work-due.ensures.due r (due-is _ _ _ _ c.report-status.ensures (Refused r) (λ f. let bad : ⊥ = cc in bad) (λ f. let bad : ⊥ = cc in bad) h.0)) h.1 (λ e. let bad : ⊥ = cc in bad)
+
+pub returns-clause-syntax : goal.returns-clause-syntax
+returns-clause-syntax g c = λ r h. main-refused _ r Syntax (refusal _ _ _ _ _ c.work-due.ensures.due r (due-is _ _ _ _ c.report-status.ensures (Refused r) (λ f. let bad : ⊥ = cc in bad) (λ f. let bad : ⊥ = cc in bad) h.0)) h.1 (λ e. let bad : ⊥ = cc in bad)
+
+pub returns-clause-no_main : goal.returns-clause-no_main
+returns-clause-no_main g c = λ r h. main-missing _ r (refusal _ _ _ _ _ c.work-due.ensures.due r (due-is _ _ _ _ c.report-status.ensures (Refused r) (λ f. let bad : ⊥ = cc in bad) (λ f. let bad : ⊥ = cc in bad) h.0)) h.1
+
+pub returns-clause-not_built : goal.returns-clause-not_built
+returns-clause-not_built g c = λ r h. not-built-yet _ r (main-refused _ r NotBuilt (refusal _ _ _ _ _ c.work-due.ensures.due r (due-is _ _ _ _ c.report-status.ensures (Refused r) (λ f. let bad : ⊥ = cc in bad) (λ f. let bad : ⊥ = cc in bad) h.0)) h.1 (λ e. let bad : ⊥ = cc in bad))
+
+pub returns-clause-too_long_due : goal.returns-clause-too_long_due
+returns-clause-too_long_due g c = λ bytes fault asked h. come-or-fail _ _ _ _ c.report-status.ensures (Refused (refusal_of bytes fault)) (fault-due _ _ _ _ _ c.work-due.ensures.due bytes asked fault (inl (inl h)))
+
+pub returns-clause-not_text_due : goal.returns-clause-not_text_due
+returns-clause-not_text_due g c = λ bytes fault asked h. come-or-fail _ _ _ _ c.report-status.ensures (Refused (refusal_of bytes fault)) (fault-due _ _ _ _ _ c.work-due.ensures.due bytes asked fault (inl (inr (inl h))))
+
+pub returns-clause-not_tokens_due : goal.returns-clause-not_tokens_due
+returns-clause-not_tokens_due g c = λ bytes fault asked h. come-or-fail _ _ _ _ c.report-status.ensures (Refused (refusal_of bytes fault)) (fault-due _ _ _ _ _ c.work-due.ensures.due bytes asked fault (inl (inr (inr (inl h)))))
+
+pub returns-clause-too_deep_due : goal.returns-clause-too_deep_due
+returns-clause-too_deep_due g c = λ bytes fault asked h. come-or-fail _ _ _ _ c.report-status.ensures (Refused (refusal_of bytes fault)) (fault-due _ _ _ _ _ c.work-due.ensures.due bytes asked fault (inl (inr (inr (inr (inl h))))))
+
+pub returns-clause-broken_due : goal.returns-clause-broken_due
+returns-clause-broken_due g c = λ bytes fault asked h. come-or-fail _ _ _ _ c.report-status.ensures (Refused (refusal_of bytes fault)) (fault-due _ _ _ _ _ c.work-due.ensures.due bytes asked fault (inl (inr (inr (inr (inr h))))))
+
+pub returns-clause-no_main_due : goal.returns-clause-no_main_due
+returns-clause-no_main_due g c = λ bytes asked h. come-or-fail _ _ _ _ c.report-status.ensures (Refused no_main) (fault-due _ _ _ _ _ c.work-due.ensures.due bytes asked (fault_of NoMain) (inr (inl (h, refl))))
+
+pub returns-clause-not_built_due : goal.returns-clause-not_built_due
+returns-clause-not_built_due g c = λ bytes asked h. come-or-fail _ _ _ _ c.report-status.ensures (Refused not_built) (fault-due _ _ _ _ _ c.work-due.ensures.due bytes asked (fault_of NotBuilt) (inr (inr (h, refl))))

@@ -1,7 +1,7 @@
 use Rattle.std.proofs.Common.{sym, ap, subst, inr}
 use Rattle.bal_run.specs.declared.status.Run.{Run}
 use Rattle.bal_run.specs.Report.{CanReport}
-use Rattle.bal_run.proofs.Texts.{words-can-report}
+use Rattle.bal_run.proofs.Texts.{load-can-report, words-can-report}
 use Rattle.bal_run.proofs.top.work.Goals as goal
 
 pub returns-then-not-is_good-clause-text : goal.returns-then-not-is_good-clause-text
@@ -18,3 +18,8 @@ returns-in-Ok-clause-due g c =
       compiled = c.in-Ok.ensures.compiled;
       turns = c.execute.ensures.turns;
     }))
+
+pub returns-in-Err-clause-text : goal.returns-in-Err-clause-text
+returns-in-Err-clause-text g c =
+    subst CanReport (sym (ap (λ (r : Run). r.status) c.not_run-in-Err.ensures))
+    (load-can-report (g.F.Folder.files c.args.folder.now) c.in-Err.stop c.load_status.result c.in-Err.ensures.compiled c.load_status.ensures)

@@ -1,0 +1,234 @@
+-- What `lex` and `parse_file` say, as the reading of a text.
+use Rattle.std.proofs.Common.{◌≡◌, ◌<◌, ◌⊎◌, ℕ, List, [], ◌∷◌, Option, Some, None, refl, sym, ap, subst, ◌∙◌, inl, inr, ⊎_elim, arith, chars}
+use Rattle.std.specs.Prelude.{IfOk, IfSome, IsSomeAnd, Result, Ok, Err, Any, drop, length}
+use Rattle.std.specs.Str.{IsCharBoundary}
+use Rattle.bal_base.specs.Stops.{IfFault}
+use Rattle.bal_base.specs.declared.fault.Fault.{Fault as FaultOf}
+use Rattle.bal_base.specs.declared.fault.FaultCode.{FaultCode}
+use Rattle.bal_base.specs.declared.stop.Stop.{Stop}
+use Rattle.bal_base.specs.declared.stop.Stop.TheVariants.{Memory, Fault}
+use Rattle.bal_base.specs.declared.place.Place.{Place}
+use Rattle.bal_base.specs.declared.token.Token.{Token}
+use Rattle.bal_lexer.specs.Lexes.{Lexes, AreSpans, IsFaultAt, IsRefusal, StandsIn}
+use Rattle.bal_lexer.proofs.Readings.{lexes-same, lexes-no_refusal, refuses-same}
+use Rattle.bal_tree.specs.declared.def.FileTree.{FileTree}
+use Rattle.bal_tree.specs.Reads.{Reads}
+use Rattle.bal_tree.specs.Spells.{kinds_of}
+use Rattle.parse_types.specs.Nesting.{first_too_deep}
+use Rattle.parse_types.specs.Starts.{refusal}
+use Rattle.bal_base.specs.declared.fault.FaultCode.TheVariants.{Depth, NoMain, NotBuilt}
+use Rattle.bal_tree.specs.Spells.{first_place}
+use Rattle.parse_stmt.specs.Starts.{IsBroken, IsFileTooDeep, IsNotRefused, IsRefused, front_pieces}
+use Rattle.bal_run.specs.Source.{HasFault, HasNoTree, HasTokens, IsPlaced, IsText, LacksMain, NotText, NotTokens, ReadsAs, TooLong, fault_at, fault_of}
+use Rattle.bal_tree.specs.declared.def.Def.{Def}
+use Rattle.bal_tree.specs.declared.def.Def.TheVariants.{Function}
+use Rattle.bal_run.specs.Sums.{DefinePrints, HasMain, IsPublicMain, IsSumProgram}
+use Rattle.bal_run.specs.Work.{IsReading, IsTreeReading}
+use Rattle.bal_run.proofs.OneReading.{OneReading, one-reading}
+use Rattle.bal_run.proofs.TokenPlaces.{AreTokens, of-spans, behind-pieces, behind-some, first-placed}
+
+-- ---- programs of sums have a public `main`
+
+main-first : (defs : List Def) → DefinePrints defs → Any IsPublicMain defs
+main-first (Function f ∷ []) h = (0, Function f, omega arith, refl, h.0)
+main-first defs h = absurd h
+
+sums-have-main : (tree : FileTree) → IsSumProgram tree → HasMain tree
+sums-have-main tree h = main-first tree.defs.items h.1
+
+-- ---- texts are read in one way
+
+short-text : (text : List ℕ) (f : FaultOf) → IsText text → TooLong text f → ⊥
+short-text text f t long = let short = t.0 in let more = long.0 in omega arith
+
+is-text : (text : List ℕ) (f : FaultOf) → IsText text → NotText text f → ⊥
+is-text text f t not = not.1 t.1
+
+fault-is : (f : FaultOf) (code : FaultCode) (at : ℕ) → IsFaultAt 0 code at f → f ≡ fault_at code at
+fault-is f code at h = λ i. record { code = h.0 i; at = h.1 i; kept = h.2 i }
+
+-- ---- where `lex` refuses
+
+module _ (text : List ℕ) (t : IsText text) where
+  lex-fault : (f : FaultOf) → IsRefusal (chars text) 0 f → NotTokens text f
+  lex-fault f r = (t, (f.code, r.0, r.1, fault-is f f.code r.0 r.2))
+
+  -- and no other fault is due
+  lex-only : (f g : FaultOf) → IsRefusal (chars text) 0 f → HasNoTree text g → f ≡ g
+  lex-only f g r (inl long) = absurd (short-text text g t long)
+  lex-only f g r (inr (inl not)) = absurd (is-text text g t not)
+  lex-only f g r (inr (inr (inl n))) =
+      let other = n.1 in
+      let same = refuses-same r.1 other.2 in
+      fault-is f f.code r.0 r.2 ∙ ((λ i. fault_at (same.0 i) (same.1 i)) ∙ sym other.3)
+  lex-only f g r (inr (inr (inr (inl d)))) = absurd (lexes-no_refusal d.1.1 r.1)
+  lex-only f g r (inr (inr (inr (inr b)))) = absurd (lexes-no_refusal b.1.1 r.1)
+
+  small : length text < 4294967295
+  small = let short = t.0 in omega arith
+
+  lex-placed : (f : FaultOf) → StandsIn text f → IsPlaced text f
+  lex-placed f h = by f.at h
+    where
+      by : (o : Option Place) → IsSomeAnd o (λ (place : Place). (place.at < length text) × IsCharBoundary text place.at) → IfSome o (λ (place : Place). IsCharBoundary text place.at × (place.at < 4294967295))
+      by (Some p) h = (h.1, let before = h.0 in let most = small in omega arith)
+      by None h = tt
+
+  pub lex-refuses : (r : Result FileTree (Stop FaultOf)) (f : FaultOf) → r ≡ Err (Fault f) → IsRefusal (chars text) 0 f → StandsIn text f → IsTreeReading text r
+  lex-refuses r f e is at =
+      subst (IsTreeReading text) (sym e) (record {
+        reads = tt;
+        fault = inr (inr (inl (lex-fault f is)));
+        placed = lex-placed f at;
+        fault_due = λ g due. lex-only f g is due;
+        tree_due = λ tree h. absurd (lexes-no_refusal h.are.1 is.1);
+      })
+
+  -- ---- where `parse_file` answers
+
+  module _ (tokens : List Token) (are : Lexes (chars text) tokens) where
+    same-tokens : (others : List Token) → HasTokens text others → others ≡ tokens
+    same-tokens others h = lexes-same h.1 are
+
+    parsed-fault : (f : FaultOf) → IsFileTooDeep 0 tokens f ⊎ IsBroken 0 tokens f → HasNoTree text f
+    parsed-fault f (inl d) = inr (inr (inr (inl (tokens, (t, are), d))))
+    parsed-fault f (inr b) = inr (inr (inr (inr (tokens, (t, are), b))))
+
+    one-depth : (f g : FaultOf) → IsFileTooDeep 0 tokens f → IsFileTooDeep 0 tokens g → f ≡ g
+    one-depth f g (i, d, e) (j, c, h) =
+        let both : Some i ≡ Some j = sym d ∙ c in
+        let same : i ≡ j = cc in
+        e ∙ (ap (λ k. refusal Depth (first_place 0 (drop k tokens))) same ∙ sym h)
+
+    deep-or-not : (f : FaultOf) → IsFileTooDeep 0 tokens f → first_too_deep (kinds_of tokens) ≡ None → ⊥
+    deep-or-not f (i, some, e) none = let both : Some i ≡ None = sym some ∙ none in let bad : ⊥ = cc in bad
+
+    -- a tree of the text is one of these tokens
+    read-here : (tree : FileTree) → ReadsAs text tree → Reads 0 tokens tree × (first_too_deep (kinds_of tokens) ≡ None)
+    read-here tree h =
+        let same = same-tokens h.tokens h.are in
+        (subst (λ l. Reads 0 l tree) same h.reads, subst (λ l. first_too_deep (kinds_of l) ≡ None) same h.shallow)
+
+    -- what is due of a text with these tokens is due of them
+    due-here : (g : FaultOf) → HasNoTree text g → IsFileTooDeep 0 tokens g ⊎ IsBroken 0 tokens g
+    due-here g (inl long) = absurd (short-text text g t long)
+    due-here g (inr (inl not)) = absurd (is-text text g t not)
+    due-here g (inr (inr (inl n))) = absurd (lexes-no_refusal are n.1.2)
+    due-here g (inr (inr (inr (inl d)))) = inl (subst (λ l. IsFileTooDeep 0 l g) (same-tokens d.0 d.1) d.2)
+    due-here g (inr (inr (inr (inr b)))) = inr (subst (λ l. IsBroken 0 l g) (same-tokens b.0 b.1) b.2)
+
+    are-tokens : AreSpans text 0 tokens → AreTokens text tokens
+    are-tokens h = of-spans text 0 tokens h
+
+    parsed-placed : (f : FaultOf) → AreSpans text 0 tokens → IsFileTooDeep 0 tokens f ⊎ IsBroken 0 tokens f → IsPlaced text f
+    parsed-placed f spans (inl d) =
+        subst (IsPlaced text) (sym d.2) (first-placed text (drop d.0 tokens) t.1 small (behind-some text d.0 tokens (are-tokens spans)))
+    parsed-placed f spans (inr b) =
+        subst (IsPlaced text) (sym b.1.2) (first-placed text b.1.0 t.1 small (behind-pieces text 0 (front_pieces b.1.1.imports b.1.1.defs) tokens b.1.0 b.1.1.spells (are-tokens spans)))
+
+    pub parses :
+        (r : Result FileTree (Stop FaultOf)) → AreSpans text 0 tokens → IfOk r (Reads 0 tokens)
+        → IfOk r (λ tree. first_too_deep (kinds_of tokens) ≡ None)
+        → IfFault r (λ f. IsFileTooDeep 0 tokens f ⊎ IsBroken 0 tokens f)
+        → ((f : FaultOf) → IsBroken 0 tokens f → IsRefused r f)
+        → ((tree : FileTree) → Reads 0 tokens tree → first_too_deep (kinds_of tokens) ≡ None → IsNotRefused r)
+        → IsTreeReading text r
+    parses (Ok tree) spans reads none refused exact complete =
+        record {
+          reads = record { tokens = tokens; are = (t, are); shallow = none; reads = reads };
+          fault = tt;
+          placed = tt;
+          fault_due = λ g due. ⊎_elim (λ d. deep-or-not g d none) (λ b. exact g b) (due-here g due);
+          tree_due = λ other h. tt;
+        }
+    parses (Err Memory) spans reads none refused exact complete =
+        record { reads = tt; fault = tt; placed = tt; fault_due = λ g due. tt; tree_due = λ other h. tt }
+    parses (Err (Fault f)) spans reads none refused exact complete =
+        record {
+          reads = tt;
+          fault = parsed-fault f refused;
+          placed = parsed-placed f spans refused;
+          fault_due = λ g due. ⊎_elim (λ d. ⊎_elim (λ e. one-depth f g e d) (λ b. absurd (deep-or-not g d b.0)) refused) (λ b. exact g b) (due-here g due);
+          tree_due = λ other h. let here = read-here other h in complete other here.0 here.1;
+        }
+
+-- ---- and then as a program
+
+-- two trees of a text are trees of the same tokens
+same-kinds : (text : List ℕ) (t u : FileTree) → ReadsAs text t → ReadsAs text u → OneReading t u
+same-kinds text t u h k =
+    one-reading h.tokens t u h.reads (subst (λ l. Reads 0 l u) (lexes-same k.are.1 h.are.1) k.reads)
+
+module _ (text : List ℕ) where
+  -- both have a public `main`, or none has; both are of sums, or none is
+  main-in-both : (t u : FileTree) → ReadsAs text t → ReadsAs text u → HasMain t → HasMain u
+  main-in-both t u h k = (same-kinds text t u h k).main
+
+  sums-in-both : (t u : FileTree) → ReadsAs text t → ReadsAs text u → IsSumProgram t → IsSumProgram u
+  sums-in-both t u h k = (same-kinds text t u h k).sums
+
+  stopped : (stop : Stop FaultOf) → IsTreeReading text (Err stop) → IsReading text (Err stop)
+  stopped Memory h = record { program = tt; fault = tt; placed = tt; fault_due = λ g due. tt; program_due = λ tree is. tt }
+  stopped (Fault f) h =
+      record {
+        program = tt;
+        fault = inl h.fault;
+        placed = h.placed;
+        fault_due = due;
+        program_due = λ tree is. h.tree_due tree is.0;
+      }
+    where
+      due : (g : FaultOf) → HasFault text g → f ≡ g
+      due g (inl none) = h.fault_due g none
+      due g (inr (inl (read, e))) = absurd (h.tree_due read.0 read.1)
+      due g (inr (inr (read, e))) = absurd (h.tree_due read.0 read.1)
+
+  -- the same where the answers are the same stop
+  pub stopped-so : (r q : Result FileTree (Stop FaultOf)) (stop : Stop FaultOf) → r ≡ Err stop → q ≡ Err stop → IsTreeReading text r → IsReading text q
+  stopped-so r q stop e k h = subst (IsReading text) (sym k) (stopped stop (subst (IsTreeReading text) e h))
+
+  module _ (tree : FileTree) (h : IsTreeReading text (Ok tree)) where
+    pub lacks-main : LacksMain tree → IsReading text (Err (Fault (fault_of NoMain)))
+    lacks-main lacks =
+        record {
+          program = tt;
+          fault = inr (inl ((tree, h.reads, lacks), refl));
+          placed = tt;
+          fault_due = due;
+          program_due = λ other is. lacks (main-in-both other tree is.0 h.reads (sums-have-main other is.1));
+        }
+      where
+        due : (g : FaultOf) → HasFault text g → fault_of NoMain ≡ g
+        due g (inl none) = absurd (h.fault_due g none)
+        due g (inr (inl (read, e))) = sym e
+        due g (inr (inr (read, e))) = absurd (lacks (main-in-both read.0 tree read.1 h.reads read.2.0))
+
+    pub not-built : HasMain tree → (IsSumProgram tree → ⊥) → IsReading text (Err (Fault (fault_of NotBuilt)))
+    not-built main other =
+        record {
+          program = tt;
+          fault = inr (inr ((tree, h.reads, (main, other)), refl));
+          placed = tt;
+          fault_due = due;
+          program_due = λ u is. other (sums-in-both u tree is.0 h.reads is.1);
+        }
+      where
+        due : (g : FaultOf) → HasFault text g → fault_of NotBuilt ≡ g
+        due g (inl none) = absurd (h.fault_due g none)
+        due g (inr (inl (read, e))) = absurd (read.2 (main-in-both tree read.0 h.reads read.1 main))
+        due g (inr (inr (read, e))) = sym e
+
+    pub is-program : IsSumProgram tree → IsReading text (Ok tree)
+    is-program sums =
+        record {
+          program = (h.reads, sums);
+          fault = tt;
+          placed = tt;
+          fault_due = due;
+          program_due = λ other is. tt;
+        }
+      where
+        due : (g : FaultOf) → HasFault text g → ⊥
+        due g (inl none) = h.fault_due g none
+        due g (inr (inl (read, e))) = read.2 (main-in-both tree read.0 h.reads read.1 (sums-have-main tree sums))
+        due g (inr (inr (read, e))) = read.2.1 (sums-in-both tree read.0 h.reads read.1 sums)
