@@ -1,15 +1,25 @@
-//! Texts as rows, each with how many of its tokens the longest type or expression at its front takes.
+//! Texts as rows, each with what is read of it and as which tree, and trees that are ill formed.
 //!
 //! It reads a line each from its input, tells those of which something else comes, and how many rows there are:
 //!
-//! - `row`: a line, and what becomes of it.
+//! - `row`: a line, and what it wants.
+//! - `outcome`: what becomes of a line.
+//! - `reading`: a text, and what is read of it.
+//! - `files`: what is read, in a file.
+//! - `operands`: the parentheses round operands.
+//! - `edits`: changes of trees after which they may be ill formed.
 //! - `tell`: what is told of a row.
 #![tactic(auto)]
 
+mod edits;
+mod files;
+mod operands;
+mod outcome;
+mod reading;
 mod row;
 mod tell;
 
-use row::{Outcome, outcome_of};
+use outcome::{Outcome, outcome_of};
 use std::io::{self, BufRead, BufReader};
 use tell::tell;
 
@@ -21,11 +31,11 @@ fn main(rt: HostRuntime) -> io::Result<()> {
         let line = line?;
         number = number.saturating_add(1);
         let outcome = outcome_of(rt.alloc(), line.as_str());
-        tell(&rt, number, line.as_str(), &outcome)?;
+        tell(&rt, number, line.as_str(), outcome)?;
         match outcome {
             Outcome::NoRow => {}
             Outcome::Agrees => rows = rows.saturating_add(1),
-            Outcome::Differs(_) | Outcome::Misread | Outcome::Memory => {
+            _ => {
                 rows = rows.saturating_add(1);
                 differ = differ.saturating_add(1);
             }

@@ -1,149 +1,124 @@
 //! Lines, each by itself:
 //!
-//! - nothing, or a comment after `//`
-//! - `type WANTED TEXT`, or `expr WANTED TEXT`: what comes of the longest type or expression at the front of the text
+//! - nothing, or a comment behind `//`
+//! - `READER whole: TEXT` or `READER front 3: TEXT`: all of the text is read, or so many of its tokens and no more
+//! - `READER 103 at 5: TEXT`: it is refused, by the code with this number, at this byte of the text
+//! - `READER EDIT formed: TEXT ==> OTHER` or `READER EDIT unformed: TEXT ==> OTHER`: all of it is read; its tree is changed,
+//!   has the tokens of the other text then, and is well formed then, or isn't
 //!
-//! WANTED is how many tokens it takes, `none` where none stands there, or `deep` and a number: that of the token which is
-//! nested too deeply, where the text's first one is 0.
+//! READER is `type`, `expr`, `file`, or `body`, for what stands between the braces of `function f()`. Behind `==>` of a row
+//! without an edit stands what is read with parentheses round each operand that is no single word and has no brackets: the tree.
+//! Without it, no operand wants any.
+//!
+//! EDIT is one of these:
+//!
+//! - `open`: each operand that has parentheses loses one pair.
+//! - `longer`: the array type is longer by one.
+//! - `alone`: what statements of the body only evaluate, as `_ = e;`, stands there as statements of its own.
+//! - `check`, `checkpanic` or `trap`: the first statement, an action, gets this word before it.
+//! - `emptied`: the body loses its workers, and its first statement the clauses, or what it waits for.
+//! - `unmatched`: the last clause of the first statement loses its patterns.
 
-ghost use Rattle.std.specs.Prelude.{◌≤◌, length};
+use crate::edits::{BodyEdit, Edit};
+use crate::reading::{Came, Reader};
+use bal_tree::ActionOp;
 
-use bal_base::{Fault, FaultCode, Keyword, Memory, Stop, Token, TokenKind};
-use bal_lexer::lex;
-use parse_expr::{parse_expr, parse_type};
-use std::alloc::Global;
-
-/// What comes of a text.
-#[derive(Clone, Copy, Debug, PartialEq, Eq)]
-pub enum Came {
-    /// So many of its tokens are read.
-    Reads(usize),
-    /// Nothing is read at its front.
-    None,
-    /// This token of it is nested too deeply.
-    Deep(usize),
+/// A line that says something.
+#[derive(Clone, Copy)]
+pub struct Row<'a> {
+    pub reader: Reader,
+    pub wanted: Wanted,
+    pub text: &'a str,
+    pub other: Option<&'a str>,
 }
 
-/// What became of a line.
-#[derive(Clone, Copy, Debug, PartialEq, Eq)]
-pub enum Outcome {
-    /// It says nothing.
-    NoRow,
-    /// What it wants comes.
-    Agrees,
-    /// This comes, and not what it wants.
-    Differs(Came),
-    /// It isn't of the form of a line.
-    Misread,
-    /// Memory ran out.
-    Memory,
+/// What is wanted.
+#[derive(Clone, Copy, PartialEq, Eq)]
+pub enum Wanted {
+    /// That this comes of the text.
+    Came(Came),
+    /// That all of it is read, and that the tree is well formed after this change, or isn't.
+    Edited { edit: Edit, formed: bool },
 }
 
-/// What is read.
-#[derive(Clone, Copy, Debug, PartialEq, Eq)]
-enum Reader {
-    Types,
-    Exprs,
+/// Whether a line says nothing.
+pub fn says_nothing(line: &str) -> bool {
+    line.is_empty() || line.starts_with("//")
 }
 
-/// The longest lines that are read, in bytes.
-const MOST_BYTES: usize = 4_294_967_295;
-
-/// Reads the line, and compares.
-pub fn outcome_of(alloc: Global, line: &str) -> Outcome {
-    if line.len() > MOST_BYTES {
-        return Outcome::Misread;
-    }
-    match lex(alloc, 0, line) {
-        Ok(tokens) => outcome_of_tokens(alloc, &tokens),
-        Err(Stop::Memory) => Outcome::Memory,
-        Err(Stop::Fault(_)) => Outcome::Misread,
-    }
-}
-
-fn outcome_of_tokens(alloc: Global, tokens: &[Token]) -> Outcome {
-    let Some(first) = tokens.first() else {
-        return Outcome::NoRow;
+/// The row that a line is.
+pub fn row_of(line: &str) -> Option<Row<'_>> {
+    let (head, text) = line.split_once(':')?;
+    let (reader, claim) = head.split_once(' ')?;
+    let reader = reader_of(reader)?;
+    let wanted = wanted_of(claim)?;
+    let text = text.strip_prefix(' ').unwrap_or(text);
+    let (text, other) = match text.split_once(" ==> ") {
+        Some((text, other)) => (text, Some(other)),
+        None => (text, None),
     };
-    let (Some(reader), Some(wanted)) = (reader_of(&first.kind), wanted_of(tokens)) else {
-        return Outcome::Misread;
-    };
-    let from = match wanted {
-        Came::Deep(_) => 3,
-        Came::Reads(_) | Came::None => 2,
-    };
-    if from > tokens.len() {
-        return Outcome::Misread;
-    }
-    match came_of(alloc, reader, tokens, from) {
-        Ok(came) if came == wanted => Outcome::Agrees,
-        Ok(came) => Outcome::Differs(came),
-        Err(Memory) => Outcome::Memory,
-    }
+    Some(Row {
+        reader,
+        wanted,
+        text,
+        other,
+    })
 }
 
-/// What the first word of a row says.
-fn reader_of(first: &TokenKind) -> Option<Reader> {
-    match first {
-        TokenKind::Keyword(Keyword::Type) => Some(Reader::Types),
-        TokenKind::Word(word) if word.as_str() == "expr" => Some(Reader::Exprs),
+fn reader_of(word: &str) -> Option<Reader> {
+    match word {
+        "type" => Some(Reader::Types),
+        "expr" => Some(Reader::Exprs),
+        "file" => Some(Reader::Files),
+        "body" => Some(Reader::Bodies),
         _ => None,
     }
 }
 
-/// What the row wants.
-fn wanted_of(tokens: &[Token]) -> Option<Came> {
-    match &tokens.get(1)?.kind {
-        TokenKind::Int(count) => Some(Came::Reads(usize::try_from(*count).ok()?)),
-        TokenKind::Word(word) => match word.as_str() {
-            "none" => Some(Came::None),
-            "deep" => match &tokens.get(2)?.kind {
-                TokenKind::Int(token) => Some(Came::Deep(usize::try_from(*token).ok()?)),
-                _ => None,
-            },
-            _ => None,
-        },
+fn wanted_of(claim: &str) -> Option<Wanted> {
+    if claim == "whole" {
+        return Some(Wanted::Came(Came::Whole));
+    }
+    let (first, second) = claim.split_once(' ')?;
+    if first == "front" {
+        let count = second.parse::<usize>().ok()?;
+        return Some(Wanted::Came(Came::Front(count)));
+    }
+    match edit_of(first) {
+        Some(edit) => {
+            let formed = formed_of(second)?;
+            Some(Wanted::Edited { edit, formed })
+        }
+        None => refused_of(first, second),
+    }
+}
+
+fn edit_of(word: &str) -> Option<Edit> {
+    match word {
+        "open" => Some(Edit::Open),
+        "longer" => Some(Edit::Longer),
+        "alone" => Some(Edit::Body(BodyEdit::Alone)),
+        "check" => Some(Edit::Body(BodyEdit::Behind(ActionOp::Check))),
+        "checkpanic" => Some(Edit::Body(BodyEdit::Behind(ActionOp::CheckPanic))),
+        "trap" => Some(Edit::Body(BodyEdit::Behind(ActionOp::Trap))),
+        "emptied" => Some(Edit::Body(BodyEdit::Emptied)),
+        "unmatched" => Some(Edit::Body(BodyEdit::Unmatched)),
         _ => None,
     }
 }
 
-/// What comes of the tokens from this place on.
-fn came_of(alloc: Global, reader: Reader, tokens: &[Token], from: usize) -> Result<Came, Memory>
-    requires { from ≤ length tokens.now }
-{
-    match read(alloc, reader, tokens, from) {
-        Ok(place) => Ok(Came::Reads(place.saturating_sub(from))),
-        Err(Stop::Memory) => Err(Memory),
-        Err(Stop::Fault(fault)) => Ok(refused(tokens, from, &fault)),
+fn formed_of(word: &str) -> Option<bool> {
+    match word {
+        "formed" => Some(true),
+        "unformed" => Some(false),
+        _ => None,
     }
 }
 
-/// The place behind what is read.
-fn read(alloc: Global, reader: Reader, tokens: &[Token], from: usize) -> Result<usize, Stop<Fault>>
-    requires { from ≤ length tokens.now }
-{
-    match reader {
-        Reader::Types => {
-            let (_, place) = parse_type(alloc, 0, tokens, from)?;
-            Ok(place)
-        }
-        Reader::Exprs => {
-            let (_, place) = parse_expr(alloc, 0, tokens, from)?;
-            Ok(place)
-        }
-    }
-}
-
-/// What a refusal says: the token at its place is nested too deeply, or else nothing is read.
-fn refused(tokens: &[Token], from: usize, fault: &Fault) -> Came {
-    match (fault.code, fault.at) {
-        (FaultCode::Depth, Some(place)) => {
-            let before = tokens
-                .iter()
-                .take_while(|token| token.at < place.at)
-                .count();
-            Came::Deep(before.saturating_sub(from))
-        }
-        _ => Came::None,
-    }
+/// A code, and the byte behind `at `.
+fn refused_of(code: &str, place: &str) -> Option<Wanted> {
+    let code = code.parse::<u16>().ok()?;
+    let at = place.strip_prefix("at ")?;
+    let at = at.parse::<usize>().ok()?;
+    Some(Wanted::Came(Came::Refused { code, at }))
 }

@@ -1,20 +1,31 @@
 //! What is told of a row.
 
-use crate::row::{Came, Outcome};
+use crate::outcome::Outcome;
+use crate::reading::Came;
 use std::io;
 
 /// Tells a row of which something else comes, and a line that isn't a row.
-pub fn tell(rt: &impl Print, number: u64, line: &str, outcome: &Outcome) -> io::Result<()> {
+pub fn tell(rt: &impl Print, number: u64, line: &str, outcome: Outcome) -> io::Result<()> {
     match outcome {
         Outcome::NoRow | Outcome::Agrees => Ok(()),
-        Outcome::Differs(Came::Reads(count)) => println!(rt;
-            "line {number}: {line}: it takes {count}"
+        Outcome::Other(Came::Whole) => println!(rt; "line {number}: {line}: it is read whole"),
+        Outcome::Other(Came::Front(count)) => println!(rt;
+            "line {number}: {line}: it is read up to token {count}"
         ),
-        Outcome::Differs(Came::None) => println!(rt; "line {number}: {line}: none stands there"),
-        Outcome::Differs(Came::Deep(token)) => println!(rt;
-            "line {number}: {line}: token {token} is nested too deeply"
+        Outcome::Other(Came::Refused { code, at }) => println!(rt;
+            "line {number}: {line}: {code} at {at}"
         ),
-        Outcome::Misread => println!(rt; "line {number}: {line}: it isn't of the form of a line"),
+        Outcome::OtherTokens(token) => println!(rt;
+            "line {number}: {line}: its tree has other tokens from token {token} on"
+        ),
+        Outcome::OtherPlace => println!(rt; "line {number}: {line}: its tree has another place"),
+        Outcome::Unformed => println!(rt; "line {number}: {line}: its tree isn't well formed"),
+        Outcome::OtherTree(token) => println!(rt;
+            "line {number}: {line}: its tree is another from token {token} on"
+        ),
+        Outcome::Formed(true) => println!(rt; "line {number}: {line}: it is well formed"),
+        Outcome::Formed(false) => println!(rt; "line {number}: {line}: it isn't well formed"),
+        Outcome::Misread => println!(rt; "line {number}: {line}: it isn't of the form of a row"),
         Outcome::Memory => println!(rt; "line {number}: {line}: out of memory"),
     }
 }

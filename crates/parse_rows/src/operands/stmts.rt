@@ -1,0 +1,97 @@
+//! The parts of statements.
+
+use super::Walk;
+use bal_base::Memory;
+use bal_tree::{Block, Clause, Else, IfStmt, Stmt};
+
+impl Walk {
+    /// Goes through statements.
+    #[cycle(stmts)]
+    pub fn in_stmts(self, stmts: &mut [Stmt]) -> Result<(), Memory> {
+        for s in stmts.iter_mut() {
+            self.in_stmt(s)?;
+        }
+        Ok(())
+    }
+
+    /// Goes through a block.
+    #[cycle(stmts)]
+    pub fn in_block(self, b: &mut Block) -> Result<(), Memory> {
+        self.in_stmts(&mut b.stmts)
+    }
+
+    #[cycle(stmts)]
+    fn in_stmt(self, s: &mut Stmt) -> Result<(), Memory> {
+        match s {
+            Stmt::Local { ty, value, .. } => {
+                self.in_local_type(ty)?;
+                self.in_rhs(value)
+            }
+            Stmt::Assign { target, value, .. } => {
+                self.in_target(target)?;
+                self.in_rhs(value)
+            }
+            Stmt::Ignore { value, .. } => self.in_rhs(value),
+            Stmt::Rhs { rhs, .. } => self.in_rhs(rhs),
+            Stmt::If(s) => self.in_if(s),
+            Stmt::While {
+                condition,
+                body,
+                ..
+            } => {
+                self.in_expr(condition)?;
+                self.in_block(body)
+            }
+            Stmt::Foreach {
+                ty,
+                from,
+                range,
+                body,
+                ..
+            } => {
+                self.in_local_type(ty)?;
+                self.in_range(from, range)?;
+                self.in_block(body)
+            }
+            Stmt::Match { value, clauses, .. } => {
+                self.in_expr(value)?;
+                self.in_clauses(clauses)
+            }
+            Stmt::Return { value, .. } => self.in_rhs_if(value),
+            Stmt::Panic { value, .. } => self.in_expr(value),
+            Stmt::Break { .. } | Stmt::Continue { .. } => Ok(()),
+            Stmt::Block(b) => self.in_block(b),
+        }
+    }
+
+    #[cycle(stmts)]
+    fn in_if(self, s: &mut IfStmt) -> Result<(), Memory> {
+        self.in_expr(&mut s.condition)?;
+        self.in_block(&mut s.then)?;
+        self.in_else_if(&mut s.otherwise)
+    }
+
+    #[cycle(stmts)]
+    fn in_else_if(self, e: &mut Option<Box<Else>>) -> Result<(), Memory> {
+        match e {
+            Some(e) => self.in_else(e),
+            None => Ok(()),
+        }
+    }
+
+    #[cycle(stmts)]
+    fn in_else(self, e: &mut Else) -> Result<(), Memory> {
+        match e {
+            Else::If(s) => self.in_if(s),
+            Else::Block(b) => self.in_block(b),
+        }
+    }
+
+    #[cycle(stmts)]
+    fn in_clauses(self, clauses: &mut [Clause]) -> Result<(), Memory> {
+        for c in clauses.iter_mut() {
+            self.in_block(&mut c.body)?;
+        }
+        Ok(())
+    }
+}
