@@ -14,7 +14,7 @@ use crate::parts::part;
 use crate::questions::{outside, within, within_parts};
 use bal_base::{Memory, Shape};
 use std::alloc::Global;
-use type_diagrams::{Diagrams, Member, Path, Told, Turn, look_up};
+use type_diagrams::{Diagrams, Member, Path, Finding, Turn, look_up};
 use type_model::{BasicSet, SemType, TypeEnv};
 
 /// A shape of an error path, that there is none, or the question about the detail: for marked mappings in
@@ -36,11 +36,11 @@ pub fn err_shape<M: Member>(
         return Ok(Turn::Empty);
     }
     match look_up(alloc, m, question)? {
-        Told::Part(detail) => Ok(Turn::Shape(Shape::Error {
+        Finding::Part(detail) => Ok(Turn::Shape(Shape::Error {
             detail: Box::new(alloc, detail)?,
         })),
-        Told::Held => Ok(Turn::Empty),
-        Told::Unknown => Ok(Turn::Ask(question)),
+        Finding::Held => Ok(Turn::Empty),
+        Finding::Unknown => Ok(Turn::Ask(question)),
     }
 }
 

@@ -12,7 +12,7 @@ use crate::parts::part;
 use crate::questions::{outside, within_parts};
 use bal_base::{Memory, Shape, Shapes};
 use std::alloc::Global;
-use type_diagrams::{Diagrams, Member, Path, Told, Turn, look_up};
+use type_diagrams::{Diagrams, Member, Path, Finding, Turn, look_up};
 use type_model::TypeEnv;
 
 /// A shape of a future path, that there is none, or a question about a result: for each unwanted atom, a
@@ -61,9 +61,9 @@ fn results<M: Member>(
     for atom in unwanted {
         let question = outside(env, dia, all, part(defs, *atom))?;
         let result = match look_up(alloc, m, question)? {
-            Told::Part(result) => result,
-            Told::Held => return Ok(Turn::Empty),
-            Told::Unknown => return Ok(Turn::Ask(question)),
+            Finding::Part(result) => result,
+            Finding::Held => return Ok(Turn::Empty),
+            Finding::Unknown => return Ok(Turn::Ask(question)),
         };
         found.push(result)?;
     }

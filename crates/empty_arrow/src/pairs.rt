@@ -12,7 +12,7 @@ use crate::arrows::arrow_of;
 use crate::questions::{outside, within};
 use bal_base::{Case, Memory, Shape, Shapes};
 use std::alloc::Global;
-use type_diagrams::{Diagrams, Member, Told, look_up};
+use type_diagrams::{Diagrams, Member, Finding, look_up};
 use type_model::TypeEnv;
 
 /// What is sought of a pair.
@@ -119,20 +119,20 @@ fn kept_pair<M: Member>(
     ensures { IfOk result (TellsPair env.now dia.now (M.kept m.now) (condition dia.now sought.args) (condition dia.now sought.result) sought.may_fail []) }
 {
     let args = match look_up(alloc, m, sought.args)? {
-        Told::Part(part) => items(part),
-        Told::Held => return Ok(Found::Empty),
-        Told::Unknown => return Ok(Found::Ask(sought.args)),
+        Finding::Part(part) => items(part),
+        Finding::Held => return Ok(Found::Empty),
+        Finding::Unknown => return Ok(Found::Ask(sought.args)),
     };
     if sought.may_fail {
         return Ok(Found::Pair(Case { args, result: None }));
     }
     match look_up(alloc, m, sought.result)? {
-        Told::Part(part) => Ok(Found::Pair(Case {
+        Finding::Part(part) => Ok(Found::Pair(Case {
             args,
             result: Some(part),
         })),
-        Told::Held => Ok(Found::Empty),
-        Told::Unknown => Ok(Found::Ask(sought.result)),
+        Finding::Held => Ok(Found::Empty),
+        Finding::Unknown => Ok(Found::Ask(sought.result)),
     }
 }
 

@@ -1,6 +1,7 @@
 pub mod Atoms
 pub mod Conditions
 pub mod Decisions
+pub mod Finding
 pub mod Found
 pub mod Kept
 pub mod Kinds
@@ -13,7 +14,6 @@ pub mod Reach
 pub mod Sets
 pub mod Simple
 pub mod Tables
-pub mod Told
 pub mod Trees
 pub mod Turns
 pub mod Whole

@@ -7,11 +7,12 @@
 //! - [`Node`] and [`MARK`]: a step of a decision, and the number that stands for the mark.
 //! - [`Path`]: a way through a decision to true.
 //! - [`Member`] and [`Turn`]: what a table tells of questions, and what is said of a path against it;
-//!   [`Told`] and [`look_up`]: what it tells, with a copy of the shape; [`MOST_QUESTIONS`] and
+//!   [`Finding`] and [`look_up`]: what it tells, with a copy of the shape; [`MOST_QUESTIONS`] and
 //!   [`MOST_ARROWS`]: the limits of a call.
 #![tactic(auto)]
 
 mod diagrams;
+mod finding;
 mod kind;
 mod merge;
 mod node;
@@ -20,12 +21,11 @@ mod operation;
 mod path;
 mod simple;
 mod simple_shape;
-mod told;
 mod turn;
 
 pub use diagrams::Diagrams;
+pub use finding::{Finding, look_up};
 pub use kind::{KINDS, Kind};
 pub use node::{MARK, Node};
 pub use path::Path;
-pub use told::{Told, look_up};
 pub use turn::{MOST_ARROWS, MOST_QUESTIONS, Member, Turn};

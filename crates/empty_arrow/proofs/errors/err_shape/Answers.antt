@@ -6,7 +6,7 @@ use Rattle.type_diagrams.specs.Members.{atoms_in, detail_of}
 use Rattle.type_diagrams.specs.Questions.{mappings, readonly}
 use Rattle.type_diagrams.specs.Tables.{condition}
 use Rattle.empty_arrow.specs.Parts.{HasPart, part_of}
-use Rattle.type_diagrams.specs.Told.{IsTold}
+use Rattle.type_diagrams.specs.Finding.{IsFinding}
 use Rattle.type_diagrams.proofs.Elements.{map-where}
 use Rattle.type_diagrams.proofs.Tellings.{kept-IsShapeOf, held-HasLower}
 use Rattle.empty_arrow.proofs.Details.{no_marked_error, error-on_path, path-detail, detail-lower, detail_in, detail_asked}
@@ -33,7 +33,7 @@ returns-in_ok-new-in-Part-clause-turns g c =
     let env = c.args.env.now in
     let kept = g.M.Member.kept c.args.m.now in
     let q = c.in_ok-question.question in
-    let told = subst (IsTold kept q) c.in-Part.is c.in_ok-detail.ensures in
+    let told = subst (IsFinding kept q) c.in-Part.is c.in_ok-detail.ensures in
     let is = kept-IsShapeOf env c.args.dia.now c.detail_question.new.dia kept (detail_asked env (atoms_in c.args.path.now.pos) (atoms_in c.args.path.now.neg)) q c.in_ok-question.ensures.made c.requires.sound c.detail_question.ensures.extends.keeps told.0 c.in-Part.detail told.1 told.2 in
     error-on_path env c.in_ok-question.ensures.few c.args.path.now
     (atoms-are env Errors c.args.path.now.pos c.requires.literals.holding)
@@ -46,7 +46,7 @@ returns-in-Held-clause-turns g c = λ x on.
     let env = c.args.env.now in
     let kept = g.M.Member.kept c.args.m.now in
     let q = c.in_ok-question.question in
-    let told = subst (IsTold kept q) c.in-Held.is c.in_ok-detail.ensures in
+    let told = subst (IsFinding kept q) c.in-Held.is c.in_ok-detail.ensures in
     held-HasLower env c.args.dia.now c.detail_question.new.dia kept (detail_asked env (atoms_in c.args.path.now.pos) (atoms_in c.args.path.now.neg)) q c.in_ok-question.ensures.made told x (detail_in x)
     (path-detail env c.in_ok-question.ensures.few c.args.path.now
     (atoms-are env Errors c.args.path.now.pos c.requires.literals.holding)
@@ -58,7 +58,7 @@ returns-in-Unknown-clause-turns g c =
     let env = c.args.env.now in
     let kept = g.M.Member.kept c.args.m.now in
     let q = c.in_ok-question.question in
-    let told = subst (IsTold kept q) c.in-Unknown.is c.in_ok-detail.ensures in
+    let told = subst (IsFinding kept q) c.in-Unknown.is c.in_ok-detail.ensures in
     let made = c.in_ok-question.ensures.made in
     let pos = map-where (IsAtomOf env Errors) (part_of env) (detail_of env) (error-part_of env) (atoms_in c.args.path.now.pos) (atoms-are env Errors c.args.path.now.pos c.requires.literals.holding) in
     let neg = map-where (IsAtomOf env Errors) (part_of env) (detail_of env) (error-part_of env) (atoms_in c.args.path.now.neg) (atoms-are env Errors c.args.path.now.neg c.requires.literals.failing) in (

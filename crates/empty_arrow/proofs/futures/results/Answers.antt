@@ -4,7 +4,7 @@ use Rattle.type_diagrams.specs.Conditions.{without}
 use Rattle.type_diagrams.specs.Tables.{condition}
 use Rattle.empty_arrow.specs.Parts.{part_of}
 use Rattle.empty_arrow.specs.Results.{AreResults}
-use Rattle.type_diagrams.specs.Told.{IsTold}
+use Rattle.type_diagrams.specs.Finding.{IsFinding}
 use Rattle.empty_arrow.proofs.FutureResults.{avoidance, avoidance-Gives, one_more_result}
 use Rattle.type_diagrams.proofs.AskedDiagrams.{then_all}
 use Rattle.type_diagrams.proofs.Tellings.{kept-IsShapeOf}
@@ -22,7 +22,7 @@ returns-in-Held-clause-extends g c = then_all _ _ _ _ c.loop-atom.invariant.0 c.
 pub returns-in-Held-clause-tells : goal.returns-in-Held-clause-tells
 returns-in-Held-clause-tells g c =
     let q = c.in_ok-question.question in
-    let told = subst (IsTold (g.M.Member.kept c.args.m.now) q) c.in-Held.is c.in_ok-result.ensures in (
+    let told = subst (IsFinding (g.M.Member.kept c.args.m.now) q) c.in-Held.is c.in_ok-result.ensures in (
       q,
       told,
       avoidance c.args.env.now c.defs-defs.result.now c.defs-defs.ensures.value c.args.dia.now c.loop-atom.dia c.outside.new.dia c.args.all q c.args.unwanted.now c.loop-atom.atom-index c.part.result.now
@@ -35,7 +35,7 @@ returns-in-Unknown-clause-extends g c = then_all _ _ _ _ c.loop-atom.invariant.0
 pub returns-in-Unknown-clause-tells : goal.returns-in-Unknown-clause-tells
 returns-in-Unknown-clause-tells g c =
     let q = c.in_ok-question.question in
-    let told = subst (IsTold (g.M.Member.kept c.args.m.now) q) c.in-Unknown.is c.in_ok-result.ensures in (
+    let told = subst (IsFinding (g.M.Member.kept c.args.m.now) q) c.in-Unknown.is c.in_ok-result.ensures in (
       told,
       avoidance c.args.env.now c.defs-defs.result.now c.defs-defs.ensures.value c.args.dia.now c.loop-atom.dia c.outside.new.dia c.args.all q c.args.unwanted.now c.loop-atom.atom-index c.part.result.now
           (omega arith) c.part.ensures.asks c.requires.diagram c.loop-atom.invariant.0.keeps c.in_ok-question.ensures.made,
@@ -52,7 +52,7 @@ loop-atom-preserved g c =
     let i = c.loop-atom.atom-index in
     let atom = get_or c.args.unwanted.now i 0 in
     let all = condition c.args.dia.now c.args.all in
-    let told = subst (IsTold kept q) c.in-Part.is c.in_ok-result.ensures in
+    let told = subst (IsFinding kept q) c.in-Part.is c.in_ok-result.ensures in
     let extends = then_all _ c.args.dia.now c.loop-atom.dia c.outside.new.dia c.loop-atom.invariant.0 c.outside.ensures.extends in
     let gives = avoidance-Gives env c.defs-defs.result.now c.defs-defs.ensures.value c.args.dia.now c.loop-atom.dia c.outside.new.dia c.args.all q atom c.part.result.now c.part.ensures.asks c.requires.diagram c.loop-atom.invariant.0.keeps c.in_ok-question.ensures.made in
     let is = kept-IsShapeOf env c.args.dia.now c.outside.new.dia kept (without all (part_of env atom)) q gives c.requires.sound extends.keeps told.0 c.in-Part.result told.1 told.2 in (

@@ -1,6 +1,6 @@
 //! What a table of questions tells.
 ghost use Rattle.std.specs.Prelude.{IfOk};
-ghost use Rattle.type_diagrams.specs.Told.{IsTold};
+ghost use Rattle.type_diagrams.specs.Finding.{IsFinding};
 
 use crate::turn::Member;
 use bal_base::{Memory, Shape};
@@ -8,7 +8,7 @@ use std::alloc::Global;
 
 /// What a table tells of a question.
 #[derive(Debug, Drop)]
-pub enum Told {
+pub enum Finding {
     /// A shape of it.
     Part(Shape),
     /// It is held to be empty.
@@ -18,12 +18,12 @@ pub enum Told {
 }
 
 /// What the table tells of the question.
-pub fn look_up<M: Member>(alloc: Global, m: &M, question: u32) -> Result<Told, Memory>
-    ensures { IfOk result (IsTold (M.kept m.now) question) }
+pub fn look_up<M: Member>(alloc: Global, m: &M, question: u32) -> Result<Finding, Memory>
+    ensures { IfOk result (IsFinding (M.kept m.now) question) }
 {
     match m.seen(question) {
-        Some(Some(part)) => Ok(Told::Part(part.copy(alloc)?)),
-        Some(None) => Ok(Told::Held),
-        None => Ok(Told::Unknown),
+        Some(Some(part)) => Ok(Finding::Part(part.copy(alloc)?)),
+        Some(None) => Ok(Finding::Held),
+        None => Ok(Finding::Unknown),
     }
 }
