@@ -89,6 +89,3 @@ fn refusal(code: FaultCode, file: u32, at: u32) -> Fault
         kept: Kept::Nothing,
     }
 }
-
-#[cfg(test)]
-mod tests;

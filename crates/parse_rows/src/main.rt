@@ -8,6 +8,7 @@
 //! - `files`: what is read, in a file.
 //! - `operands`: the parentheses round operands.
 //! - `edits`: changes of trees after which they may be ill formed.
+//! - `tokens`: rows of tokens.
 //! - `tell`: what is told of a row.
 #![tactic(auto)]
 
@@ -18,6 +19,7 @@ mod outcome;
 mod reading;
 mod row;
 mod tell;
+mod tokens;
 
 use outcome::{Outcome, outcome_of};
 use std::io::{self, BufRead, BufReader};

@@ -4,6 +4,7 @@ use crate::edits::Edit;
 use crate::operands::{Walk, Way};
 use crate::reading::{Came, Found, Reader, difference, read_text, tokens_of};
 use crate::row::{Row, Wanted, row_of, says_nothing};
+use crate::tokens::outcome_of_tokens;
 use bal_base::{Memory, Stop};
 use bal_tree::{FileTree, well_formed};
 use std::alloc::Global;
@@ -27,6 +28,8 @@ pub enum Outcome {
     OtherTree(usize),
     /// The changed tree is well formed, or isn't, and the other is wanted.
     Formed(bool),
+    /// The text has other tokens than those that are wanted, or is refused otherwise.
+    OtherKinds,
     /// The line isn't of the form of a row.
     Misread,
     /// Memory ran out.
@@ -38,10 +41,14 @@ pub fn outcome_of(alloc: Global, line: &str) -> Outcome {
     if says_nothing(line) {
         return Outcome::NoRow;
     }
-    let Some(row) = row_of(line) else {
-        return Outcome::Misread;
+    let outcome = match line.strip_prefix("tokens ") {
+        Some(row) => outcome_of_tokens(alloc, row),
+        None => match row_of(line) {
+            Some(row) => outcome_of_row(alloc, &row),
+            None => Ok(Outcome::Misread),
+        },
     };
-    match outcome_of_row(alloc, &row) {
+    match outcome {
         Ok(outcome) => outcome,
         Err(Memory) => Outcome::Memory,
     }

@@ -3,6 +3,7 @@
 //! - nothing, or a comment behind `//`
 //! - `READER whole: TEXT` or `READER front 3: TEXT`: all of the text is read, or so many of its tokens and no more
 //! - `READER 103 at 5: TEXT`: it is refused, by the code with this number, at this byte of the text
+//! - `tokens TEXT ==> SHOWN`: its tokens, as the module `tokens` says
 //! - `READER EDIT formed: TEXT ==> OTHER` or `READER EDIT unformed: TEXT ==> OTHER`: all of it is read; its tree is changed,
 //!   has the tokens of the other text then, and is well formed then, or isn't
 //!

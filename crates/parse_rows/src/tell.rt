@@ -25,6 +25,7 @@ pub fn tell(rt: &impl Print, number: u64, line: &str, outcome: Outcome) -> io::R
         ),
         Outcome::Formed(true) => println!(rt; "line {number}: {line}: it is well formed"),
         Outcome::Formed(false) => println!(rt; "line {number}: {line}: it isn't well formed"),
+        Outcome::OtherKinds => println!(rt; "line {number}: {line}: it has other tokens"),
         Outcome::Misread => println!(rt; "line {number}: {line}: it isn't of the form of a row"),
         Outcome::Memory => println!(rt; "line {number}: {line}: out of memory"),
     }

@@ -115,6 +115,3 @@ pub fn refused(code: FaultCode, at: Place) -> Stop<Fault>
         kept: Kept::Nothing,
     })
 }
-
-#[cfg(test)]
-mod tests;

@@ -1,4 +1,0 @@
-mod depth;
-mod notation;
-mod steps;
-mod types;
