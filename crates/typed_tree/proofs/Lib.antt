@@ -1,0 +1,4 @@
+pub mod ExprLayers
+pub mod Running
+pub mod StmtLayers
+pub mod Waited

@@ -1,0 +1,11 @@
+pub mod Checking
+pub mod ExprLayers
+pub mod Exprs
+pub mod Listed
+pub mod Nodes
+pub mod SharedTypes
+pub mod Skeleton
+pub mod SoFar
+pub mod StmtLayers
+pub mod Units
+pub mod Views
