@@ -1,0 +1,5 @@
+pub mod CaseRows
+pub mod LibraryOnce
+pub mod Once
+pub mod PerformsOnce
+pub mod Twins
