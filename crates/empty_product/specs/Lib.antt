@@ -1,0 +1,9 @@
+pub mod Bases
+pub mod Further
+pub mod KeyBases
+pub mod Keys
+pub mod Lists
+pub mod Mappings
+pub mod Play
+pub mod Products
+pub mod Slots

@@ -1,0 +1,65 @@
+//! Parts behind all places that atoms tell apart.
+ghost use Rattle.std.specs.Prelude.{All, IfOk, List, OnOk};
+ghost use Rattle.type_model.specs.declared.atoms.AtomDef.{AtomDef};
+ghost use Rattle.type_diagrams.specs.Conditions.{nothing};
+ghost use Rattle.type_diagrams.specs.Tables.{IsDiagram, condition};
+ghost use Rattle.type_diagrams.specs.Turns.{IsSound};
+ghost use Rattle.type_diagrams.specs.Whole.{Extends, Gives, HasOneNumberEach};
+ghost use Rattle.empty_product.specs.Further.{TellsFurther, rest_askings_of};
+
+use crate::slots::find_part;
+use bal_base::{Memory, Shape};
+use std::alloc::Global;
+use type_diagrams::{Diagrams, Finding, Member};
+
+/// What an unwanted atom asks of all further parts.
+#[derive(Clone, Copy, Debug)]
+pub(crate) struct RestDemand {
+    pub(crate) atom: u32,
+    pub(crate) question: u32,
+}
+
+/// Which atoms are avoided by further parts.
+#[derive(Debug, Drop)]
+pub(crate) enum Further {
+    Parts(FurtherParts),
+    /// A question about a further part that the table doesn't know.
+    Ask(u32),
+}
+
+/// Further parts, one for each atom that is avoided by one, and the atoms that no further part avoids.
+#[derive(Debug, Drop)]
+pub(crate) struct FurtherParts {
+    pub(crate) parts: Vec<Shape>,
+    pub(crate) staying: Vec<u32>,
+}
+
+/// A further part in `rest` for each atom that can be avoided by one.
+pub(crate) fn further_parts<M: Member>(
+    alloc: Global,
+    dia: &mut Diagrams,
+    never: u32,
+    rest: u32,
+    demands: &[RestDemand],
+    m: &M,
+) -> Result<Further, Memory>
+    requires never { Gives dia.old nothing never }
+    requires rest { IsDiagram dia.old rest }
+    requires demands { All (λ d. IsDiagram dia.old d.question) demands.now }
+    requires one { HasOneNumberEach dia.old }
+    ensures extends { Extends 0 dia.old dia.new }
+    ensures one { OnOk result (HasOneNumberEach dia.new) }
+    ensures tells { IfOk result (λ further. (env : List AtomDef) → All (IsSound env dia.old) (M.kept m.now) → TellsFurther env dia.new (M.kept m.now) (condition dia.old rest) (rest_askings_of dia.old demands.now) further) }
+{
+    let mut parts = Vec::new(alloc);
+    let mut staying = Vec::new(alloc);
+    for demand in demands {
+        let question = dia.diff(rest, demand.question)?;
+        match find_part(alloc, dia, never, question, m)? {
+            Finding::Part(part) => parts.push(part)?,
+            Finding::Held => staying.push(demand.atom)?,
+            Finding::Unknown => return Ok(Further::Ask(question)),
+        }
+    }
+    Ok(Further::Parts(FurtherParts { parts, staying }))
+}

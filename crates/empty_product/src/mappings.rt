@@ -1,0 +1,357 @@
+//! Mapping paths.
+ghost use Rattle.std.specs.Prelude.{[], ◌≡◌, ◌==◌, ◌++◌, ◌↔◌, All, IfOk, IsTrue, OnOk, true, length, option_map};
+ghost use Rattle.std.specs.List.{AllZip, cons_option, list_any};
+ghost use Rattle.type_diagrams.specs.declared.kind.Kind.TheVariants.{Mapping as Mappings};
+ghost use Rattle.type_diagrams.specs.Conditions.{nothing};
+ghost use Rattle.type_diagrams.specs.Kinds.{the_mark};
+ghost use Rattle.type_diagrams.specs.Turns.{IsReady, IsSound, Turns};
+ghost use Rattle.type_diagrams.specs.Whole.{Extends, Gives, HasOneNumberEach};
+ghost use Rattle.empty_product.specs.Keys.{AreInOrder, AreNamedKeys};
+ghost use Rattle.empty_product.specs.Mappings.{AreDemandsOf, IsDemandOf, IsMappingOf, IsRestDemandOf, IsSlotOf, TellsFilled, TellsMappings, members_at, wanted_at};
+ghost use Rattle.empty_product.specs.Play.{IsMappingAtom};
+
+use crate::avoid::{Filling, avoid};
+use crate::bases::{frozen_if, has_mark};
+use crate::further::{Further, FurtherParts, RestDemand, further_parts};
+use crate::mapping_atoms::{
+    any_requires, is_required, key_behind, mappings_in_play, member_question, members_question,
+    named_keys,
+};
+use crate::slots::{Demand, Slot, Unwanted};
+use bal_base::{Fields, Memory, Shape, Text};
+use std::alloc::Global;
+use type_diagrams::{Diagrams, Member, Path, Turn};
+use type_model::{BasicSet, SemType, TypeEnv};
+
+/// A shape of a mapping path, that there is none, or a question about a member, at a key that an atom of the
+/// path names or at all others. A path that doesn't say whether its mappings are marked is settled by its
+/// unmarked ones.
+pub fn map_shape<M: Member>(
+    alloc: Global,
+    env: &TypeEnv,
+    dia: &mut Diagrams,
+    path: &Path,
+    m: &M,
+) -> Result<Turn, Memory>
+    requires { IsReady env.now dia.old (M.kept m.now) Mappings path.now }
+    ensures extends { Extends (length env.now) dia.old dia.new }
+    ensures one { OnOk result (HasOneNumberEach dia.new) }
+    ensures turns { IfOk result (Turns env.now dia.new (M.kept m.now) Mappings path.now) }
+{
+    let holding = path.wanted(alloc)?;
+    let wanted = holding.as_slice();
+    let failing = path.unwanted(alloc)?;
+    let never = dia.of(env, &SemType::Basic(BasicSet::Never))?;
+    if has_both_marks(path) {
+        return Ok(Turn::Empty);
+    }
+    let playing = mappings_in_play(alloc, env, dia, never, wanted, failing.as_slice())?;
+    let unwanted = playing.as_slice();
+    settled(
+        alloc,
+        env,
+        dia,
+        never,
+        wanted,
+        path.is_marked(),
+        unwanted,
+        m,
+    )
+}
+
+/// Whether the mark is to hold and to fail.
+fn has_both_marks(path: &Path) -> bool
+    ensures { IsTrue result ↔ ((list_any (λ l. l == the_mark) path.now.pos ≡ true) × (list_any (λ l. l == the_mark) path.now.neg ≡ true)) }
+{
+    if path.is_marked() {
+        has_mark(&path.neg)
+    } else {
+        false
+    }
+}
+
+/// A mapping in all wanted atoms and in none of the others, that there is none, or a question about a member.
+fn settled<M: Member>(
+    alloc: Global,
+    env: &TypeEnv,
+    dia: &mut Diagrams,
+    never: u32,
+    wanted: &[u32],
+    marked: bool,
+    unwanted: &[u32],
+    m: &M,
+) -> Result<Turn, Memory>
+    requires wanted { All (IsMappingAtom env.now) wanted.now }
+    requires unwanted { All (IsMappingAtom env.now) unwanted.now }
+    requires never { Gives dia.old nothing never }
+    requires one { HasOneNumberEach dia.old }
+    requires sound { All (IsSound env.now dia.old) (M.kept m.now) }
+    ensures extends { Extends (length env.now) dia.old dia.new }
+    ensures one { OnOk result (HasOneNumberEach dia.new) }
+    ensures tells { IfOk result (TellsMappings env.now wanted.now marked dia.new (M.kept m.now) unwanted.now) }
+{
+    let keys = keys_of(alloc, env, wanted, unwanted)?;
+    let fresh = key_behind(alloc, keys.as_slice())?;
+    let rest = base(env, dia, never, wanted, marked, &fresh)?;
+    let made = rest_demands(alloc, env, dia, never, unwanted, &fresh)?;
+    let demands = made.as_slice();
+    let found = further_parts(alloc, dia, never, rest, demands, m)?;
+    match found {
+        Further::Parts(FurtherParts { parts, staying }) => {
+            let atoms = staying.as_slice();
+            filled(
+                alloc, env, dia, never, wanted, marked, atoms, keys, parts, m,
+            )
+        }
+        Further::Ask(question) => Ok(Turn::Ask(question)),
+    }
+}
+
+/// The keys that these atoms name, rising.
+fn keys_of(
+    alloc: Global,
+    env: &TypeEnv,
+    wanted: &[u32],
+    unwanted: &[u32],
+) -> Result<Vec<Text>, Memory>
+    requires wanted { All (IsMappingAtom env.now) wanted.now }
+    requires unwanted { All (IsMappingAtom env.now) unwanted.now }
+    ensures { IfOk result (λ keys. AreNamedKeys env.now (wanted.now ++ unwanted.now) keys.items) }
+{
+    let mut atoms = Vec::from_slice(alloc, wanted)?;
+    atoms.extend_from_slice(unwanted)?;
+    named_keys(alloc, env.defs(), &atoms)
+}
+
+/// A mapping in all wanted atoms that avoids others at the keys that atoms name, with these further members.
+fn filled<M: Member>(
+    alloc: Global,
+    env: &TypeEnv,
+    dia: &mut Diagrams,
+    never: u32,
+    wanted: &[u32],
+    marked: bool,
+    staying: &[u32],
+    keys: Vec<Text>,
+    further: Vec<Shape>,
+    m: &M,
+) -> Result<Turn, Memory>
+    requires wanted { All (IsMappingAtom env.now) wanted.now }
+    requires staying { All (IsMappingAtom env.now) staying.now }
+    requires ordered { AreInOrder keys.items }
+    requires never { Gives dia.old nothing never }
+    requires one { HasOneNumberEach dia.old }
+    requires sound { All (IsSound env.now dia.old) (M.kept m.now) }
+    ensures extends { Extends (length env.now) dia.old dia.new }
+    ensures one { OnOk result (HasOneNumberEach dia.new) }
+    ensures tells { IfOk result (TellsFilled env.now wanted.now marked dia.new (M.kept m.now) keys.items further.items staying.now) }
+{
+    let places = slots(alloc, env, dia, never, wanted, marked, keys.as_slice())?;
+    let asked = all_demands(alloc, env, dia, never, staying, keys.as_slice())?;
+    let slots = places.as_slice();
+    let unwanted = asked.as_slice();
+    let filling = avoid(alloc, dia, never, slots, unwanted, m)?;
+    match filling {
+        Filling::Parts(parts) => Ok(Turn::Shape(mapping(alloc, marked, keys, parts, further)?)),
+        Filling::Empty => Ok(Turn::Empty),
+        Filling::Ask(question) => Ok(Turn::Ask(question)),
+    }
+}
+
+/// What is asked at a key.
+fn base(
+    env: &TypeEnv,
+    dia: &mut Diagrams,
+    never: u32,
+    wanted: &[u32],
+    marked: bool,
+    key: &Text,
+) -> Result<u32, Memory>
+    requires wanted { All (IsMappingAtom env.now) wanted.now }
+    requires never { Gives dia.old nothing never }
+    requires one { HasOneNumberEach dia.old }
+    ensures extends { Extends (length env.now) dia.old dia.new }
+    ensures one { OnOk result (HasOneNumberEach dia.new) }
+    ensures made { IfOk result (Gives dia.new (wanted_at env.now wanted.now marked key.now)) }
+{
+    let question = members_question(env, dia, never, wanted, key)?;
+    frozen_if(env, dia, marked, question)
+}
+
+/// What the atoms ask at a key that none of them names.
+fn rest_demands(
+    alloc: Global,
+    env: &TypeEnv,
+    dia: &mut Diagrams,
+    never: u32,
+    atoms: &[u32],
+    fresh: &Text,
+) -> Result<Vec<RestDemand>, Memory>
+    requires atoms { All (IsMappingAtom env.now) atoms.now }
+    requires never { Gives dia.old nothing never }
+    requires one { HasOneNumberEach dia.old }
+    ensures extends { Extends (length env.now) dia.old dia.new }
+    ensures one { OnOk result (HasOneNumberEach dia.new) }
+    ensures demands { IfOk result (λ demands. AllZip (IsRestDemandOf env.now dia.new fresh.now) atoms.now demands.items) }
+{
+    let mut demands = Vec::new(alloc);
+    for atom in atoms {
+        let question = member_question(env, dia, never, *atom, fresh)?;
+        demands.push(RestDemand {
+            atom: *atom,
+            question,
+        })?;
+    }
+    Ok(demands)
+}
+
+/// What may stand at each key.
+fn slots(
+    alloc: Global,
+    env: &TypeEnv,
+    dia: &mut Diagrams,
+    never: u32,
+    wanted: &[u32],
+    marked: bool,
+    keys: &[Text],
+) -> Result<Vec<Slot>, Memory>
+    requires wanted { All (IsMappingAtom env.now) wanted.now }
+    requires never { Gives dia.old nothing never }
+    requires one { HasOneNumberEach dia.old }
+    ensures extends { Extends (length env.now) dia.old dia.new }
+    ensures one { OnOk result (HasOneNumberEach dia.new) }
+    ensures slots { IfOk result (λ slots. AllZip (IsSlotOf env.now wanted.now marked dia.new) keys.now slots.items) }
+{
+    let mut slots = Vec::new(alloc);
+    for key in keys {
+        slots.push(slot(env, dia, never, wanted, marked, key)?)?;
+    }
+    Ok(slots)
+}
+
+/// What may stand at a key.
+fn slot(
+    env: &TypeEnv,
+    dia: &mut Diagrams,
+    never: u32,
+    wanted: &[u32],
+    marked: bool,
+    key: &Text,
+) -> Result<Slot, Memory>
+    requires wanted { All (IsMappingAtom env.now) wanted.now }
+    requires never { Gives dia.old nothing never }
+    requires one { HasOneNumberEach dia.old }
+    ensures extends { Extends (length env.now) dia.old dia.new }
+    ensures one { OnOk result (HasOneNumberEach dia.new) }
+    ensures slot { IfOk result (IsSlotOf env.now wanted.now marked dia.new key.now) }
+{
+    let question = base(env, dia, never, wanted, marked, key)?;
+    if any_requires(env.defs(), wanted, key) {
+        Ok(Slot::Present(question))
+    } else {
+        Ok(Slot::Optional(question))
+    }
+}
+
+/// What each of the atoms asks at each key.
+fn all_demands(
+    alloc: Global,
+    env: &TypeEnv,
+    dia: &mut Diagrams,
+    never: u32,
+    atoms: &[u32],
+    keys: &[Text],
+) -> Result<Vec<Unwanted>, Memory>
+    requires atoms { All (IsMappingAtom env.now) atoms.now }
+    requires never { Gives dia.old nothing never }
+    requires one { HasOneNumberEach dia.old }
+    ensures extends { Extends (length env.now) dia.old dia.new }
+    ensures one { OnOk result (HasOneNumberEach dia.new) }
+    ensures demands { IfOk result (λ demands. AllZip (AreDemandsOf env.now dia.new keys.now) atoms.now demands.items) }
+{
+    let mut unwanted = Vec::new(alloc);
+    for atom in atoms {
+        unwanted.push(demands(alloc, env, dia, never, *atom, keys)?)?;
+    }
+    Ok(unwanted)
+}
+
+/// What the atom asks at each key.
+fn demands(
+    alloc: Global,
+    env: &TypeEnv,
+    dia: &mut Diagrams,
+    never: u32,
+    atom: u32,
+    keys: &[Text],
+) -> Result<Unwanted, Memory>
+    requires atom { IsMappingAtom env.now atom }
+    requires never { Gives dia.old nothing never }
+    requires one { HasOneNumberEach dia.old }
+    ensures extends { Extends (length env.now) dia.old dia.new }
+    ensures one { OnOk result (HasOneNumberEach dia.new) }
+    ensures demands { IfOk result (AreDemandsOf env.now dia.new keys.now atom) }
+{
+    let mut demands = Vec::new(alloc);
+    for key in keys {
+        let question = member_question(env, dia, never, atom, key)?;
+        let required = is_required(env.defs(), atom, key);
+        demands.push(Demand { question, required })?;
+    }
+    Ok(Unwanted { demands })
+}
+
+/// The mapping with these parts at the keys, and further members behind them.
+fn mapping(
+    alloc: Global,
+    mark: bool,
+    keys: Vec<Text>,
+    parts: Vec<Option<Shape>>,
+    further: Vec<Shape>,
+) -> Result<Shape, Memory>
+    requires ordered { AreInOrder keys.items }
+    requires long { length parts.items ≡ length keys.items }
+    ensures { IfOk result (IsMappingOf mark keys.items parts.items further.items) }
+{
+    let mut keys = keys;
+    let mut parts = parts;
+    for part in further {
+        let key = key_behind(alloc, keys.as_slice())?;
+        keys.push(key)?;
+        parts.push(Some(part))?;
+    }
+    let fields = Fields::of(members(alloc, keys, parts)?);
+    Ok(Shape::Mapping { mark, fields })
+}
+
+/// The members at the keys that have a part.
+fn members(
+    alloc: Global,
+    keys: Vec<Text>,
+    parts: Vec<Option<Shape>>,
+) -> Result<Vec<(Text, Shape)>, Memory>
+    ensures { IfOk result (λ members. members.items ≡ members_at keys.items parts.items) }
+{
+    let mut members = Vec::new(alloc);
+    for (key, part) in keys.into_iter().zip(parts) {
+        add_member(&mut members, key, part)?;
+    }
+    Ok(members)
+}
+
+/// Puts the part behind the members, if there is one.
+fn add_member(
+    members: &mut Vec<(Text, Shape)>,
+    key: Text,
+    part: Option<Shape>,
+) -> Result<(), Memory>
+    ensures { OnOk result (members.new.items ≡ members.old.items ++ cons_option (option_map (λ x. (key, x)) part) []) }
+{
+    match part {
+        Some(part) => {
+            members.push((key, part))?;
+            Ok(())
+        }
+        None => Ok(()),
+    }
+}
