@@ -14,7 +14,7 @@ use crate::parts::part;
 use crate::questions::{outside, within, within_parts};
 use bal_base::{Memory, Shape};
 use std::alloc::Global;
-use type_diagrams::{Diagrams, Member, Path, Finding, Turn, look_up};
+use type_diagrams::{Diagrams, Finding, Member, Path, Turn, look_up};
 use type_model::{BasicSet, SemType, TypeEnv};
 
 /// A shape of an error path, that there is none, or the question about the detail: for marked mappings in

@@ -12,7 +12,7 @@ use crate::parts::part;
 use crate::questions::{outside, within_parts};
 use bal_base::{Memory, Shape, Shapes};
 use std::alloc::Global;
-use type_diagrams::{Diagrams, Member, Path, Finding, Turn, look_up};
+use type_diagrams::{Diagrams, Finding, Member, Path, Turn, look_up};
 use type_model::TypeEnv;
 
 /// A shape of a future path, that there is none, or a question about a result: for each unwanted atom, a

@@ -18,6 +18,3 @@ mod questions;
 pub use errors::err_shape;
 pub use functions::fun_shape;
 pub use futures::fut_shape;
-
-#[cfg(test)]
-mod tests;

@@ -12,7 +12,7 @@ use crate::arrows::arrow_of;
 use crate::questions::{outside, within};
 use bal_base::{Case, Memory, Shape, Shapes};
 use std::alloc::Global;
-use type_diagrams::{Diagrams, Member, Finding, look_up};
+use type_diagrams::{Diagrams, Finding, Member, look_up};
 use type_model::TypeEnv;
 
 /// What is sought of a pair.

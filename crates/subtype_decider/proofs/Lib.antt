@@ -1,3 +1,4 @@
+pub mod Answering
 pub mod Descent
 pub mod Dropped
 pub mod Ends
@@ -10,8 +11,8 @@ pub mod LastQuestion
 pub mod Members
 pub mod Moved
 pub mod NextPath
-pub mod OneItems
 pub mod Passing
 pub mod Stepped
+pub mod Resting
 pub mod Steps
 pub mod Works

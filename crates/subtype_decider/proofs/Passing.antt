@@ -1,5 +1,8 @@
 -- A call that leads to a question passes the limits that the question passes.
-use Rattle.std.proofs.Common.{⊎_elim, inl, inr, ◌∙◌, ℕ, List}
+use Rattle.std.proofs.Common.{◌≡◌, ⊎_elim, inl, inr, ◌∙◌, ℕ, List, Result, Err, subst}
+use Rattle.bal_base.specs.declared.stop.Stop.{Stop}
+use Rattle.bal_base.specs.declared.stop.Stop.TheVariants.{Memory, Fault}
+use Rattle.bal_base.specs.Stops.{IfFault}
 use Rattle.std.proofs.lemmas.List.Elements.{All-weaker}
 use Rattle.type_model.specs.declared.atoms.AtomDef.{AtomDef}
 use Rattle.type_model.specs.declared.answers.TypeLimit.{TypeLimit}
@@ -9,7 +12,7 @@ use Rattle.type_diagrams.specs.declared.kind.Kind.{Kind}
 use Rattle.type_diagrams.specs.declared.kind.Kind.TheVariants.{List as Lists, Mapping as Mappings, Error as Errors, Function as Functions, Future as Futures}
 use Rattle.type_diagrams.specs.declared.path.Path.{Path}
 use Rattle.type_diagrams.specs.Conditions.{Condition, AreOne}
-use Rattle.type_diagrams.specs.Questions.{IsPartQuestion, IsArrowQuestion, IsMemberQuestion}
+use Rattle.type_diagrams.specs.Questions.{IsPartQuestion, IsMemberQuestion}
 use Rattle.type_diagrams.specs.Reach.{Reached, first, next, IsFirst, IsOutsideQuestion, Passes}
 use Rattle.type_diagrams.proofs.Reaching.{reached-further}
 use Rattle.subtype_decider.specs.Leads.{LeadsTo, LeadsPast}
@@ -50,3 +53,8 @@ module _ (env : List AtomDef) where
     pub past-Passes : (limit : TypeLimit) → LeadsPast env c limit → Passes env asked limit
     past-Passes Questions (questions, many, apart, leads) = (questions, many, apart, All-weaker (LeadsTo env c) (Reached env (IsFirst env asked)) further questions leads)
     past-Passes Arrows (d, p, leads, path, many) = (d, p, further d leads, path, many)
+
+-- a limit that is handed on
+pub handed : (U : Type 0) {T : Type 0} (P Q : TypeLimit → Type 0) (r : Result T (Stop TypeLimit)) (e : Stop TypeLimit) → r ≡ Err e → ((limit : TypeLimit) → P limit → Q limit) → IfFault r P → IfFault {T = U} {F = TypeLimit} (Err e) Q
+handed U P Q r Memory is f h = tt
+handed U P Q r (Fault limit) is f h = f limit (subst (λ s. IfFault s P) is h)

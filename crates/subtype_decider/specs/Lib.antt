@@ -1,9 +1,9 @@
 pub mod Arguments
 pub mod Closed
+pub mod Deciders
 pub mod Entries
 pub mod Keys
 pub mod Leads
 pub mod Measure
-pub mod OneItem
 pub mod Paths
 pub mod Working

@@ -5,11 +5,13 @@ ghost use Rattle.bal_base.specs.Stops.{IfFault};
 ghost use Rattle.type_model.specs.declared.atoms.AtomDef.{AtomDef};
 ghost use Rattle.type_model.specs.Defined.{IsDefined};
 ghost use Rattle.type_model.specs.Calls.{Asked};
+ghost use Rattle.type_model.specs.Membership.{In};
 ghost use Rattle.type_diagrams.specs.Conditions.{LooksAtKinds, condition_of};
+ghost use Rattle.type_diagrams.specs.Conditions.{without as without_condition};
 ghost use Rattle.type_diagrams.specs.Kept.{IsUnknown};
 ghost use Rattle.type_diagrams.specs.Reach.{IsFirst, Passes, Reached, most_questions};
 ghost use Rattle.type_diagrams.specs.Tables.{IsDiagram, condition};
-ghost use Rattle.type_diagrams.specs.Whole.{Extends, Gives};
+ghost use Rattle.type_diagrams.specs.Whole.{Extends, Gives, IsMetWhere};
 ghost use Rattle.subtype_decider.specs.Closed.{FindsShapeOf};
 ghost use Rattle.subtype_decider.specs.Entries.{AreApart, Knows, KnowsAll};
 ghost use Rattle.subtype_decider.specs.Leads.{LeadsPast, LeadsTo};
@@ -60,8 +62,26 @@ impl Questions {
         ensures extends { Extends (length env.now) self.old.diagrams self.new.diagrams }
         ensures gives { IfOk result (Gives self.new.diagrams (condition_of env.now t.now)) }
         ensures looks { IfOk result (λ question. LooksAtKinds env.now (condition self.new.diagrams question)) }
+        ensures shapes { IfOk result (λ question. IsMetWhere env.now (condition self.new.diagrams question) (λ x. In env.now x t.now)) }
     {
         self.diagrams.of(env, t)
+    }
+
+    /// The question for a shape of the first type that isn't in the second.
+    pub fn without(&mut self, env: &TypeEnv, s: &SemType, t: &SemType) -> Result<u32, Memory>
+        requires rest { IsAtRest env.now self.old }
+        requires left { IsDefined env.now s.now }
+        requires right { IsDefined env.now t.now }
+        ensures rest { IsAtRest env.now self.new }
+        ensures table { self.new.table ≡ self.old.table }
+        ensures extends { Extends (length env.now) self.old.diagrams self.new.diagrams }
+        ensures gives { IfOk result (Gives self.new.diagrams (without_condition (condition_of env.now s.now) (condition_of env.now t.now))) }
+        ensures looks { IfOk result (λ question. LooksAtKinds env.now (condition self.new.diagrams question)) }
+        ensures shapes { IfOk result (λ question. IsMetWhere env.now (condition self.new.diagrams question) (λ x. In env.now x s.now × ¬ In env.now x t.now)) }
+    {
+        let left = self.of(env, s)?;
+        let right = self.of(env, t)?;
+        self.diagrams.diff(left, right)
     }
 
     /// A shape of a question that the table knows, or `None` where it has none. Takes no memory.
@@ -72,6 +92,31 @@ impl Questions {
         match self.table.seen(question) {
             Some(shape) => shape,
             None => None,
+        }
+    }
+
+    /// A shape of the diagram, or `None` where it has none. The table keeps all that it knew. The limits are
+    /// those of `decide`.
+    pub fn find<S: Settles>(
+        &mut self,
+        alloc: Global,
+        settles: &S,
+        env: &TypeEnv,
+        question: u32,
+    ) -> Result<Option<Shape>, Stop<TypeLimit>>
+        requires rest { IsAtRest env.now self.old }
+        requires diagram { IsDiagram self.old.diagrams question }
+        requires looks { LooksAtKinds env.now (condition self.old.diagrams question) }
+        ensures rest { IsAtRest env.now self.new }
+        ensures extends { Extends (length env.now) self.old.diagrams self.new.diagrams }
+        ensures found { IfOk result (FindsShapeOf env.now (condition self.old.diagrams question)) }
+        ensures kept { All (Contains self.new.table) self.old.table }
+        ensures limit { (asked : Asked) → Reached env.now (IsFirst env.now asked) (condition self.old.diagrams question) → IfFault result (Passes env.now asked) }
+    {
+        self.decide(alloc, settles, env, question)?;
+        match self.shape(question) {
+            Some(shape) => Ok(Some(shape.copy(alloc)?)),
+            None => Ok(None),
         }
     }
 

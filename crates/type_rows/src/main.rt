@@ -3,12 +3,14 @@
 //! It reads a line each from its input, tells those whose answer is another, and how many rows there are:
 //!
 //! - `row`: a line, which is empty, defines types or asks a question, and what becomes of it.
+//! - `asked`: questions for a decider.
 //! - `drawn`: questions about diagrams.
 //! - `shapes` and `types`: shapes and types as they are written.
 //! - `names`: the types that lines define.
 //! - `tokens` and `misread`: the tokens of a line, and why a line isn't read.
 #![tactic(auto)]
 
+mod asked;
 mod drawn;
 mod misread;
 mod names;
@@ -48,8 +50,10 @@ fn main(rt: HostRuntime) -> io::Result<()> {
 fn tell(rt: &impl Print, number: u64, line: &str, outcome: &Read<Outcome>) -> io::Result<()> {
     match outcome {
         Ok(Outcome::NoQuestion) | Ok(Outcome::Agrees) => Ok(()),
-        Ok(Outcome::Differs(true)) => println!(rt; "line {number}: {line}: the answer is yes"),
-        Ok(Outcome::Differs(false)) => println!(rt; "line {number}: {line}: the answer is no"),
+        Ok(Outcome::Differs(reply)) => {
+            let word = reply.word();
+            println!(rt; "line {number}: {line}: the answer is {word}")
+        }
         Ok(Outcome::OtherPaths) => println!(rt; "line {number}: {line}: the paths are others"),
         Err(Stop::Memory) => println!(rt; "line {number}: {line}: out of memory"),
         Err(Stop::Fault(why)) => println!(rt; "line {number}: {line}: {why}"),

@@ -3,12 +3,18 @@
 //! - nothing, or a comment after `//`
 //! - `type NAME = TYPE`, or several such with `;` between them, which may name each other
 //! - `SHAPE is TYPE => yes`, or `no`: whether the shape is in the type
+//! - `below TYPE, TYPE => yes`, or `no`, `questions` or `arrows`: whether the first is below the second; with a
+//!   second answer behind a comma also whether the second is below the first
+//! - `some TYPE => yes`, or `no`: whether the type has a shape
+//! - `chain NUMBER => yes`, or `no`, `questions` or `arrows`: whether there is a shape of the first of so many
+//!   atoms that lead from one to the next
 //! - `same TYPE, TYPE => yes`, or `no`: whether the types have one diagram
 //! - `simple TYPE => yes`, or `no`: whether the type has a simple shape
 //! - `paths KIND of TYPE => PATH | PATH`, or `never`: the paths of a type for a kind, in order, each as
 //!   `readonly & NAME & !NAME`, where names are those of atoms, or `any`
 //! - `exclusive NUMBER => yes`: whether the exclusive or of so many new atoms has one diagram in both orders
 
+use crate::asked::{Reply, add, chain, has_shape, is_below, one_item};
 use crate::drawn::{Way, are_one, has_paths, has_simple, in_both_orders};
 use crate::misread::{Misread, Read, refuse};
 use crate::names::Names;
@@ -18,9 +24,9 @@ use crate::types::{TypeReader, Unknown};
 use bal_base::{Keyword, Name, Sign, Stop, Token, TokenKind};
 use bal_lexer::lex;
 use std::alloc::Global;
-use subtype_decider::holds;
+use subtype_decider::{Decider, holds};
 use type_diagrams::{Diagrams, Kind, MARK};
-use type_model::{AtomDef, BasicSet, ChoiceList, SemType, Ty, TyList, TypeEnv};
+use type_model::{AtomDef, BasicSet, SemType};
 
 /// How deep brackets may be nested.
 const MOST_LEVELS: u32 = 100;
@@ -33,7 +39,7 @@ pub enum Outcome {
     /// It asks a question and has its answer.
     Agrees,
     /// It asks a question, and this is the answer in place of its own.
-    Differs(bool),
+    Differs(Reply),
     /// It asks for paths, and there are others.
     OtherPaths,
 }
@@ -42,7 +48,7 @@ pub enum Outcome {
 #[derive(Drop)]
 pub struct Rows {
     alloc: Global,
-    env: TypeEnv,
+    decider: Decider,
     names: Names,
     diagrams: Diagrams,
 }
@@ -52,7 +58,7 @@ impl Rows {
     pub fn new(alloc: Global) -> Rows {
         Rows {
             alloc,
-            env: TypeEnv::new(alloc),
+            decider: Decider::new(alloc),
             names: Names::new(alloc),
             diagrams: Diagrams::new(alloc),
         }
@@ -65,21 +71,76 @@ impl Rows {
         match rest.first() {
             None => Ok(Outcome::NoQuestion),
             Some(TokenKind::Keyword(Keyword::Type)) => self.define(tokens.as_slice()),
-            Some(TokenKind::Word(word)) => self.drawn(word, &mut rest),
+            Some(TokenKind::Word(word)) => self.asked(word, &mut rest),
             Some(_) => self.membership(&mut rest),
         }
     }
 
-    /// Answers a question about diagrams, which this word begins.
-    fn drawn(&mut self, word: &Name, tokens: &mut Tokens) -> Read<Outcome> {
+    /// Answers a question that this word begins.
+    fn asked(&mut self, word: &Name, tokens: &mut Tokens) -> Read<Outcome> {
         tokens.next();
         match word.as_str() {
+            "below" => self.below(tokens),
+            "some" => self.some(tokens),
+            "chain" => self.chain(tokens),
             "same" => self.same(tokens),
             "simple" => self.simple(tokens),
             "paths" => self.paths(tokens),
             "exclusive" => self.exclusive(tokens),
             _ => refuse(Misread::NotALine),
         }
+    }
+
+    /// Whether a type is below another one, and the other way round where this is asked too.
+    fn below(&mut self, tokens: &mut Tokens) -> Read<Outcome> {
+        let mut reader = self.reader(Unknown::Misread);
+        let s = reader.whole(tokens, MOST_LEVELS)?;
+        tokens.expect(Sign::Comma, Misread::NotALine)?;
+        let t = reader.whole(tokens, MOST_LEVELS)?;
+        let defs = reader.into_defs();
+        tokens.expect(Sign::FatArrow, Misread::NotALine)?;
+        let expected = reply(tokens)?;
+        let back = if tokens.takes(Sign::Comma) {
+            Some(reply(tokens)?)
+        } else {
+            None
+        };
+        at_end(tokens)?;
+        self.add(defs)?;
+        let answer = is_below(self.alloc, &mut self.decider, &s, &t)?;
+        if answer != expected {
+            return Ok(Outcome::Differs(answer));
+        }
+        match back {
+            Some(expected) => Ok(replied(
+                is_below(self.alloc, &mut self.decider, &t, &s)?,
+                expected,
+            )),
+            None => Ok(Outcome::Agrees),
+        }
+    }
+
+    /// Whether a type has a shape.
+    fn some(&mut self, tokens: &mut Tokens) -> Read<Outcome> {
+        let mut reader = self.reader(Unknown::Misread);
+        let t = reader.whole(tokens, MOST_LEVELS)?;
+        let defs = reader.into_defs();
+        tokens.expect(Sign::FatArrow, Misread::NotALine)?;
+        let expected = reply(tokens)?;
+        at_end(tokens)?;
+        self.add(defs)?;
+        Ok(replied(has_shape(self.alloc, &mut self.decider, &t)?, expected))
+    }
+
+    /// Whether the first of a chain of atoms has a shape.
+    fn chain(&self, tokens: &mut Tokens) -> Read<Outcome> {
+        let Ok(count) = u32::try_from(tokens.int(Misread::NotALine)?) else {
+            return refuse(Misread::NotALine);
+        };
+        tokens.expect(Sign::FatArrow, Misread::NotALine)?;
+        let expected = reply(tokens)?;
+        at_end(tokens)?;
+        Ok(replied(chain(self.alloc, count)?, expected))
     }
 
     /// Whether two types have one diagram.
@@ -91,7 +152,7 @@ impl Rows {
         let defs = reader.into_defs();
         let expected = yes_or_no(tokens)?;
         self.add(defs)?;
-        let answer = are_one(&mut self.diagrams, &self.env, &s, &t)?;
+        let answer = are_one(&mut self.diagrams, self.decider.env(), &s, &t)?;
         Ok(judged(answer, expected))
     }
 
@@ -102,16 +163,14 @@ impl Rows {
         let defs = reader.into_defs();
         let expected = yes_or_no(tokens)?;
         self.add(defs)?;
-        let answer = has_simple(self.alloc, &mut self.diagrams, &self.env, &t)?;
+        let answer = has_simple(self.alloc, &mut self.diagrams, self.decider.env(), &t)?;
         Ok(judged(answer, expected))
     }
 
     /// The paths of a type for a kind.
     fn paths(&mut self, tokens: &mut Tokens) -> Read<Outcome> {
         let kind = kind(tokens)?;
-        if tokens.name(Misread::NotALine)?.as_str() != "of" {
-            return refuse(Misread::NotALine);
-        }
+        word(tokens, "of")?;
         let mut reader = self.reader(Unknown::Misread);
         let t = reader.whole(tokens, MOST_LEVELS)?;
         let defs = reader.into_defs();
@@ -119,7 +178,14 @@ impl Rows {
         let ways = self.ways(tokens)?;
         at_end(tokens)?;
         self.add(defs)?;
-        if has_paths(self.alloc, &mut self.diagrams, &self.env, &t, kind, &ways)? {
+        if has_paths(
+            self.alloc,
+            &mut self.diagrams,
+            self.decider.env(),
+            &t,
+            kind,
+            &ways,
+        )? {
             Ok(Outcome::Agrees)
         } else {
             Ok(Outcome::OtherPaths)
@@ -182,7 +248,7 @@ impl Rows {
             let defs = one_int(self.alloc, value)?;
             self.add(defs)?;
         }
-        let answer = in_both_orders(self.alloc, &mut self.diagrams, &self.env, &atoms)?;
+        let answer = in_both_orders(self.alloc, &mut self.diagrams, self.decider.env(), &atoms)?;
         Ok(judged(answer, expected))
     }
 
@@ -200,7 +266,7 @@ impl Rows {
         let defs = reader.into_defs();
         let expected = yes_or_no(tokens)?;
         self.add(defs)?;
-        Ok(judged(holds(&self.env, &shape, &t), expected))
+        Ok(judged(holds(self.decider.env(), &shape, &t), expected))
     }
 
     /// Reads the definitions of a line.
@@ -262,23 +328,12 @@ impl Rows {
 
     /// How many atoms are defined.
     fn atoms(&self) -> u32 {
-        self.env.defs().len() as u32
+        self.decider.env().defs().len() as u32
     }
 
     /// Defines further atoms.
     fn add(&mut self, defs: Vec<AtomDef>) -> Read<()> {
-        let atoms = self.env.defs().len() + defs.len();
-        if !AtomDef::are_below(&defs, atoms) {
-            return refuse(Misread::UnknownName);
-        }
-        if !AtomDef::have_distinct_fields(&defs) {
-            return refuse(Misread::FieldTwice);
-        }
-        match self.env.add(defs) {
-            Ok(_) => Ok(()),
-            Err(Stop::Memory) => Err(Stop::Memory),
-            Err(Stop::Fault(_)) => refuse(Misread::TooManyAtoms),
-        }
+        add(&mut self.decider, defs)
     }
 }
 
@@ -323,12 +378,36 @@ fn at_end(tokens: &Tokens) -> Read<()> {
     }
 }
 
-fn judged(answer: bool, expected: bool) -> Outcome {
+/// Takes the word.
+fn word(tokens: &mut Tokens, word: &str) -> Read<()> {
+    if tokens.name(Misread::NotALine)?.as_str() == word {
+        Ok(())
+    } else {
+        refuse(Misread::NotALine)
+    }
+}
+
+/// Takes an answer.
+fn reply(tokens: &mut Tokens) -> Read<Reply> {
+    match Reply::of_word(tokens.name(Misread::NotALine)?.as_str()) {
+        Some(reply) => Ok(reply),
+        None => refuse(Misread::NotALine),
+    }
+}
+
+fn replied(answer: Reply, expected: Reply) -> Outcome {
     if answer == expected {
         Outcome::Agrees
     } else {
         Outcome::Differs(answer)
     }
+}
+
+fn judged(answer: bool, expected: bool) -> Outcome {
+    replied(
+        if answer { Reply::Yes } else { Reply::No },
+        if expected { Reply::Yes } else { Reply::No },
+    )
 }
 
 /// Takes the word for a kind.
@@ -348,11 +427,6 @@ fn kind(tokens: &mut Tokens) -> Read<Kind> {
 
 /// The lists of one int alone.
 fn one_int(alloc: Global, value: i64) -> Read<Vec<AtomDef>> {
-    let item = Ty {
-        sem: SemType::Basic(BasicSet::IntRange(value, value)),
-        lists: ChoiceList::of(Vec::new(alloc)),
-        maps: ChoiceList::of(Vec::new(alloc)),
-    };
-    let fixed = TyList::of(vec![in alloc; item]?);
-    Ok(vec![in alloc; AtomDef::List { fixed, rest: None }]?)
+    let lists = one_item(alloc, SemType::Basic(BasicSet::IntRange(value, value)))?;
+    Ok(vec![in alloc; lists]?)
 }

@@ -1,11 +1,7 @@
 use Rattle.std.specs.Prelude.{⊤}
-use Rattle.std.proofs.Common.{◌≡◌, length, take, All, Contains, Result, Err, sym, subst, ◌∙◌, arith}
+use Rattle.std.proofs.Common.{◌≡◌, length, take, All, Contains, sym, subst, ◌∙◌, arith}
 use Rattle.std.proofs.lemmas.List.{take_all}
 use Rattle.std.proofs.lemmas.List.Elements.{All-contains_itself}
-use Rattle.bal_base.specs.declared.stop.Stop.{Stop}
-use Rattle.bal_base.specs.declared.stop.Stop.TheVariants.{Memory, Fault}
-use Rattle.bal_base.specs.Stops.{IfFault}
-use Rattle.type_model.specs.declared.answers.TypeLimit.{TypeLimit}
 use Rattle.type_diagrams.specs.Reach.{Passes}
 use Rattle.type_diagrams.specs.Tables.{Table as Diagrams, DependBelow, condition}
 use Rattle.subtype_decider.specs.Entries.{Knows}
@@ -13,7 +9,7 @@ use Rattle.subtype_decider.specs.Closed.{IsClosed}
 use Rattle.subtype_decider.specs.Leads.{LeadsPast}
 use Rattle.subtype_decider.proofs.Grown.{Entries, defined-grown}
 use Rattle.subtype_decider.proofs.Ends.{works-begin, settled-IsClosed, settled-kept, dropped-IsClosed, dropped-kept, dropped-Knows, closed-grown, by_test}
-use Rattle.subtype_decider.proofs.Passing.{past-Passes}
+use Rattle.subtype_decider.proofs.Passing.{past-Passes, handed}
 use Rattle.subtype_decider.proofs.questions.Questions.decide.Goals as goal
 
 pub answer-requires-clause-working : goal.answer-requires-clause-working
@@ -83,11 +79,6 @@ returns-in-Err-clause-kept g c =
     let old = c.args.self.now in
     let table = c.undo.ensures.table ∙ began old.table c.answer.new.self.table c.len.result c.len.ensures.len c.answer.ensures.began in
     subst (λ (l : Entries). All (Contains l) old.table) (sym table) (All-contains_itself old.table)
-
--- a limit that is handed on
-handed : (U : Type 0) {T : Type 0} (P Q : TypeLimit → Type 0) (r : Result T (Stop TypeLimit)) (e : Stop TypeLimit) → r ≡ Err e → ((limit : TypeLimit) → P limit → Q limit) → IfFault r P → IfFault {T = U} {F = TypeLimit} (Err e) Q
-handed U P Q r Memory is f h = tt
-handed U P Q r (Fault limit) is f h = f limit (subst (λ s. IfFault s P) is h)
 
 pub returns-in-Err-clause-limit : goal.returns-in-Err-clause-limit
 returns-in-Err-clause-limit g c asked reached =
