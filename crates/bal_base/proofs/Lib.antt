@@ -8,3 +8,4 @@ pub mod Rows
 pub mod SameShapes
 pub mod Tables
 pub mod Tests
+pub mod Vectors
