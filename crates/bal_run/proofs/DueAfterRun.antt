@@ -17,7 +17,7 @@ use Rattle.bal_run.specs.Progress.{AppendsAndFront, CameSoFar, Ended, StoppedAt,
 use Rattle.bal_run.specs.Report.{CanReport}
 use Rattle.bal_run.specs.Running.{EndedSo, StopsRun}
 use Rattle.bal_run.specs.Work.{IsStatusOfRun}
-use Rattle.stack_code.specs.Outcome.{Outcome, nothing}
+use Rattle.sum_code.specs.Outcome.{Outcome, nothing}
 use Rattle.bal_run.proofs.OutputGrows.{grows, grows-print-next, prefix-trans}
 use Rattle.bal_run.proofs.RunSoFar.{rest-of-run}
 use Rattle.bal_run.proofs.Simulation.{CodeRuns-one}

@@ -17,7 +17,7 @@ use Rattle.bal_run.specs.Progress.{CameSoFar, StoppedInPrint}
 use Rattle.bal_run.specs.Source.{HasFault, ReadsWith, no_main, refusal_of}
 use Rattle.bal_run.specs.Sums.{IsSumProgram}
 use Rattle.bal_run.specs.Words.{IsGood}
-use Rattle.stack_code.specs.Outcome.{Outcome, nothing}
+use Rattle.sum_code.specs.Outcome.{Outcome, nothing}
 use Rattle.bal_run.proofs.DueAfterRun.{front-so-far}
 use Rattle.bal_run.proofs.Simulation.{CodeRuns-one}
 

@@ -18,13 +18,13 @@ use Rattle.bal_run.specs.declared.machine.Effect.TheVariants.{Moved, Prints, End
 use Rattle.bal_run.specs.declared.machine.Ending.TheVariants.{Returned, Panicked}
 use Rattle.bal_run.specs.declared.machine.Machine.{Machine}
 use Rattle.bal_run.specs.Running.{Acts, CanDo, ComputesLast, EndsWithInts, PrintsLast, PushesOrPanics, IsOnItsWay, OnlyPrints, StopsStep, WasPrinting, after, state_at, shown}
-use Rattle.stack_code.specs.declared.code.Code.{Code}
-use Rattle.stack_code.specs.declared.instr.Constant.{Constant}
-use Rattle.stack_code.specs.declared.instr.Instr.{Instr}
-use Rattle.stack_code.specs.declared.instr.Instr.TheVariants.{Const, Add, Mul, Native, Pop, Return}
-use Rattle.stack_code.specs.declared.value.Value.{Value}
-use Rattle.stack_code.specs.declared.value.Value.TheVariants.{Nil, Int}
-use Rattle.stack_code.specs.Machine.{State, Next, On, Ends, Computes, PrintsLine, Drops, Leaves, Does, Step, IsPrint, went, value_of}
+use Rattle.sum_code.specs.declared.code.Code.{Code}
+use Rattle.sum_code.specs.declared.instr.Constant.{Constant}
+use Rattle.sum_code.specs.declared.instr.Instr.{Instr}
+use Rattle.sum_code.specs.declared.instr.Instr.TheVariants.{Const, Add, Mul, Native, Pop, Return}
+use Rattle.sum_code.specs.declared.value.Value.{Value}
+use Rattle.sum_code.specs.declared.value.Value.TheVariants.{Nil, Int}
+use Rattle.sum_code.specs.Machine.{State, Next, On, Ends, Computes, PrintsLine, Drops, Leaves, Does, Step, IsPrint, went, value_of}
 use Rattle.bal_run.proofs.Steps.{at_some}
 
 -- ---- ints

@@ -3,14 +3,14 @@ use Rattle.std.proofs.Common.{◌≡◌, ℕ, zero, suc, List, [], ◌∷◌, �
 use Rattle.std.specs.Prelude.{IsSomeAnd, slice_get}
 use Rattle.std.proofs.lemmas.List.{append-nil}
 use Rattle.bal_io.specs.Content.{IsPrefixOf}
-use Rattle.stack_code.specs.declared.code.Code.{Code}
-use Rattle.stack_code.specs.declared.instr.Constant.{Constant}
-use Rattle.stack_code.specs.declared.instr.Instr.{Instr}
-use Rattle.stack_code.specs.declared.instr.Instr.TheVariants.{Tick, Const, Add, Mul, Native, Pop, Return}
-use Rattle.stack_code.specs.declared.value.Value.{Value}
-use Rattle.stack_code.specs.declared.value.Value.TheVariants.{Nil, Int}
-use Rattle.stack_code.specs.Machine.{State, Next, On, Ends, Computes, PrintsLine, Drops, Leaves, Does, PrintsNext, RunsFrom, went, value_of, value_text}
-use Rattle.stack_code.specs.Outcome.{Outcome}
+use Rattle.sum_code.specs.declared.code.Code.{Code}
+use Rattle.sum_code.specs.declared.instr.Constant.{Constant}
+use Rattle.sum_code.specs.declared.instr.Instr.{Instr}
+use Rattle.sum_code.specs.declared.instr.Instr.TheVariants.{Tick, Const, Add, Mul, Native, Pop, Return}
+use Rattle.sum_code.specs.declared.value.Value.{Value}
+use Rattle.sum_code.specs.declared.value.Value.TheVariants.{Nil, Int}
+use Rattle.sum_code.specs.Machine.{State, Next, On, Ends, Computes, PrintsLine, Drops, Leaves, Does, PrintsNext, RunsFrom, went, value_of, value_text}
+use Rattle.sum_code.specs.Outcome.{Outcome}
 use Rattle.bal_run.proofs.Steps.{Goes, Step-one}
 
 abbrev output_of : State → Next → List ℕ

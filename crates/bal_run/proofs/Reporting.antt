@@ -8,7 +8,7 @@ use Rattle.bal_run.specs.declared.status.Status.{Status}
 use Rattle.bal_run.specs.declared.status.Status.TheVariants.{Done, ErrorReturned, Panicked, Refused, GoesOn, Stalled, FolderFault, InputFault, OutFault, Memory, Words, Limit, DiagFault}
 use Rattle.bal_run.specs.declared.status.Built.{Built}
 use Rattle.bal_run.specs.Due.{IsBeforeRun, SinkTells, status_of}
-use Rattle.stack_code.specs.Outcome.{Outcome}
+use Rattle.sum_code.specs.Outcome.{Outcome}
 use Rattle.bal_run.specs.Report.{AppendsFronts, CanReport, ComesTo, CountsDiagFaults, IsToldWhole, Reports, ReportedMemory, ReportedWhole, ReportFailed, WroteFrontOfSomeText, WroteFrontsOfSomeTexts, WroteFrontsOfTexts, WroteText}
 use Rattle.bal_run.specs.Status.{HasText}
 

@@ -11,14 +11,14 @@ use Rattle.bal_run.specs.declared.machine.Ending.{Ending}
 use Rattle.bal_run.specs.declared.machine.Machine.{Machine}
 use Rattle.bal_run.specs.Progress.{AppendsAndFront, IsAt, StoppedInPrint}
 use Rattle.bal_run.specs.Running.{EndedSo, MadeStep, StopsRun, StopsStep, WasPrinting, end_of, shown}
-use Rattle.stack_code.specs.declared.code.Code.{Code}
-use Rattle.stack_code.specs.declared.instr.Constant.{Constant}
-use Rattle.stack_code.specs.declared.instr.Instr.{Instr}
-use Rattle.stack_code.specs.declared.instr.Instr.TheVariants.{Tick, Const, Add, Mul, Native, Pop, Return}
-use Rattle.stack_code.specs.declared.value.Value.{Value}
-use Rattle.stack_code.specs.declared.value.Value.TheVariants.{Nil, Int}
-use Rattle.stack_code.specs.Machine.{State, On, Ends, Computes, PrintsLine, Drops, Leaves, Does, Step, RunsFrom, CodeRuns, Leads, Reaches, went, value_of, value_text}
-use Rattle.stack_code.specs.Outcome.{Given, Outcome}
+use Rattle.sum_code.specs.declared.code.Code.{Code}
+use Rattle.sum_code.specs.declared.instr.Constant.{Constant}
+use Rattle.sum_code.specs.declared.instr.Instr.{Instr}
+use Rattle.sum_code.specs.declared.instr.Instr.TheVariants.{Tick, Const, Add, Mul, Native, Pop, Return}
+use Rattle.sum_code.specs.declared.value.Value.{Value}
+use Rattle.sum_code.specs.declared.value.Value.TheVariants.{Nil, Int}
+use Rattle.sum_code.specs.Machine.{State, On, Ends, Computes, PrintsLine, Drops, Leaves, Does, Step, RunsFrom, CodeRuns, Leads, Reaches, went, value_of, value_text}
+use Rattle.sum_code.specs.Outcome.{Given, Outcome}
 use Rattle.bal_run.proofs.Simulation.{start-one}
 use Rattle.bal_run.proofs.Steps.{Goes, Step-one, outcome}
 

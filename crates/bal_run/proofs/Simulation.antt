@@ -20,14 +20,14 @@ use Rattle.bal_tree.specs.declared.def.Body.{Body}
 use Rattle.bal_tree.specs.declared.def.Body.TheVariants.{Block}
 use Rattle.bal_run.specs.Evaluation.{Evaluates, Gives, Overflows, Prints, PrintsBy, Runs, IsMain, HasStmts}
 use Rattle.bal_run.specs.Sums.{CallPrints, DefinePrints, IsOneSum, IsShortSum, IsSum, MainPrints, PrintsSum}
-use Rattle.stack_code.specs.declared.value.Value.TheVariants.{Nil, Int}
-use Rattle.stack_code.specs.declared.instr.Constant.TheVariants.{Nil as ConstantNil}
-use Rattle.stack_code.specs.declared.instr.Instr.{Instr}
-use Rattle.stack_code.specs.declared.instr.Instr.TheVariants.{Tick, Const, Native, Pop, Return}
-use Rattle.stack_code.specs.declared.code.Code.{Code}
-use Rattle.stack_code.specs.declared.code.Unit.{Unit as CodeUnit}
-use Rattle.stack_code.specs.Outcome.{Given, Outcome}
-use Rattle.stack_code.specs.Machine.{State, Next, On, Ends, Does, Step, RunsFrom, CodeRuns, IsStart, value_of}
+use Rattle.sum_code.specs.declared.value.Value.TheVariants.{Nil, Int}
+use Rattle.sum_code.specs.declared.instr.Constant.TheVariants.{Nil as ConstantNil}
+use Rattle.sum_code.specs.declared.instr.Instr.{Instr}
+use Rattle.sum_code.specs.declared.instr.Instr.TheVariants.{Tick, Const, Native, Pop, Return}
+use Rattle.sum_code.specs.declared.code.Code.{Code}
+use Rattle.sum_code.specs.declared.code.Unit.{Unit as CodeUnit}
+use Rattle.sum_code.specs.Outcome.{Given, Outcome}
+use Rattle.sum_code.specs.Machine.{State, Next, On, Ends, Does, Step, RunsFrom, CodeRuns, IsStart, value_of}
 use Rattle.bal_run.specs.Lowering.{Simulates, constants_of, sum_code, print_code, print_constants, PrintEach, IsMainOf, StartsAtZero}
 use Rattle.bal_run.proofs.Stands.{Stands, Stands-front, Stands-back, Stands-here}
 use Rattle.bal_run.proofs.Steps.{at_some, one_step, outcome, then_run, RunsFrom-one}

@@ -2,14 +2,14 @@
 use Rattle.std.proofs.Common.{◌≡◌, ℕ, zero, suc, List, [], ◌∷◌, Option, Some, None, refl, sym, ap, subst, ◌∙◌, ⊎_elim, ℤ, ◌+ℤ◌, ◌*ℤ◌}
 use Rattle.std.specs.Prelude.{IsSomeAnd, slice_get}
 use Rattle.bal_base.specs.End.{End}
-use Rattle.stack_code.specs.declared.value.Value.{Value}
-use Rattle.stack_code.specs.declared.value.Value.TheVariants.{Nil, Int}
-use Rattle.stack_code.specs.declared.instr.Instr.{Instr}
-use Rattle.stack_code.specs.declared.instr.Instr.TheVariants.{Tick, Const, Add, Mul, Native, Pop, Return}
-use Rattle.stack_code.specs.declared.instr.Constant.{Constant}
-use Rattle.stack_code.specs.declared.code.Code.{Code}
-use Rattle.stack_code.specs.Machine.{State, Next, On, Ends, Computes, PrintsLine, Drops, Leaves, Does, Step, Then, RunsFrom, Leads, went, value_of}
-use Rattle.stack_code.specs.Outcome.{Outcome}
+use Rattle.sum_code.specs.declared.value.Value.{Value}
+use Rattle.sum_code.specs.declared.value.Value.TheVariants.{Nil, Int}
+use Rattle.sum_code.specs.declared.instr.Instr.{Instr}
+use Rattle.sum_code.specs.declared.instr.Instr.TheVariants.{Tick, Const, Add, Mul, Native, Pop, Return}
+use Rattle.sum_code.specs.declared.instr.Constant.{Constant}
+use Rattle.sum_code.specs.declared.code.Code.{Code}
+use Rattle.sum_code.specs.Machine.{State, Next, On, Ends, Computes, PrintsLine, Drops, Leaves, Does, Step, Then, RunsFrom, Leads, went, value_of}
+use Rattle.sum_code.specs.Outcome.{Outcome}
 
 pub at_some : {A : Type 0} (o : Option A) (x : A) (P : A → Type 0) → o ≡ Some x → P x → IsSomeAnd o P
 at_some o x P e h = subst (λ p. IsSomeAnd p P) (sym e) h

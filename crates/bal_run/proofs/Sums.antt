@@ -11,11 +11,11 @@ use Rattle.bal_tree.specs.declared.expr.BinaryOp.{BinaryOp}
 use Rattle.bal_tree.specs.declared.expr.BinaryOp.TheVariants.{Add as Plus, Multiply}
 use Rattle.bal_run.specs.Evaluation.{Gives, Overflows, Combines}
 use Rattle.bal_run.specs.Sums.{IsSum, IsSumOp}
-use Rattle.stack_code.specs.declared.value.Value.{Value}
-use Rattle.stack_code.specs.declared.value.Value.TheVariants.{Int}
-use Rattle.stack_code.specs.declared.instr.Constant.TheVariants.{Int as ConstantInt}
-use Rattle.stack_code.specs.declared.code.Code.{Code}
-use Rattle.stack_code.specs.Machine.{State, Next, On, Ends, Does, Step, RunsFrom, value_of}
+use Rattle.sum_code.specs.declared.value.Value.{Value}
+use Rattle.sum_code.specs.declared.value.Value.TheVariants.{Int}
+use Rattle.sum_code.specs.declared.instr.Constant.TheVariants.{Int as ConstantInt}
+use Rattle.sum_code.specs.declared.code.Code.{Code}
+use Rattle.sum_code.specs.Machine.{State, Next, On, Ends, Does, Step, RunsFrom, value_of}
 use Rattle.bal_run.specs.Lowering.{constants_of, sum_code, operator}
 use Rattle.bal_run.proofs.Stands.{Stands, Stands-front, Stands-back}
 use Rattle.bal_run.proofs.Steps.{at_some, LeadsOn, one_step, joined, outcome, then_run}

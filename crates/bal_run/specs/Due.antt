@@ -17,7 +17,7 @@ use Rattle.bal_run.specs.Files.{Files, CompilesTo, IsMainFile, IsRefusalOf, Main
 use Rattle.bal_run.specs.Progress.{Ended, StoppedAt, StoppedInPrint}
 use Rattle.bal_run.specs.Source.{refusal_of}
 use Rattle.bal_run.specs.Words.{IsGood}
-use Rattle.stack_code.specs.Outcome.{Outcome, nothing}
+use Rattle.sum_code.specs.Outcome.{Outcome, nothing}
 
 -- ---- the scene: what the outside tells before a call and after it
 

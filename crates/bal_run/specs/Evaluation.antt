@@ -19,7 +19,7 @@ use Rattle.bal_tree.specs.declared.def.Def.{Def}
 use Rattle.bal_tree.specs.declared.def.Def.TheVariants.{Function}
 use Rattle.bal_tree.specs.declared.def.Body.{Body}
 use Rattle.bal_tree.specs.declared.def.Body.TheVariants.{Block}
-use Rattle.stack_code.specs.Outcome.{Given, Outcome}
+use Rattle.sum_code.specs.Outcome.{Given, Outcome}
 
 -- ---- expressions
 

@@ -12,14 +12,14 @@ use Rattle.bal_tree.specs.declared.def.Def.{Def}
 use Rattle.bal_tree.specs.declared.stmt.Stmt.{Stmt}
 use Rattle.bal_run.specs.Evaluation.{Evaluates, IsMain, Prints}
 use Rattle.bal_run.specs.Sums.{IsSum, PrintsSum}
-use Rattle.stack_code.specs.declared.instr.Constant.{Constant}
-use Rattle.stack_code.specs.declared.instr.Constant.TheVariants.{Int as ConstantInt}
-use Rattle.stack_code.specs.declared.instr.Instr.{Instr}
-use Rattle.stack_code.specs.declared.instr.Instr.TheVariants.{Const, Add as AddInstr, Mul, Native, Pop}
-use Rattle.stack_code.specs.declared.code.Code.{Code}
-use Rattle.stack_code.specs.declared.code.Unit.{Unit as CodeUnit}
-use Rattle.stack_code.specs.Machine.{CodeRuns}
-use Rattle.stack_code.specs.Outcome.{Given, Outcome}
+use Rattle.sum_code.specs.declared.instr.Constant.{Constant}
+use Rattle.sum_code.specs.declared.instr.Constant.TheVariants.{Int as ConstantInt}
+use Rattle.sum_code.specs.declared.instr.Instr.{Instr}
+use Rattle.sum_code.specs.declared.instr.Instr.TheVariants.{Const, Add as AddInstr, Mul, Native, Pop}
+use Rattle.sum_code.specs.declared.code.Code.{Code}
+use Rattle.sum_code.specs.declared.code.Unit.{Unit as CodeUnit}
+use Rattle.sum_code.specs.Machine.{CodeRuns}
+use Rattle.sum_code.specs.Outcome.{Given, Outcome}
 
 -- whatever is given, the code has a run with an outcome exactly where the evaluation of the program has it, and it has one
 pub record Simulates (tree : FileTree) (code : Code) : Type 0 where

@@ -1,9 +1,9 @@
 -- How far a run of code came: after how many steps, and what was written by then.
 use Rattle.std.specs.Prelude.{◌≡◌, ◌⊎◌, ◌++◌, ◌%◌, ◌^◌, ℕ, List, Option}
 use Rattle.bal_io.specs.Content.{Told, Appends, IsPrefixOf}
-use Rattle.stack_code.specs.declared.code.Code.{Code}
-use Rattle.stack_code.specs.Machine.{State, CodeRuns, PrintsNext, Reaches}
-use Rattle.stack_code.specs.Outcome.{Outcome, nothing}
+use Rattle.sum_code.specs.declared.code.Code.{Code}
+use Rattle.sum_code.specs.Machine.{State, CodeRuns, PrintsNext, Reaches}
+use Rattle.sum_code.specs.Outcome.{Outcome, nothing}
 
 -- after so many steps, modulo 2 to the power 64, a run of the code is at this state
 abbrev pub IsAt : Code → ℕ → State → Type 0

@@ -12,12 +12,12 @@ use Rattle.bal_run.specs.declared.machine.Effect.{Effect}
 use Rattle.bal_run.specs.declared.machine.Effect.TheVariants.{Moved, Prints, Ended as EndedEffect}
 use Rattle.bal_run.specs.declared.machine.Machine.{Machine}
 use Rattle.bal_run.specs.Progress.{Ended, StoppedAt, StoppedInPrint}
-use Rattle.stack_code.specs.declared.code.Code.{Code}
-use Rattle.stack_code.specs.declared.instr.Instr.{Instr}
-use Rattle.stack_code.specs.declared.value.Value.{Value}
-use Rattle.stack_code.specs.declared.value.Value.TheVariants.{Int, Nil}
-use Rattle.stack_code.specs.Machine.{State, Next, On, Ends, Does, Step, RunsFrom, CodeRuns, IsPrint, PrintsNext, value_text}
-use Rattle.stack_code.specs.Outcome.{Outcome, nothing}
+use Rattle.sum_code.specs.declared.code.Code.{Code}
+use Rattle.sum_code.specs.declared.instr.Instr.{Instr}
+use Rattle.sum_code.specs.declared.value.Value.{Value}
+use Rattle.sum_code.specs.declared.value.Value.TheVariants.{Int, Nil}
+use Rattle.sum_code.specs.Machine.{State, Next, On, Ends, Does, Step, RunsFrom, CodeRuns, IsPrint, PrintsNext, value_text}
+use Rattle.sum_code.specs.Outcome.{Outcome, nothing}
 
 -- ---- runs
 

@@ -4,15 +4,15 @@ ghost use Rattle.bal_run.specs.Lowering.{Simulates, constants_of, sum_code, oper
 ghost use Rattle.bal_tree.specs.declared.expr.Expr.{Postfix as PostfixExpr};
 ghost use Rattle.bal_run.specs.Evaluation.{HasStmts, Prints, PrintsBy};
 ghost use Rattle.bal_run.specs.Sums.{BodyPrints, CallPrints, DefinePrints, IsSum, IsSumOp, PrintsSum, IsSumProgram};
-ghost use Rattle.stack_code.specs.declared.instr.Constant.TheVariants.{Int as ConstantInt};
-ghost use Rattle.stack_code.specs.declared.instr.Instr.TheVariants.{Const, Native, Pop};
+ghost use Rattle.sum_code.specs.declared.instr.Constant.TheVariants.{Int as ConstantInt};
+ghost use Rattle.sum_code.specs.declared.instr.Instr.TheVariants.{Const, Native, Pop};
 
 use bal_base::Memory;
 use bal_tree::{
     BinaryOp, Body, Call, Def, Expr, FileTree, FunctionDef, Literal, Postfix, Primary, Rhs, Stmt,
 };
-use stack_code::{Code, Constant, Constants, Instr, Instrs, Unit, Units};
 use std::alloc::Global;
+use sum_code::{Code, Constant, Constants, Instr, Instrs, Unit, Units};
 
 /// The number of the operation `io:println`.
 const PRINTLN: u16 = 0;

@@ -3,16 +3,16 @@ ghost use Rattle.std.specs.Prelude.{◌≡◌, ◌<◌, ◌∷◌, [], ◌+ℤ�
 ghost use Rattle.bal_base.specs.End.{number_overflow};
 ghost use Rattle.bal_io.specs.Faults.{CountsFaults};
 ghost use Rattle.bal_run.specs.Running.{HasRun, EndedSo, StopsRun, CanDo, Acts, EndsWithInt, EndsWithInts, ComputesLast, PushesOrPanics, PrintsLast, IsOnItsWay, MadeStep, StopsStep, shown};
-ghost use Rattle.stack_code.specs.Machine.{IsStart, value_text, value_of};
-ghost use Rattle.stack_code.specs.Outcome.{nothing};
-ghost use Rattle.stack_code.specs.declared.instr.Instr.TheVariants.{Const};
-ghost use Rattle.stack_code.specs.declared.value.Value.TheVariants.{Int};
+ghost use Rattle.sum_code.specs.Machine.{IsStart, value_text, value_of};
+ghost use Rattle.sum_code.specs.Outcome.{nothing};
+ghost use Rattle.sum_code.specs.declared.instr.Instr.TheVariants.{Const};
+ghost use Rattle.sum_code.specs.declared.value.Value.TheVariants.{Int};
 
 use bal_base::{Failed, Memory, Stop, Text};
 use bal_io::Sink;
 use itoa::Buffer;
-use stack_code::{Code, Constant, Instr, Value};
 use std::alloc::Global;
+use sum_code::{Code, Constant, Instr, Value};
 
 /// How a run ended.
 #[derive(Debug, Drop)]

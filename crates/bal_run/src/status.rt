@@ -4,7 +4,7 @@ ghost use Rattle.bal_run.specs.Status.{exit_status};
 
 use bal_base::{LimitKind, Refusal, Ring, Text};
 use bal_tree::FileTree;
-use stack_code::Code;
+use sum_code::Code;
 
 /// What a call of the top came to.
 #[derive(Drop)]

@@ -16,7 +16,7 @@ ghost use Rattle.bal_run.specs.Sums.{IsSumProgram};
 ghost use Rattle.bal_run.specs.Work.{IsStatusOfLoad, IsStatusOfRun};
 ghost use Rattle.bal_run.specs.Words.{IsGood};
 ghost use Rattle.bal_run.specs.declared.status.Status.{Status as AnyStatus};
-ghost use Rattle.stack_code.specs.Outcome.{Outcome, nothing};
+ghost use Rattle.sum_code.specs.Outcome.{Outcome, nothing};
 
 use crate::compile::{LoadFault, compile};
 use crate::machine::{Ending, run};

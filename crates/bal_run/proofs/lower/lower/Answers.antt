@@ -1,9 +1,9 @@
 use Rattle.std.proofs.Common.{◌≡◌, ◌∷◌, ◌++◌, ◌+◌, List, [], take, length, sym, ap, subst, ◌∙◌, append_assoc, arith}
 use Rattle.std.proofs.lemmas.List.{take_more, take_all}
 use Rattle.std.proofs.lemmas.Result.{IfOk-weaker}
-use Rattle.stack_code.specs.declared.instr.Constant.TheVariants.{Nil}
-use Rattle.stack_code.specs.declared.instr.Instr.{Instr}
-use Rattle.stack_code.specs.declared.instr.Instr.TheVariants.{Tick, Const, Native, Pop, Return}
+use Rattle.sum_code.specs.declared.instr.Constant.TheVariants.{Nil}
+use Rattle.sum_code.specs.declared.instr.Instr.{Instr}
+use Rattle.sum_code.specs.declared.instr.Instr.TheVariants.{Tick, Const, Native, Pop, Return}
 use Rattle.bal_run.specs.Lowering.{PrintEach, print_code, print_constants, sum_code, constants_of}
 use Rattle.bal_run.proofs.Simulation.{PrintEach-push, print_constants-push, print_code-push, simulates}
 use Rattle.bal_run.proofs.lower.lower.Goals as goal

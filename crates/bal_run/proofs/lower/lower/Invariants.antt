@@ -1,7 +1,7 @@
 use Rattle.std.proofs.Common.{◌≡◌, ◌∷◌, List, take}
 use Rattle.bal_tree.specs.declared.expr.Expr.{Expr}
-use Rattle.stack_code.specs.declared.instr.Constant.TheVariants.{Nil}
-use Rattle.stack_code.specs.declared.instr.Instr.TheVariants.{Tick}
+use Rattle.sum_code.specs.declared.instr.Constant.TheVariants.{Nil}
+use Rattle.sum_code.specs.declared.instr.Instr.TheVariants.{Tick}
 use Rattle.bal_run.specs.Lowering.{PrintEach, print_code, print_constants}
 use Rattle.bal_run.proofs.lower.lower.Given as goal
 

@@ -1,7 +1,7 @@
 use Rattle.std.proofs.Common.{◌∷◌, ◌++◌, [], get_or, ap, ◌∙◌}
 use Rattle.std.proofs.lemmas.Option.{slice_get-get_or}
-use Rattle.stack_code.specs.declared.instr.Constant.TheVariants.{Nil}
-use Rattle.stack_code.specs.Machine.{value_of}
+use Rattle.sum_code.specs.declared.instr.Constant.TheVariants.{Nil}
+use Rattle.sum_code.specs.Machine.{value_of}
 use Rattle.bal_run.proofs.Instructions.{acts-const, constant-there}
 use Rattle.bal_run.proofs.machine.push_constant.Goals as goal
 

@@ -1,7 +1,7 @@
 use Rattle.std.proofs.Common.{◌+◌, ◌%◌, ◌^◌, ◌++◌, [], Option, suc, refl, ap, subst, ◌∙◌}
 use Rattle.bal_run.specs.declared.machine.Ending.{Ending}
 use Rattle.bal_run.specs.Running.{MadeStep, shown}
-use Rattle.stack_code.specs.Outcome.{nothing}
+use Rattle.sum_code.specs.Outcome.{nothing}
 use Rattle.bal_run.proofs.Instructions.{told-same}
 use Rattle.bal_run.proofs.RunSoFar.{rest-of-run, one-more-step, step-falls, told-more, step-counted, run-ended, run-stopped}
 use Rattle.bal_run.proofs.machine.run.Goals as goal

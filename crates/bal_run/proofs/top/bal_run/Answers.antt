@@ -1,7 +1,7 @@
 use Rattle.std.proofs.Common.{inl, inr, ⊎_elim, refl}
 use Rattle.bal_base.specs.End.{Returned, Panicked as PanickedEnd}
 use Rattle.bal_run.specs.Evaluation.{Evaluates}
-use Rattle.stack_code.specs.Outcome.{nothing}
+use Rattle.sum_code.specs.Outcome.{nothing}
 use Rattle.bal_base.specs.declared.fault.FaultCode.TheVariants.{NotUtf8, BadToken, Syntax, Depth, LeftOut, NotBuilt, NoMain}
 use Rattle.bal_run.specs.Source.{fault_of, no_main, not_built, refusal_of}
 use Rattle.bal_run.specs.declared.status.Status.TheVariants.{Done, Panicked, Refused, FolderFault, OutFault, Words}

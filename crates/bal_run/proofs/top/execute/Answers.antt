@@ -1,4 +1,4 @@
-use Rattle.stack_code.specs.Outcome.{nothing}
+use Rattle.sum_code.specs.Outcome.{nothing}
 use Rattle.bal_run.proofs.DueAfterRun.{run-stopped-so, run-can-report}
 use Rattle.bal_run.proofs.top.execute.Goals as goal
 

@@ -1,10 +1,10 @@
 use Rattle.std.proofs.Common.{◌+◌, ◌++◌, [], get_or, refl, sym, subst}
 use Rattle.std.proofs.lemmas.Option.{slice_get-get_or}
-use Rattle.stack_code.specs.declared.instr.Instr.TheVariants.{Tick}
+use Rattle.sum_code.specs.declared.instr.Instr.TheVariants.{Tick}
 use Rattle.bal_run.specs.declared.machine.Effect.TheVariants.{Moved, Prints, Ended}
 use Rattle.bal_io.specs.Content.{Told, Appends, AppendsFront}
 use Rattle.bal_run.specs.Running.{Acts, CanDo, end_of, state_at}
-use Rattle.stack_code.specs.Machine.{On, Ends}
+use Rattle.sum_code.specs.Machine.{On, Ends}
 use Rattle.bal_run.proofs.Instructions.{in_code, can_do, stops-printing, step-moved, step-made, told-same, was-printing}
 use Rattle.bal_run.proofs.machine.Machine.step.Goals as goal
 

@@ -1,5 +1,5 @@
-//! Stack code: the instructions that programs are lowered to, and the machine that they mean. The
-//! instructions that exist so far are those of a `main` that prints sums.
+//! Code of programs that print sums: the instructions that these are lowered to, and the machine that they mean. The
+//! instructions are those of a `main` that prints sums. The code of the whole language is `stack_code`.
 //!
 //! - [`Code`] and [`Unit`]: a program in instructions.
 //! - [`Instr`] and [`Constant`]: the instructions and what they push.
