@@ -1,0 +1,4 @@
+pub mod Functions
+pub mod Reading
+pub mod ShapeRules
+pub mod Words

@@ -1,0 +1,4 @@
+pub mod EventText
+pub mod RefusalText
+pub mod ShapeLayers
+pub mod ShapeText

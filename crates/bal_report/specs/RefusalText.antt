@@ -1,0 +1,149 @@
+-- The text of a refusal: `FILE:LINE:COLUMN: CODE WORDS`, or `CODE WORDS` where it has no place, and a line end.
+use Rattle.std.specs.Prelude.{◌++◌, ◌||◌, ℕ, Bool, true, false, List, [], Option, Some, None, codes, decimal, nat_eq}
+use Rattle.std.specs.Cmp.Lexicographic.{pointwise}
+use Rattle.std.specs.List.{join_by}
+use Rattle.bal_base.specs.FaultCode.{code_number}
+use Rattle.bal_base.specs.declared.fault.Fault.{Fault}
+use Rattle.bal_base.specs.declared.fault.FaultCode.{FaultCode}
+use Rattle.bal_base.specs.declared.fault.FaultCode.TheVariants.{NotUtf8, BadToken, Syntax, Depth, LeftOut, NotBuilt, NoModule, ImportCycle, Duplicate, Unknown, NotPublic, IllFounded, TypeLimit, AtomLimit, NoMain, FileTooLong, BadManifest, TooLarge, NotSubtype, Arity, NoField, AssignFinal, Captured, MissingReturn, BadBreak, Ignored, BadMain, NotIsolated, ReadOnlyHolds, NoChoice, NeedsType, Conditional, Unpaired, SuccessBefore, WaitCycle, NameAsValue, NoPeer, BadMessage, WorkerLimit, CodeLimit, TestLimit}
+use Rattle.bal_base.specs.declared.fault.Kept.{Kept}
+use Rattle.bal_base.specs.declared.fault.Kept.TheVariants.{Nothing, Shape, Names, Events, Counts, Count}
+use Rattle.bal_base.specs.declared.fault.Refusal.{Refusal}
+use Rattle.bal_base.specs.declared.place.Place.{Place}
+use Rattle.bal_base.specs.declared.text.Name.{Name}
+use Rattle.bal_tree.specs.declared.package.SourceFile.{SourceFile}
+use Rattle.bal_report.specs.EventText.{event_text}
+use Rattle.bal_report.specs.ShapeText.{shape_text}
+use Rattle.text_forms.specs.Forms.{text_if}
+
+-- ---- words
+
+-- a word of the command has such a name in place of a file's
+abbrev pub is_argument : List ℕ → Bool
+is_argument name = pointwise nat_eq name (codes "argument 1") || pointwise nat_eq name (codes "argument 2")
+
+-- what doesn't begin where something has to
+abbrev pub missing_words : Bool → List ℕ
+missing_words true = codes "not a type"
+missing_words false = codes "not a definition"
+
+-- what each code says, in a word of the command or in a file
+abbrev pub says : Bool → FaultCode → List ℕ
+says in_word NotUtf8 = codes "not UTF-8"
+says in_word BadToken = codes "not a token"
+says in_word Syntax = missing_words in_word
+says in_word Depth = codes "nested too deeply"
+says in_word LeftOut = codes "left out of this profile"
+says in_word NotBuilt = codes "not built yet"
+says in_word NoModule = codes "no such module"
+says in_word ImportCycle = codes "import cycle: "
+says in_word Duplicate = codes "name used twice"
+says in_word Unknown = codes "unknown name"
+says in_word NotPublic = codes "not public"
+says in_word IllFounded = codes "type is its own part: "
+says in_word TypeLimit = codes "type question too large"
+says in_word AtomLimit = codes "too many types"
+says in_word NoMain = codes "no public function main"
+says in_word FileTooLong = codes "file too long"
+says in_word BadManifest = codes "bad manifest"
+says in_word TooLarge = codes "package too large"
+says in_word NotSubtype = codes "not a subtype: "
+says in_word Arity = codes "wrong number of arguments"
+says in_word NoField = codes "no such member"
+says in_word AssignFinal = codes "cannot be assigned"
+says in_word Captured = codes "captured variable is assigned"
+says in_word MissingReturn = codes "missing return"
+says in_word BadBreak = codes "not in a loop"
+says in_word Ignored = codes "value is ignored"
+says in_word BadMain = codes "main has a wrong signature"
+says in_word NotIsolated = codes "not isolated: "
+says in_word ReadOnlyHolds = codes "must be immutable anydata"
+says in_word NoChoice = codes "no type fits"
+says in_word NeedsType = codes "receive needs a type"
+says in_word Conditional = codes "conditional worker action"
+says in_word Unpaired = codes "unpaired messages: "
+says in_word SuccessBefore = codes "success before a message"
+says in_word WaitCycle = codes "workers wait in a ring: "
+says in_word NameAsValue = codes "worker is no value"
+says in_word NoPeer = codes "no such peer"
+says in_word BadMessage = codes "message is outside the type: "
+says in_word WorkerLimit = codes "too many workers or events"
+says in_word CodeLimit = codes "program too large"
+says in_word TestLimit = codes "too many type tests"
+
+-- whether the words end in what shows the fault
+abbrev pub shows : FaultCode → Bool
+shows NotUtf8 = false
+shows BadToken = false
+shows Syntax = false
+shows Depth = false
+shows LeftOut = false
+shows NotBuilt = false
+shows NoModule = false
+shows ImportCycle = true
+shows Duplicate = false
+shows Unknown = false
+shows NotPublic = false
+shows IllFounded = true
+shows TypeLimit = false
+shows AtomLimit = false
+shows NoMain = false
+shows FileTooLong = false
+shows BadManifest = false
+shows TooLarge = false
+shows NotSubtype = true
+shows Arity = false
+shows NoField = false
+shows AssignFinal = false
+shows Captured = false
+shows MissingReturn = false
+shows BadBreak = false
+shows Ignored = false
+shows BadMain = false
+shows NotIsolated = true
+shows ReadOnlyHolds = false
+shows NoChoice = false
+shows NeedsType = false
+shows Conditional = false
+shows Unpaired = true
+shows SuccessBefore = false
+shows WaitCycle = true
+shows NameAsValue = false
+shows NoPeer = false
+shows BadMessage = true
+shows WorkerLimit = false
+shows CodeLimit = false
+shows TestLimit = false
+
+-- ---- what shows a fault
+
+-- one after another, as those of a cycle
+abbrev pub on_the_way : {A : Type 0} → (A → List ℕ) → List A → List ℕ
+on_the_way text xs = join_by text (codes " -> ") xs
+
+abbrev pub name_text : Name → List ℕ
+name_text name = name
+
+abbrev pub kept_text : List SourceFile → Kept → List ℕ
+kept_text files Nothing = []
+kept_text files (Shape s) = shape_text s
+kept_text files (Names names) = on_the_way name_text names
+kept_text files (Events events) = on_the_way (event_text files) events
+kept_text files (Counts sent received) = decimal sent ++ codes " sent, " ++ decimal received ++ codes " received"
+kept_text files (Count n) = []
+
+-- ---- refusals
+
+-- `FILE:LINE:COLUMN: `, where the fault has a place
+abbrev pub place_text : Refusal → Option Place → List ℕ
+place_text r None = []
+place_text r (Some at) = r.file ++ codes ":" ++ decimal r.line ++ codes ":" ++ decimal r.column ++ codes ": "
+
+-- `CODE WORDS`
+abbrev pub fault_text : List SourceFile → Bool → Fault → List ℕ
+fault_text files in_word fault =
+    decimal (code_number fault.code) ++ codes " " ++ says in_word fault.code ++ text_if (shows fault.code) (kept_text files fault.kept)
+
+-- the text of a refusal, where the files are those of the package by number
+abbrev pub refusal_text : List SourceFile → Refusal → List ℕ
+refusal_text files r = place_text r r.fault.at ++ fault_text files (is_argument r.file) r.fault ++ codes "\n"
