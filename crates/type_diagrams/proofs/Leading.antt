@@ -1,11 +1,11 @@
 -- Going along the nodes of a number ends in what its decision comes to.
-use Rattle.std.proofs.Common.{◌≡◌, ℕ, zero, suc, ◌<◌, ◌+◌, List, Bool, true, false, if◌then◌else◌, Some, slice_get, refl, sym, subst, ap, arith}
+use Rattle.std.proofs.Common.{◌≡◌, ℕ, zero, suc, ◌<◌, ◌+◌, List, Bool, true, false, if◌then◌else◌, Some, slice_get, refl, sym, subst, ◌∙◌, ap, arith}
 use Rattle.std.proofs.lemmas.Option.{slice_get_within}
 use Rattle.type_diagrams.specs.declared.node.Node.{Node}
 use Rattle.type_diagrams.specs.Trees.{eval}
 use Rattle.type_diagrams.specs.Tables.{AreNodes, Leads, at_false, at_true, to_yes, to_no}
 use Rattle.type_diagrams.specs.Decisions.{IsNumber, value_of}
-use Rattle.type_diagrams.proofs.NodeTrees.{View, is_no, is_yes, is_node, view}
+use Rattle.type_diagrams.proofs.NodeTrees.{View, is_no, is_yes, is_node, tree_of_node, view}
 
 module _ (nodes : List Node) (are : AreNodes nodes) (v : ℕ → Bool) where
   along : (k : ℕ) (m : Node) (b : Bool) → slice_get nodes k ≡ Some m → v m.on ≡ b → Leads nodes v m.yes (value_of nodes m.yes v) → Leads nodes v m.no (value_of nodes m.no v) → Leads nodes v (k + 2) (if b then value_of nodes m.yes v else value_of nodes m.no v)
@@ -29,3 +29,12 @@ module _ (nodes : List Node) (are : AreNodes nodes) (v : ℕ → Bool) where
 
   pub leads : (n : ℕ) → IsNumber nodes n → Leads nodes v n (value_of nodes n v)
   leads n is = leads_to (n + 1) n (omega arith) is
+
+  -- and in nothing else
+  pub leads-value : (n : ℕ) (b : Bool) → Leads nodes v n b → value_of nodes n v ≡ b
+  leads-value _ _ at_false = refl
+  leads-value _ _ at_true = refl
+  leads-value _ _ (to_yes k m b at h l) =
+      ap (λ t. eval t v) (tree_of_node nodes are k m at) ∙ (λ i. if h i then value_of nodes m.yes v else value_of nodes m.no v) ∙ leads-value m.yes b l
+  leads-value _ _ (to_no k m b at h l) =
+      ap (λ t. eval t v) (tree_of_node nodes are k m at) ∙ (λ i. if h i then value_of nodes m.yes v else value_of nodes m.no v) ∙ leads-value m.no b l

@@ -21,6 +21,7 @@ pub mod NodeTrees
 pub mod Numbering
 pub mod OneNumber
 pub mod Outside
+pub mod Parts
 pub mod PathLaws
 pub mod PathLiterals
 pub mod PathShapes
@@ -38,3 +39,4 @@ pub mod Tellings
 pub mod Truths
 pub mod TypeParts
 pub mod Unions
+pub mod WrittenSets

@@ -49,26 +49,26 @@ module _ (env : List AtomDef) where
       atom a true e = ap (λ x. is_def_of k (slice_get env a) && x) (agree a (λ _. e))
       atom a false e = ap (λ b. b && v a) e ∙ sym (ap (λ b. b && w a) e)
 
-  nothing-Looks : Looks nothing
+  pub nothing-Looks : Looks nothing
   nothing-Looks k v w agree = refl
 
-  frozen-Looks : Looks frozen
+  pub frozen-Looks : Looks frozen
   frozen-Looks Lists v w agree = agree the_mark (λ ne. absurd (ne refl))
   frozen-Looks Mappings v w agree = agree the_mark (λ ne. absurd (ne refl))
   frozen-Looks Errors v w agree = refl
   frozen-Looks Functions v w agree = refl
   frozen-Looks Futures v w agree = refl
 
-  asks-Looks : (wanted unwanted : List Condition) → All Looks wanted → All Looks unwanted → Looks (asks wanted unwanted)
+  pub asks-Looks : (wanted unwanted : List Condition) → All Looks wanted → All Looks unwanted → Looks (asks wanted unwanted)
   asks-Looks wanted unwanted h g k v w agree =
       λ i. all_same (λ c. c.by_kind k v) (λ c. c.by_kind k w) wanted (λ j d lt. h j d lt k v w agree) i
       && all_same (λ c. not (c.by_kind k v)) (λ c. not (c.by_kind k w)) unwanted (λ j d lt. ap not (g j d lt k v w agree)) i
 
-  asked-Looks : {X : Type 0} (ask : X → Condition) → ((x : X) → Looks (ask x)) → (o : Option X) → Looks (asked ask o)
+  pub asked-Looks : {X : Type 0} (ask : X → Condition) → ((x : X) → Looks (ask x)) → (o : Option X) → Looks (asked ask o)
   asked-Looks ask h (Some x) = h x
   asked-Looks ask h None = nothing-Looks
 
-  each : {X : Type 0} (f : X → Condition) (xs : List X) → ((x : X) → Looks (f x)) → All Looks (map f xs)
+  pub each : {X : Type 0} (f : X → Condition) (xs : List X) → ((x : X) → Looks (f x)) → All Looks (map f xs)
   each f xs h = All-map Looks f xs (λ k d lt. h _)
 
   one : (c : Condition) → Looks c → All Looks (c ∷ [])

@@ -47,3 +47,13 @@ sound-keeps env old new kept keeps sound = All-weaker (IsSound env old) (IsSound
     by : (q : ℕ) (o : Option Shape) → IsSound env old (q, o) → IsSound env new (q, o)
     by q None h = length-grows old.diagrams new.diagrams q keeps.diagrams h
     by q (Some x) h = (length-grows old.diagrams new.diagrams q keeps.diagrams h.0, subst (λ c. IsShapeOf env c x) (sym (keeps.conditions q h.0)) h.1)
+
+-- a lower shape of a question that is held to be empty stays one
+pub lower-keeps : (env : List AtomDef) (old new : Table) (kept : List (ℕ × Option Shape)) (x : Shape) → Keeps old new → All (IsSound env old) kept → HasLower env old kept x → HasLower env new kept x
+lower-keeps env old new kept x keeps sound l = record {
+  question = l.question;
+  held = l.held;
+  part = l.part;
+  inside = subst (λ c. IsShapeOf env c l.part) (sym (keeps.conditions l.question (All-contains (IsSound env old) kept (l.question, None) sound l.held))) l.inside;
+  lower = l.lower;
+}

@@ -9,6 +9,7 @@ pub mod Members
 pub mod Merges
 pub mod Operations
 pub mod Paths
+pub mod Projections
 pub mod Questions
 pub mod Reach
 pub mod Sets
@@ -17,3 +18,4 @@ pub mod Tables
 pub mod Trees
 pub mod Turns
 pub mod Whole
+pub mod Written

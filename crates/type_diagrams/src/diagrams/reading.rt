@@ -1,11 +1,15 @@
-//! Reading diagrams: their nodes, roots and paths.
-ghost use Rattle.std.specs.Prelude.{◌≡◌, ◌++◌, ℕ, Bool, IfOk, OnOk, map};
+//! Reading diagrams: their nodes, roots and paths, and their simple shapes.
+ghost use Rattle.std.specs.Prelude.{◌≡◌, ◌++◌, ℕ, Bool, List, IfOk, OnOk, map};
+ghost use Rattle.type_model.specs.declared.atoms.AtomDef.{AtomDef};
+ghost use Rattle.type_model.specs.Defined.{NamesBelow};
+ghost use Rattle.type_diagrams.specs.Conditions.{AreOne, condition_of};
 ghost use Rattle.type_diagrams.specs.Paths.{paths_of, behind};
 ghost use Rattle.type_diagrams.specs.Tables.{AreNodes, IsDiagram, Leads, condition, tree_of};
 ghost use Rattle.type_diagrams.specs.Decisions.{IsNumber};
 ghost use Rattle.type_diagrams.specs.Whole.{HasOneNumberEach, IsTable};
 ghost use Rattle.type_diagrams.specs.Found.{FindsSimple};
 ghost use Rattle.type_diagrams.specs.Questions.{HasPaths, IsUnionOf};
+ghost use Rattle.type_diagrams.specs.Written.{simple_alone};
 
 use crate::diagrams::Diagrams;
 use crate::kind::Kind;
@@ -14,6 +18,7 @@ use crate::nodes::{FALSE, TRUE};
 use crate::path::Path;
 use bal_base::{AtomList, Memory, Shape};
 use std::alloc::Global;
+use type_model::SemType;
 
 impl Diagrams {
     /// The nodes, in the order of their numbers. Diagrams with equal conditions have one number. Takes no
@@ -59,6 +64,18 @@ impl Diagrams {
     {
         let diagram = self.diagram(a);
         self.sets.as_slice()[diagram.simple as usize].shape(alloc)
+    }
+
+    /// The type of the simple shapes of the diagram: it has these shapes and no others, over whatever atoms,
+    /// and names no atom. It is a union of as many sets as there are ranges of ints and strings, in halves, so
+    /// that it is nested no deeper than the logarithm of their number and some.
+    pub fn simple_type(&self, alloc: Global, a: u32) -> Result<SemType, Memory>
+        requires { IsDiagram self.now a }
+        ensures names { IfOk result (NamesBelow 0) }
+        ensures condition { IfOk result (λ t. (env : List AtomDef) → AreOne (condition_of env t) (simple_alone (condition self.now a))) }
+    {
+        let diagram = self.diagram(a);
+        self.sets.as_slice()[diagram.simple as usize].as_type(alloc)
     }
 
     /// The paths from a number on, behind the literals on the way to it.
