@@ -47,7 +47,7 @@ lower_row : (b n : _) (row : Row_of-Shape n) → greatest row < b → All (IsLow
 lower_row b n end_of-Shape h = All-nil (IsLower b)
 lower_row b n (more_of-Shape x rest) h = All-cons (IsLower b) x _ (omega (arith, h)) (lower_row b _ rest (omega (arith, h)))
 
-valid_results : (x : Shape) → IsOfKind Futures x → IsValid x → All IsValid (results_in x)
+pub valid_results : (x : Shape) → IsOfKind Futures x → IsValid x → All IsValid (results_in x)
 valid_results (Future' _ row) kind valid = valid_row _ row valid
 valid_results Nil kind valid = cc
 valid_results (BoolShape b) kind valid = cc
@@ -80,7 +80,7 @@ module _ (env : List AtomDef) (small : length env ≤ the_mark) where
       ((In-condition env small x t).1 (All-head (Meets env (condition_of env t)) x _ h), to_row t _ rest (All-tail (Meets env (condition_of env t)) x _ h))
 
   -- a future is in a future atom where all results meet what the atom asks
-  In-results : (x : Shape) → IsOfKind Futures x → (o : Option AtomDef) → is_def_of Futures o ≡ true → IsSomeAnd o (Fits env x) ↔ All (Meets env (asked (condition_of env) (option_and_then one_part o))) (results_in x)
+  pub In-results : (x : Shape) → IsOfKind Futures x → (o : Option AtomDef) → is_def_of Futures o ≡ true → IsSomeAnd o (Fits env x) ↔ All (Meets env (asked (condition_of env) (option_and_then one_part o))) (results_in x)
   In-results (Future' s row) kind o def = by o def
     where
       by : (o : Option AtomDef) → is_def_of Futures o ≡ true → IsSomeAnd o (Fits env (Future' s row)) ↔ All (Meets env (asked (condition_of env) (option_and_then one_part o))) (shapes_in _ row)

@@ -24,7 +24,7 @@ use Rattle.type_diagrams.specs.declared.kind.Kind.TheVariants.{Function as Funct
 use Rattle.type_diagrams.specs.declared.path.Path.{Path}
 use Rattle.type_diagrams.specs.Atoms.{arrow_parts}
 use Rattle.type_diagrams.specs.Kinds.{IsOfKind, the_mark}
-use Rattle.type_diagrams.specs.Conditions.{Condition, Meets, is_def_of, condition_of}
+use Rattle.type_diagrams.specs.Conditions.{Condition, Meets, is_def_of, condition_of, asks}
 use Rattle.type_diagrams.specs.Members.{asked, atoms_in, arguments_of, outcome_of}
 use Rattle.type_diagrams.specs.Paths.{IsOnPath}
 use Rattle.type_diagrams.specs.Questions.{lists, readonly}
@@ -62,7 +62,7 @@ cases_in (Mapping' mark _ fields) = []
 cases_in (Error' _ detail) = []
 cases_in (Future' _ results) = []
 
-valid_cases : (x : Shape) → IsOfKind Functions x → IsValid x → All CaseIsValid (cases_in x)
+pub valid_cases : (x : Shape) → IsOfKind Functions x → IsValid x → All CaseIsValid (cases_in x)
 valid_cases (Function isolated graph) kind valid = (IsValid-Function isolated graph).0 valid
 valid_cases Nil kind valid = cc
 valid_cases (BoolShape b) kind valid = cc
@@ -102,11 +102,11 @@ unmarked_list (Function isolated graph) is plain = is
 unmarked_list (Future' _ results) is plain = is
 
 module _ (env : List AtomDef) (small : length env ≤ the_mark) where
-  pub sought-AreArguments : (a : ℕ) → AreArguments env (arguments_sought env a)
-  sought-AreArguments a x h =
+  pub sought-AreArguments : (of : Condition) → AreArguments env (asks (of ∷ lists env ∷ []) (readonly env ∷ []))
+  sought-AreArguments of x h =
       let Is : Condition → Type 0 = λ c. Meets env c x in
-      let met = (Meets-asks env (arguments_of env a ∷ lists env ∷ []) (readonly env ∷ []) x).0 h.1 in
-      let list = All-head Is (lists env) [] (All-tail Is (arguments_of env a) (lists env ∷ []) met.0) in
+      let met = (Meets-asks env (of ∷ lists env ∷ []) (readonly env ∷ []) x).0 h.1 in
+      let list = All-head Is (lists env) [] (All-tail Is of (lists env ∷ []) met.0) in
       let plain = All-head (λ c. ¬ Is c) (readonly env) [] met.1 in
       unmarked_list x ((In-condition env small x (Basic ListAll)).1 list) (λ i. plain ((In-condition env small x (Basic Readonly)).0 i))
 

@@ -1,10 +1,17 @@
-mod Base
+pub mod ArgumentLists
+pub mod Base
+pub mod ChosenArrows
 mod Details
 mod FunctionTurns
-pub mod FurtherPairs
+mod FutureParts
 mod FutureResults
 mod FutureTurns
+pub mod GivenPaths
+pub mod Giving
 pub mod GraphLaws
+pub mod OnePair
 pub mod PairLaws
-mod PairSteps
+pub mod PairSteps
 mod PartLaws
+pub mod PathLengths
+pub mod SomeOf

@@ -17,7 +17,6 @@ use Rattle.type_diagrams.specs.Turns.{IsSound}
 use Rattle.type_diagrams.specs.Whole.{Keeps}
 use Rattle.type_diagrams.proofs.Meeting.{Meets-and, Meets-without, Meets-same}
 use Rattle.type_diagrams.proofs.Shapes.{one-further}
-use Rattle.type_diagrams.proofs.Keeping.{length-grows}
 use Rattle.empty_arrow.specs.declared.pairs.Found.{Found}
 use Rattle.empty_arrow.specs.declared.pairs.Found.TheVariants.{Pair, Empty, Ask}
 use Rattle.empty_arrow.specs.Pairs.{AreArguments, FitsArrow, IsAnswer, IsPair, HasHeldPart, AsksArguments, AsksResults, TellsPair}
@@ -29,6 +28,9 @@ valid-arguments c valid = (IsValid-List false c.args).1 (λ m. absurd (false≢t
 
 module _ (env : List AtomDef) where
   -- ---- questions that are told of already
+
+  pub asked-itself : (args : Condition) (arrows : List ℕ) → AsksArguments env args arrows args
+  asked-itself args arrows = record { left = []; among = All-nil _; asked = asks_itself args }
 
   module _ (table : Table) (kept : List (ℕ × Option Shape)) (arrows : List ℕ) where
     pub held-arguments : (q : ℕ) (results : Condition) (may_fail : Bool) → IsHeldEmpty kept q → TellsPair env table kept (condition table q) results may_fail arrows Empty
@@ -48,7 +50,7 @@ module _ (env : List AtomDef) where
         by (Some x) is answer valid = record { question = q; held = held; part = x; stands = inr is; inside = (valid, answer) }
 
     pub ask-arguments : (q : ℕ) (results : Condition) (may_fail : Bool) → IsUnknown kept q → IsDiagram table q → TellsPair env table kept (condition table q) results may_fail arrows (Ask q)
-    ask-arguments q results may_fail unknown is = (unknown, is, inl (record { left = []; among = All-nil _; asked = asks_itself (condition table q) }))
+    ask-arguments q results may_fail unknown is = (unknown, is, inl (asked-itself (condition table q) arrows))
 
     pub ask-result : (q : ℕ) (args : Condition) (may_fail : Bool) → may_fail ≡ false → IsUnknown kept q → IsDiagram table q → TellsPair env table kept args (condition table q) may_fail arrows (Ask q)
     ask-result q args may_fail sure unknown is =
@@ -78,6 +80,18 @@ module _ (env : List AtomDef) where
     where
       Contains-one : (x : ℕ) → Contains (x ∷ []) x
       Contains-one x = (0, omega arith, refl)
+
+  module _ (first : ℕ) (rest : List ℕ) (args : Condition) where
+    -- a question about arguments that the arrow doesn't take, and one about the same arguments
+    pub further-asked : (left : Condition) → AreOne left (without args (arguments_of env first)) → (d : Condition) → AsksArguments env left rest d → AsksArguments env args (first ∷ rest) d
+    further-asked left is d a = record {
+      left = first ∷ a.left;
+      among = All-cons (Contains (first ∷ rest)) first a.left (here first rest) (further first rest a.left a.among);
+      asked = one-further _ _ _ a.asked (asks_first_unwanted left args (arguments_of env first) (map (arguments_of env) a.left) is);
+    }
+
+    pub same-asked : (d : Condition) → AsksArguments env args rest d → AsksArguments env args (first ∷ rest) d
+    same-asked d a = record { left = a.left; among = further first rest a.left a.among; asked = a.asked }
 
   module _ (first : ℕ) (rest : List ℕ) (args results : Condition) (may_fail : Bool) where
     -- a pair with arguments that the arrow doesn't take
@@ -131,11 +145,7 @@ module _ (env : List AtomDef) where
         h.0,
         h.1,
         ⊎_elim
-            (λ (a : AsksArguments env left rest (condition table q)). inl (record {
-              left = first ∷ a.left;
-              among = All-cons (Contains (first ∷ rest)) first a.left (here first rest) (further first rest a.left a.among);
-              asked = one-further _ _ _ a.asked (asks_first_unwanted left args (arguments_of env first) (map (arguments_of env) a.left) is);
-            }))
+            (λ (a : AsksArguments env left rest (condition table q)). inl (further-asked first rest args left is (condition table q) a))
             (λ (r : AsksResults env results may_fail rest (condition table q)). inr (record { taken = r.taken; among = further first rest r.taken r.among; some = r.some; asked = r.asked }))
             h.2,
       )
@@ -148,7 +158,7 @@ module _ (env : List AtomDef) where
         h.0,
         h.1,
         ⊎_elim
-            (λ (a : AsksArguments env args rest (condition table q)). inl (record { left = a.left; among = further first rest a.left a.among; asked = a.asked }))
+            (λ (a : AsksArguments env args rest (condition table q)). inl (same-asked first rest args (condition table q) a))
             (λ (r : AsksResults env taken false rest (condition table q)). inr (record {
               taken = first ∷ r.taken;
               among = All-cons (Contains (first ∷ rest)) first r.taken (here first rest) (further first rest r.taken r.among);

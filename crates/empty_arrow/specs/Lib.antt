@@ -1,4 +1,5 @@
 pub mod Arrows
+pub mod Giving
 pub mod Graphs
 pub mod Pairs
 pub mod Parts

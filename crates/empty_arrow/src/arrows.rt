@@ -10,15 +10,15 @@ use type_model::{AtomDef, SemType};
 
 /// What an arrow takes and what it gives.
 #[derive(Clone, Copy)]
-pub(crate) struct Arrow<'a> {
-    pub(crate) args: &'a SemType,
-    pub(crate) result: &'a SemType,
+pub struct Arrow<'a> {
+    pub args: &'a SemType,
+    pub result: &'a SemType,
     /// Whether it has isolated functions alone.
-    pub(crate) isolated: bool,
+    pub isolated: bool,
 }
 
-/// The arrow of an atom.
-pub(crate) fn arrow_of(defs: &[AtomDef], atom: u32) -> Arrow<'_>
+/// The arrow of an atom. Takes no memory.
+pub fn arrow_of(defs: &[AtomDef], atom: u32) -> Arrow<'_>
     requires closed { IsClosed defs.now }
     requires arrow { IsArrow defs.now atom }
     ensures args { arguments_of defs.now atom ≡ condition_of defs.now result.args.now }

@@ -1,4 +1,5 @@
 use Rattle.std.proofs.Common.{true}
+use Rattle.type_diagrams.specs.Members.{arguments_of}
 use Rattle.type_diagrams.specs.Tables.{condition}
 use Rattle.type_diagrams.proofs.Shapes.{IfOk-map}
 use Rattle.empty_arrow.specs.Graphs.{arguments_sought, results_sought}
@@ -16,7 +17,7 @@ pub find_pair-requires-clause-lists : goal.find_pair-requires-clause-lists
 find_pair-requires-clause-lists g c =
     let env = c.args.env.now in
     let args = arguments-given env c.defs.result.now c.defs.ensures.value c.args.dia.now c.within.new.dia c.outside.new.dia c.args.base.arguments c.args.base.results c.requires.base c.args.unwanted c.arrow_of-arrow.result.args.now c.in_ok-args.args c.arrow_of-arrow.ensures.args c.outside.ensures.extends.keeps c.in_ok-args.ensures.made in
-    same-AreArguments env (condition c.outside.new.dia c.in_ok-args.args) (arguments_sought env c.args.unwanted) args (sought-AreArguments env c.defs.ensures.env.bound c.args.unwanted)
+    same-AreArguments env (condition c.outside.new.dia c.in_ok-args.args) (arguments_sought env c.args.unwanted) args (sought-AreArguments env c.defs.ensures.env.bound (arguments_of env c.args.unwanted))
 
 pub find_pair-requires-clause-sound : goal.find_pair-requires-clause-sound
 find_pair-requires-clause-sound g c =
