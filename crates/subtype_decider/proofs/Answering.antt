@@ -5,7 +5,7 @@ use Rattle.bal_base.specs.declared.shape.Shape.{Shape}
 use Rattle.type_model.specs.declared.basic.SemType.{SemType}
 use Rattle.type_model.specs.declared.atoms.AtomDef.{AtomDef}
 use Rattle.type_model.specs.Calls.{Alone, Without}
-use Rattle.type_model.specs.Inclusion.{Sub, AnswersSub, FindsShape}
+use Rattle.type_model.specs.Inclusion.{Sub, AnswersSub, FindsShape, HaveSameShapes}
 use Rattle.type_model.specs.declared.answers.Answer.{Answer}
 use Rattle.type_model.specs.declared.answers.Answer.TheVariants.{Yes, No}
 use Rattle.type_model.specs.Membership.{In}
@@ -48,3 +48,7 @@ module _ (env : List AtomDef) where
   pub found-AnswersSub : (s t : SemType) (c : Condition) (o : Option Shape) → IsMetWhere env c (λ x. In env x s × ¬ In env x t) → FindsShapeOf env c o → AnswersSub env s t (answer_of o)
   found-AnswersSub s t c (Some x) met f = let both = (met x f.0).0 f.1 in ((f.0, both.0), both.1)
   found-AnswersSub s t c None met f = none-Sub s t c met f
+
+  -- two types with the shapes of one condition
+  pub met-HaveSameShapes : (s t : SemType) (c : Condition) → IsMetWhere env c (λ x. In env x s) → IsMetWhere env c (λ x. In env x t) → HaveSameShapes env s t
+  met-HaveSameShapes s t c p q x valid = (λ i. (q x valid).0 ((p x valid).1 i), λ i. (p x valid).0 ((q x valid).1 i))

@@ -1,10 +1,14 @@
 -- The table between calls: what it keeps of each question is so.
-use Rattle.std.specs.Prelude.{ℕ, List, All, Option, Some, None}
+use Rattle.std.specs.Prelude.{ℕ, List, All, Option, Some, None, Bool, MatchBool}
 use Rattle.bal_base.specs.declared.shape.Shape.{Shape}
 use Rattle.type_model.specs.declared.atoms.AtomDef.{AtomDef}
 use Rattle.type_diagrams.specs.Conditions.{Condition, IsShapeOf}
 use Rattle.type_diagrams.specs.Tables.{Table as Diagrams, IsDiagram, condition}
 use Rattle.subtype_decider.specs.Entries.{AreApart}
+
+-- whether there is a shape that is one
+abbrev pub TellsSome : (Shape → Type 0) → Bool → Type 0
+TellsSome IsOne some = MatchBool some ((x : Shape) × IsOne x) ((x : Shape) → ¬ IsOne x)
 
 module _ (env : List AtomDef) where
   abbrev pub HasNoShape : Condition → Type 0

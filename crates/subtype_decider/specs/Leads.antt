@@ -1,5 +1,6 @@
 -- The questions to which a question leads, and when these pass the limits.
 use Rattle.std.specs.Prelude.{◌≡◌, ◌<◌, List, length, All, AllPairs}
+use Rattle.type_model.specs.Calls.{Asked}
 use Rattle.type_model.specs.declared.atoms.AtomDef.{AtomDef}
 use Rattle.type_model.specs.declared.answers.TypeLimit.{TypeLimit}
 use Rattle.type_model.specs.declared.answers.TypeLimit.TheVariants.{Questions, Arrows}
@@ -9,7 +10,8 @@ use Rattle.type_diagrams.specs.declared.path.Path.{Path}
 use Rattle.type_diagrams.specs.Members.{atoms_in}
 use Rattle.type_diagrams.specs.Conditions.{Condition, AreOne}
 use Rattle.type_diagrams.specs.Questions.{IsPathOf}
-use Rattle.type_diagrams.specs.Reach.{Reached, most_questions, most_arrows}
+use Rattle.type_diagrams.specs.Reach.{IsFirst, Reached, most_questions, most_arrows}
+use Rattle.empty_arrow.specs.Pairs.{AsksArguments}
 
 -- a path of functions wants more arrows than a path may
 abbrev pub WantsTooMany : Kind → Path → Type 0
@@ -29,3 +31,10 @@ module _ (env : List AtomDef) where
       × AllPairs (λ d e. ¬ AreOne d e) questions
       × All (LeadsTo c) questions
   LeadsPast c Arrows = (d : Condition) × (p : Path) × LeadsTo c d × IsPathOf d Functions p × (most_arrows < length (atoms_in p.pos))
+
+  -- a call leads to a question with the path, and to those for arguments that some of its wanted arrows don't take
+  pub record LeadsToPath (asked : Asked) (args : Condition) (p : Path) : Type 0 where
+    pub question : Condition
+    pub reached : Reached env (IsFirst env asked) question
+    pub path : IsPathOf question Functions p
+    pub arguments : (d : Condition) → AsksArguments env args (atoms_in p.pos) d → Reached env (IsFirst env asked) d

@@ -7,3 +7,4 @@ pub mod Leads
 pub mod Measure
 pub mod Paths
 pub mod Working
+pub mod Writing

@@ -1,6 +1,6 @@
 -- What holds while a call works through questions.
 use Rattle.std.specs.List.{AllWithin}
-use Rattle.std.specs.Prelude.{◌≡◌, ◌≢◌, ◌<◌, ◌≤◌, ◌+◌, ◌-◌, ◌*◌, ◌++◌, ◌⊎◌, ◌↔◌, ℕ, List, [], ◌∷◌, length, Contains, take, All, AllPairs, Any, Option, Some, false, map}
+use Rattle.std.specs.Prelude.{◌≡◌, ◌≢◌, ◌<◌, ◌≤◌, ◌+◌, ◌-◌, ◌*◌, ◌^◌, ◌++◌, ◌⊎◌, ◌↔◌, ℕ, List, [], ◌∷◌, length, Contains, take, All, AllPairs, Any, Option, Some, false, map}
 use Rattle.bal_base.specs.declared.shape.Shape.{Shape}
 use Rattle.bal_base.specs.Valid.{IsValid}
 use Rattle.type_model.specs.declared.atoms.AtomDef.{AtomDef}
@@ -84,6 +84,10 @@ HasTooMany c limit = (limit ≡ Arrows) × (k : Kind) × (p : Path) × IsPathOf 
 
 abbrev pub questions_of : List Held → List ℕ
 questions_of held = map (λ h. h.question) held
+
+-- how many more entries the table could hold
+abbrev pub unknown_left : Questions → ℕ
+unknown_left q = 2 ^ 63 - length q.table
 
 -- the call works on the question
 abbrev pub IsAmongHeld : List Held → ℕ → Type 0

@@ -1,9 +1,10 @@
 //! Types, and what can be asked of them.
 ghost use Rattle.std.specs.Prelude.{◌≡◌, ◌+◌, ◌<◌, ◌++◌, [], All, Contains, IfOk, OnOk, OnErr, length, map};
 ghost use Rattle.bal_base.specs.Stops.{IfFault};
-ghost use Rattle.type_model.specs.Calls.{Alone, KeepsTypes, Without};
+ghost use Rattle.type_model.specs.Application.{Applies, IsFunctionType, IsListType, NamesDefined};
+ghost use Rattle.type_model.specs.Calls.{Alone, Applied, KeepsTypes, Without};
 ghost use Rattle.type_model.specs.Defined.{IsDefined, IsDefinedGroup, IsEnv};
-ghost use Rattle.type_model.specs.Inclusion.{AnswersSub, FindsShape};
+ghost use Rattle.type_model.specs.Inclusion.{AnswersSub, FindsShape, HaveSameShapes};
 ghost use Rattle.type_model.specs.Places.{HasDistinctFields};
 ghost use Rattle.type_diagrams.specs.Reach.{Passes};
 ghost use Rattle.subtype_decider.specs.Closed.{IsClosed};
@@ -12,11 +13,12 @@ ghost use Rattle.subtype_decider.specs.Entries.{pair_of};
 use crate::calls::Calls;
 use crate::questions::Questions;
 use crate::table::Entry;
-use bal_base::{MOST_ATOMS, Shape, Stop};
+use crate::writing::type_of;
+use bal_base::{MOST_ATOMS, Memory, Shape, Stop};
 use std::alloc::Global;
 use std::marker::Model;
 use type_diagrams::Diagrams;
-use type_model::{Answer, AtomDef, AtomLimit, SemType, TypeEnv, TypeLimit};
+use type_model::{Answer, Apply, AtomDef, AtomLimit, SemType, TypeEnv, TypeLimit};
 
 /// Types over atoms that can be added, and what was found out about them.
 #[derive(Drop)]
@@ -132,5 +134,40 @@ impl Decider {
     {
         let question = self.questions.of(&self.env, t)?;
         self.questions.find(alloc, &Calls, &self.env, question)
+    }
+
+    /// A type with the same shapes as `t`. It depends on the condition of `t` alone: the compact form of a union
+    /// of a type with itself is that of the type. [`type_of`](crate::type_of) says how it grows. What was found
+    /// out stays.
+    pub fn compact(&mut self, alloc: Global, t: &SemType) -> Result<SemType, Memory>
+        requires { IsDefined self.old.atoms t.now }
+        ensures atoms { self.new.atoms ≡ self.old.atoms }
+        ensures table { self.new.table ≡ self.old.table }
+        ensures defined { IfOk result (IsDefined self.old.atoms) }
+        ensures shapes { IfOk result (λ c. HaveSameShapes self.old.atoms c t.now) }
+    {
+        let _atoms = self.env.defs();
+        let question = self.questions.of(&self.env, t)?;
+        type_of(alloc, &self.questions.diagrams, question)
+    }
+
+    /// The least type of the results that functions of `f` give to arguments in `args`, or arguments there at
+    /// which one of them fails. `TypeLimit` comes only where the questions to which this leads pass the limit.
+    pub fn apply(
+        &mut self,
+        alloc: Global,
+        f: &SemType,
+        args: &SemType,
+    ) -> Result<Apply, Stop<TypeLimit>>
+        requires f_defined { IsDefined self.old.atoms f.now }
+        requires args_defined { IsDefined self.old.atoms args.now }
+        requires functions { IsFunctionType self.old.atoms f.now }
+        requires lists { IsListType self.old.atoms args.now }
+        ensures atoms { self.new.atoms ≡ self.old.atoms }
+        ensures defined { IfOk result (NamesDefined self.old.atoms) }
+        ensures applies { IfOk result (Applies self.old.atoms f.now args.now) }
+        ensures limit { IfFault result (Passes self.old.atoms (Applied f.now args.now)) }
+    {
+        self.questions.apply(alloc, &self.env, f, args)
     }
 }
