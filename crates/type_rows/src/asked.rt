@@ -117,16 +117,16 @@ pub fn one_item(alloc: Global, item: SemType) -> Read<AtomDef> {
     Ok(AtomDef::List { fixed, rest: None })
 }
 
-fn is_valid_in(env: &TypeEnv, shape: &Shape, t: &SemType) -> bool {
+pub fn is_valid_in(env: &TypeEnv, shape: &Shape, t: &SemType) -> bool {
     shape.is_valid() && holds(env, shape, t)
 }
 
 /// The reply, where what came with it shows it.
-fn shown(is: bool, reply: Reply) -> Reply {
+pub fn shown(is: bool, reply: Reply) -> Reply {
     if is { reply } else { Reply::Wrong }
 }
 
-fn stopped(stop: Stop<TypeLimit>) -> Read<Reply> {
+pub fn stopped(stop: Stop<TypeLimit>) -> Read<Reply> {
     match stop {
         Stop::Memory => Err(Stop::Memory),
         Stop::Fault(TypeLimit::Questions) => Ok(Reply::TooManyQuestions),

@@ -4,13 +4,17 @@
 //!
 //! - `row`: a line, which is empty, defines types or asks a question, and what becomes of it.
 //! - `asked`: questions for a decider.
+//! - `compacted`: compact forms of types.
+//! - `applied`: functions that are applied to arguments.
 //! - `drawn`: questions about diagrams.
 //! - `shapes` and `types`: shapes and types as they are written.
 //! - `names`: the types that lines define.
 //! - `tokens` and `misread`: the tokens of a line, and why a line isn't read.
 #![tactic(auto)]
 
+mod applied;
 mod asked;
+mod compacted;
 mod drawn;
 mod misread;
 mod names;
@@ -37,7 +41,10 @@ fn main(rt: HostRuntime) -> io::Result<()> {
         match outcome {
             Ok(Outcome::NoQuestion) => {}
             Ok(Outcome::Agrees) => asked = asked.saturating_add(1),
-            Ok(Outcome::Differs(_)) | Ok(Outcome::OtherPaths) | Err(_) => {
+            Ok(Outcome::Differs(_))
+            | Ok(Outcome::OtherPaths)
+            | Ok(Outcome::OtherSize(_))
+            | Err(_) => {
                 asked = asked.saturating_add(1);
                 differ = differ.saturating_add(1);
             }
@@ -54,6 +61,7 @@ fn tell(rt: &impl Print, number: u64, line: &str, outcome: &Read<Outcome>) -> io
             let word = reply.word();
             println!(rt; "line {number}: {line}: the answer is {word}")
         }
+        Ok(Outcome::OtherSize(size)) => println!(rt; "line {number}: {line}: the answer is {size}"),
         Ok(Outcome::OtherPaths) => println!(rt; "line {number}: {line}: the paths are others"),
         Err(Stop::Memory) => println!(rt; "line {number}: {line}: out of memory"),
         Err(Stop::Fault(why)) => println!(rt; "line {number}: {line}: {why}"),

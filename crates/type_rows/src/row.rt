@@ -6,15 +6,22 @@
 //! - `below TYPE, TYPE => yes`, or `no`, `questions` or `arrows`: whether the first is below the second; with a
 //!   second answer behind a comma also whether the second is below the first
 //! - `some TYPE => yes`, or `no`: whether the type has a shape
+//! - `compact TYPE => NUMBER`: in how many places the compact form of the type, which has the same shapes, names
+//!   a basic set or an atom
 //! - `chain NUMBER => yes`, or `no`, `questions` or `arrows`: whether there is a shape of the first of so many
 //!   atoms that lead from one to the next
+//! - `apply TYPE to TYPE gives TYPE => yes`, or `no`, `questions` or `arrows`: whether functions of the first,
+//!   applied to lists of the second, have results in exactly the third; `panic` in its place asks whether one
+//!   of them fails
 //! - `same TYPE, TYPE => yes`, or `no`: whether the types have one diagram
 //! - `simple TYPE => yes`, or `no`: whether the type has a simple shape
 //! - `paths KIND of TYPE => PATH | PATH`, or `never`: the paths of a type for a kind, in order, each as
 //!   `readonly & NAME & !NAME`, where names are those of atoms, or `any`
 //! - `exclusive NUMBER => yes`: whether the exclusive or of so many new atoms has one diagram in both orders
 
+use crate::applied::{Expected, gives};
 use crate::asked::{Reply, add, chain, has_shape, is_below, one_item};
+use crate::compacted::compact;
 use crate::drawn::{Way, are_one, has_paths, has_simple, in_both_orders};
 use crate::misread::{Misread, Read, refuse};
 use crate::names::Names;
@@ -40,6 +47,8 @@ pub enum Outcome {
     Agrees,
     /// It asks a question, and this is the answer in place of its own.
     Differs(Reply),
+    /// It asks for the size of a compact form, and it is this.
+    OtherSize(u64),
     /// It asks for paths, and there are others.
     OtherPaths,
 }
@@ -82,7 +91,9 @@ impl Rows {
         match word.as_str() {
             "below" => self.below(tokens),
             "some" => self.some(tokens),
+            "compact" => self.compact(tokens),
             "chain" => self.chain(tokens),
+            "apply" => self.apply(tokens),
             "same" => self.same(tokens),
             "simple" => self.simple(tokens),
             "paths" => self.paths(tokens),
@@ -132,6 +143,22 @@ impl Rows {
         Ok(replied(has_shape(self.alloc, &mut self.decider, &t)?, expected))
     }
 
+    /// How large the compact form of a type is.
+    fn compact(&mut self, tokens: &mut Tokens) -> Read<Outcome> {
+        let mut reader = self.reader(Unknown::Misread);
+        let t = reader.whole(tokens, MOST_LEVELS)?;
+        let defs = reader.into_defs();
+        tokens.expect(Sign::FatArrow, Misread::NotALine)?;
+        let expected = tokens.int(Misread::NotALine)?;
+        at_end(tokens)?;
+        self.add(defs)?;
+        match compact(self.alloc, &mut self.decider, &t)? {
+            None => Ok(Outcome::Differs(Reply::Wrong)),
+            Some(size) if u64::try_from(expected) == Ok(size) => Ok(Outcome::Agrees),
+            Some(size) => Ok(Outcome::OtherSize(size)),
+        }
+    }
+
     /// Whether the first of a chain of atoms has a shape.
     fn chain(&self, tokens: &mut Tokens) -> Read<Outcome> {
         let Ok(count) = u32::try_from(tokens.int(Misread::NotALine)?) else {
@@ -141,6 +168,27 @@ impl Rows {
         let expected = reply(tokens)?;
         at_end(tokens)?;
         Ok(replied(chain(self.alloc, count)?, expected))
+    }
+
+    /// What functions give to arguments.
+    fn apply(&mut self, tokens: &mut Tokens) -> Read<Outcome> {
+        let mut reader = self.reader(Unknown::Misread);
+        let f = reader.whole(tokens, MOST_LEVELS)?;
+        word(tokens, "to")?;
+        let args = reader.whole(tokens, MOST_LEVELS)?;
+        word(tokens, "gives")?;
+        let given = if tokens.takes_keyword(Keyword::Panic) {
+            Expected::Failure
+        } else {
+            Expected::Results(reader.whole(tokens, MOST_LEVELS)?)
+        };
+        let defs = reader.into_defs();
+        tokens.expect(Sign::FatArrow, Misread::NotALine)?;
+        let expected = reply(tokens)?;
+        at_end(tokens)?;
+        self.add(defs)?;
+        let answer = gives(self.alloc, &mut self.decider, &f, &args, &given)?;
+        Ok(replied(answer, expected))
     }
 
     /// Whether two types have one diagram.
