@@ -1,0 +1,4 @@
+pub mod ChoicesBelow
+pub mod FieldNames
+pub mod Making
+pub mod Yielding

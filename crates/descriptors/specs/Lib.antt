@@ -1,0 +1,4 @@
+pub mod Described
+pub mod Descriptors
+pub mod Naming
+pub mod Steps
