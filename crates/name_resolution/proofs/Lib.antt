@@ -1,0 +1,9 @@
+mod Greedy
+mod Levels
+mod MentionLoops
+mod Naming
+mod Noting
+mod Numbers
+mod OutlineLoops
+mod Rows
+mod Turning

@@ -1,0 +1,58 @@
+-- The first fault in what the definitions of a package say of names, as checks in text order.
+use Rattle.std.specs.Prelude.{◌≡◌, ◌++◌, ◌∷◌, [], ℕ, suc, List, map, Option, None, Some, slice_get}
+use Rattle.bal_base.specs.declared.fault.Fault.{Fault}
+use Rattle.bal_base.specs.declared.fault.FaultCode.TheVariants.{IllFounded}
+use Rattle.bal_base.specs.declared.fault.Kept.TheVariants.{Names as ShowsNames}
+use Rattle.bal_base.specs.declared.text.Name.{Name}
+use Rattle.checks.specs.Checks.{Check, Gives, Refuses, ◌▷◌, gives, refuses}
+use Rattle.name_resolution.specs.declared.outlines.Outline.{Outline}
+use Rattle.name_resolution.specs.declared.named.Graph.{Graph}
+use Rattle.name_resolution.specs.Cycles.{IsFirstCycle, IsOnCycle}
+use Rattle.name_resolution.specs.Distances.{IsReversed}
+use Rattle.name_resolution.specs.Resolved.{first_fault, parts}
+use Rattle.name_resolution.specs.Tables.{IsTableOf}
+
+abbrev pub name_if : Option Outline → List Name
+name_if None = []
+name_if (Some d) = d.name ∷ []
+
+-- no fault, or this one
+abbrev pub unless : {S : Type 0} → Option Fault → Check S (Unit {0})
+unless None = gives tt
+unless (Some f) = refuses (λ old g. g ≡ f)
+
+module _ (outlines : List Outline) where
+  -- the names of the definitions with these numbers
+  abbrev pub names_of : List ℕ → List Name
+  names_of [] = []
+  names_of (n ∷ numbers) = name_if (slice_get outlines n) ++ names_of numbers
+
+  -- what is wrong where a definition and these others are parts of one another
+  abbrev pub cycle_fault : ℕ → Outline → List ℕ → Fault
+  cycle_fault n d others = record { code = IllFounded; at = Some d.at; kept = ShowsNames (names_of (n ∷ others)) }
+
+  module _ {S : Type 0} where
+    -- the type that a definition defines isn't a part of itself
+    unfoldable pub no_cycle : ℕ → Outline → Check S (Unit {0})
+    no_cycle n d old (Gives u) new = (¬ IsOnCycle (parts outlines) n) × (new ≡ old)
+    no_cycle n d old (Refuses f) new =
+        ((others : List ℕ) × IsFirstCycle (parts outlines) n others × (f ≡ cycle_fault n d others)) × (new ≡ old)
+
+    -- the definition with this number
+    abbrev pub definition_named : ℕ → Outline → Check S (Unit {0})
+    definition_named n d = no_cycle n d ▷ λ u. unless (first_fault outlines n d d.mentions)
+
+    -- definitions in text order, from this number on
+    abbrev pub definitions_named : ℕ → List Outline → Check S (Unit {0})
+    definitions_named n [] = gives tt
+    definitions_named n (d ∷ ds) = definition_named n d ▷ λ u. definitions_named (suc n) ds
+
+    -- all of them
+    abbrev pub all_named : Check S (Unit {0})
+    all_named = definitions_named 0 outlines
+
+  -- which definitions are parts of which
+  pub record IsGraphOf (graph : Graph) : Type 0 where
+    pub table : IsTableOf outlines graph.table.numbers
+    pub parts_are : map (λ v. v.items) graph.parts.items ≡ parts outlines
+    pub reversed : IsReversed (parts outlines) (map (λ v. v.items) graph.back.items)

@@ -1,0 +1,44 @@
+//! What the definitions of a package say of names.
+//!
+//! - [`check_names`]: the first fault in that, in text order.
+//! - `outlines` and `mentions`: definitions, each with what it mentions of names; `table`: names by module.
+//! - `faults`: what a name stands for, and what is wrong with a mention; `cycles` over `distances`: types that are their
+//!   own parts; `named`: the definitions one after another.
+//!
+//! `specs/Outlines.antt` says what the definitions of a package say of names, `specs/Resolved.antt` what the names of types stand
+//! for, `specs/Cycles.antt` which cycle is the first of the shortest, and `specs/Faults.antt` which fault comes first.
+#![tactic(auto)]
+
+ghost use Rattle.checks.specs.Checks.{Comes};
+ghost use Rattle.descriptors.specs.Described.{Atoms};
+ghost use Rattle.name_resolution.specs.Faults.{all_named};
+ghost use Rattle.name_resolution.specs.Outlines.{outlines_of};
+
+mod cycles;
+mod distances;
+mod faults;
+mod mentions;
+mod named;
+mod outlines;
+mod table;
+
+use bal_base::{Fault, Memory, Stop};
+use bal_tree::Package;
+use std::alloc::Global;
+
+/// Whether the names in the definitions of a package are without fault, or else the first fault in text order: module by module,
+/// file by file, and from the front.
+///
+/// - `IllFounded` at the first token of a definition: its type is its own part, but inside a list, a mapping, an error, a function
+///   or a future. The names are those of a shortest cycle that begins there, and of the shortest the one that comes first.
+/// - `Duplicate` at a name: a definition before has it in its module, or a field before it in its record.
+/// - `Unknown` at the name of a type: it stands for no type or constant.
+/// - `NotPublic` at the name of a type: it is another module's and isn't public.
+pub fn check_names(alloc: Global, package: &Package) -> Result<(), Stop<Fault>>
+    ensures { (env : Atoms) → Comes (all_named (outlines_of «package».now)) env result env }
+{
+    match outlines::package_outlines(alloc, package) {
+        Ok(outlines) => named::definitions(alloc, &outlines),
+        Err(Memory) => Err(Stop::Memory),
+    }
+}

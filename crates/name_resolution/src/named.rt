@@ -1,0 +1,173 @@
+//! The first fault in what the definitions of a package say of names.
+ghost use Rattle.std.specs.Prelude.{◌≡◌, ◌<◌, ◌++◌, IfOk, OnOk, length, map, slice_get};
+ghost use Rattle.std.specs.List.{flat_map};
+ghost use Rattle.checks.specs.Checks.{Comes};
+ghost use Rattle.descriptors.specs.Described.{Atoms};
+ghost use Rattle.name_resolution.specs.Faults.{IsGraphOf, all_named, cycle_fault as cycle_fault_of, definition_named, name_if, unless};
+ghost use Rattle.name_resolution.specs.Resolved.{first_fault, part as part_of, parts as parts_by_number, parts_of as parts_of_outline};
+ghost use Rattle.name_resolution.specs.Tables.{IsTableOf};
+
+use crate::cycles::first_cycle;
+use crate::distances::reversed;
+use crate::faults::Resolver;
+use crate::mentions::Mention;
+use crate::outlines::{Kind, Outline};
+use crate::table::NameTable;
+use bal_base::{Fault, FaultCode, Kept, Memory, Name, NameList, Stop};
+use std::alloc::Global;
+
+/// The names of definitions, and by the definitions' numbers those that are parts of each, and those of which each is a part.
+#[derive(Drop)]
+pub(crate) struct Graph {
+    pub(crate) table: NameTable,
+    pub(crate) parts: Vec<Vec<usize>>,
+    pub(crate) back: Vec<Vec<usize>>,
+}
+
+/// Whether the names in definitions are without fault: each is given once in a module, each name of a type stands for one, and no
+/// type is its own part but inside a list, a mapping, an error, a function or a future.
+pub(crate) fn definitions(alloc: Global, outlines: &[Outline]) -> Result<(), Stop<Fault>>
+    ensures { (env : Atoms) → Comes (all_named outlines.now) env result env }
+{
+    let graph = match graph_of(alloc, outlines) {
+        Ok(graph) => graph,
+        Err(Memory) => return Err(Stop::Memory),
+    };
+    for (number, d) in outlines.iter().enumerate() {
+        match definition(alloc, outlines, &graph, number, d) {
+            Ok(()) => {}
+            Err(stop) => return Err(stop),
+        }
+    }
+    Ok(())
+}
+
+fn graph_of(alloc: Global, outlines: &[Outline]) -> Result<Graph, Memory>
+    ensures { IfOk result (IsGraphOf outlines.now) }
+{
+    let table = NameTable::of(alloc, outlines)?;
+    let parts = parts(alloc, outlines, &table)?;
+    let back = reversed(alloc, &parts)?;
+    Ok(Graph { table, parts, back })
+}
+
+/// One definition: its cycle, or else the first fault in its names.
+fn definition(
+    alloc: Global,
+    outlines: &[Outline],
+    graph: &Graph,
+    number: usize,
+    d: &Outline,
+) -> Result<(), Stop<Fault>>
+    requires graph { IsGraphOf outlines.now graph.now }
+    requires placed { number < length outlines.now }
+    ensures { (env : Atoms) → Comes (definition_named outlines.now number d.now) env result env }
+{
+    match first_cycle(alloc, &graph.parts, &graph.back, number) {
+        Ok(Some(others)) => match cycle_fault(alloc, outlines, number, d, &others) {
+            Ok(fault) => Err(Stop::Fault(fault)),
+            Err(Memory) => Err(Stop::Memory),
+        },
+        Ok(None) => names(outlines, graph, number, d),
+        Err(Memory) => Err(Stop::Memory),
+    }
+}
+
+fn names(outlines: &[Outline], graph: &Graph, number: usize, d: &Outline) -> Result<(), Stop<Fault>>
+    requires { IsTableOf outlines.now graph.now.table.numbers }
+    ensures { (env : Atoms) → Comes (unless (first_fault outlines.now number d.now d.now.mentions)) env result env }
+{
+    let resolver = Resolver {
+        outlines,
+        table: &graph.table,
+    };
+    match resolver.first_fault(number, d) {
+        Some(fault) => Err(Stop::Fault(fault)),
+        None => Ok(()),
+    }
+}
+
+/// The fault of a definition that is a part of itself by way of these others.
+fn cycle_fault(
+    alloc: Global,
+    outlines: &[Outline],
+    number: usize,
+    d: &Outline,
+    others: &[usize],
+) -> Result<Fault, Memory>
+    ensures { IfOk result (λ fault. fault ≡ cycle_fault_of outlines.now number d.now others.now) }
+{
+    let mut names = Vec::new(alloc);
+    name(&mut names, outlines, number)?;
+    for other in others {
+        name(&mut names, outlines, *other)?;
+    }
+    Ok(Fault {
+        code: FaultCode::IllFounded,
+        at: Some(d.at),
+        kept: Kept::Names(NameList::of(names)),
+    })
+}
+
+fn name(names: &mut Vec<Name>, outlines: &[Outline], number: usize) -> Result<(), Memory>
+    ensures { OnOk result (names.new.items ≡ names.old.items ++ name_if (slice_get outlines.now number)) }
+{
+    match outlines.get(number) {
+        Some(d) => Ok(names.push(d.name.share())?),
+        None => Ok(()),
+    }
+}
+
+fn parts(alloc: Global, outlines: &[Outline], table: &NameTable) -> Result<Vec<Vec<usize>>, Memory>
+    requires { IsTableOf outlines.now table.now.numbers }
+    ensures { IfOk result (λ made. map (λ v. v.items) made.items ≡ parts_by_number outlines.now) }
+{
+    let resolver = Resolver { outlines, table };
+    let mut all = Vec::new(alloc);
+    for d in outlines {
+        all.push(resolver.parts_of(alloc, d)?)?;
+    }
+    Ok(all)
+}
+
+impl Resolver<'_> {
+    /// The definitions whose types are parts of the type that this one defines.
+    fn parts_of(&self, alloc: Global, d: &Outline) -> Result<Vec<usize>, Memory>
+        requires { IsTableOf self.now.outlines.now self.now.table.now.numbers }
+        ensures { IfOk result (λ made. made.items ≡ parts_of_outline self.now.outlines.now d.now) }
+    {
+        match d.kind {
+            Kind::TypeName => self.parts_in(alloc, d),
+            Kind::Constant | Kind::Variable | Kind::Function => Ok(Vec::new(alloc)),
+        }
+    }
+
+    fn parts_in(&self, alloc: Global, d: &Outline) -> Result<Vec<usize>, Memory>
+        requires { IsTableOf self.now.outlines.now self.now.table.now.numbers }
+        ensures { IfOk result (λ made. made.items ≡ flat_map (part_of self.now.outlines.now d.now.«module») d.now.mentions) }
+    {
+        let mut parts = Vec::new(alloc);
+        for mention in d.mentions.as_slice() {
+            self.part(&mut parts, d.module, mention)?;
+        }
+        Ok(parts)
+    }
+
+    fn part(&self, parts: &mut Vec<usize>, from: usize, mention: &Mention) -> Result<(), Memory>
+        requires { IsTableOf self.now.outlines.now self.now.table.now.numbers }
+        ensures { OnOk result (parts.new.items ≡ parts.old.items ++ part_of self.now.outlines.now from mention.now) }
+    {
+        match mention {
+            Mention::Use {
+                home,
+                name,
+                inside: false,
+                ..
+            } => match self.resolve(from, *home, name) {
+                Ok(number) => Ok(parts.push(number)?),
+                Err(_) => Ok(()),
+            },
+            Mention::Use { .. } | Mention::Again { .. } | Mention::Own { .. } => Ok(()),
+        }
+    }
+}
