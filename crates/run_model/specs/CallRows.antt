@@ -76,7 +76,7 @@ CallsValue facts c n args effect =
 abbrev pub starts : Common → Option Role → ℕ → List Value → Effect
 starts c role unit args =
     if nat_lt (length c.strands) most_strands
-    then Spawns (record { unit = unit; args = args; role = None } ∷ []) role (Future (length c.strands) unit ∷ []) (strand_made None c)
+    then Spawns (record { unit = unit; args = args; role = None } ∷ []) role (Future (length c.strands) unit ∷ []) (strand_made unit None c)
     else Beyond Strands
 
 abbrev pub StartsValue : Facts → Common → Option Role → ℕ → List Value → Effect → Type 0
@@ -95,7 +95,7 @@ workers_from activation worker (x ∷ xs) vs =
 -- their strands are made in this order
 abbrev pub strands_made : List Spawned → Common → Common
 strands_made [] c = c
-strands_made (s ∷ ss) c = strands_made ss (strand_made s.role c)
+strands_made (s ∷ ss) c = strands_made ss (strand_made s.unit s.role c)
 
 -- the default worker runs on the running strand, and no worker has ended or sent anything
 abbrev pub new_activation : Common → ℕ → Activation

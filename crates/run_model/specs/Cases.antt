@@ -230,7 +230,7 @@ abbrev pub nothing_run : Common
 nothing_run = record { world = world_of []; strands = []; activations = []; variables = []; ready = []; running = 0; to_run = []; ticks = 0; picks = 0 }
 
 abbrev pub three_strands : Common
-three_strands = strand_made None (strand_made None (strand_made None nothing_run))
+three_strands = strand_made 0 None (strand_made 0 None (strand_made 0 None nothing_run))
 
 abbrev pub waits_for_first : Common
 waits_for_first = strand_blocked (AllEnded (0 ∷ [])) (record three_strands { running = 1; ready = 2 ∷ [] })
@@ -253,7 +253,7 @@ worker n = record { activation = 0; worker = n }
 -- strand 0 is worker 0 and runs; strand 1 is worker 1, and is this; the channel from 0 to 1 is this one
 abbrev pub two_workers : Status → Channel → List ℕ → Common
 two_workers status channel ready =
-    record nothing_run { strands = record { role = None; status = IsActive; taken = false } ∷ record { role = Some (worker 1); status = status; taken = false } ∷ []; activations = record { strands = 0 ∷ 1 ∷ []; ends = None ∷ None ∷ []; channels = (channel_of 0 0 [] ∷ channel ∷ []) ∷ (channel_of 0 0 [] ∷ channel_of 0 0 [] ∷ []) ∷ [] } ∷ []; ready = ready }
+    record nothing_run { strands = record { unit = 0; role = None; status = IsActive; taken = false } ∷ record { unit = 0; role = Some (worker 1); status = status; taken = false } ∷ []; activations = record { strands = 0 ∷ 1 ∷ []; ends = None ∷ None ∷ []; channels = (channel_of 0 0 [] ∷ channel ∷ []) ∷ (channel_of 0 0 [] ∷ channel_of 0 0 [] ∷ []) ∷ [] } ∷ []; ready = ready }
 
 -- worker 1 waits for a message of worker 0
 abbrev pub ReceivesLater : Type 0
@@ -276,7 +276,7 @@ ReceivesSent =
 -- strand 0 runs in this world, and strand 1 is this
 abbrev pub with_future : World → Status → Bool → Common
 with_future w status taken =
-    record nothing_run { world = w; strands = record { role = None; status = IsActive; taken = false } ∷ record { role = None; status = status; taken = taken } ∷ [] }
+    record nothing_run { world = w; strands = record { unit = 0; role = None; status = IsActive; taken = false } ∷ record { unit = 0; role = None; status = status; taken = taken } ∷ [] }
 
 -- a future that hasn't ended yet
 abbrev pub WaitsForEnd : Type 0

@@ -33,6 +33,8 @@ pub data Status : Type 0 where
 
 -- a strand is the future of its result as well, by its number
 pub record Strand : Type 0 where
+  -- the unit that its first frame is of; on strand 0 it is that of main, which may come behind others
+  pub unit : ℕ
   -- the named worker that it was made for
   pub role : Option Role
   pub status : Status

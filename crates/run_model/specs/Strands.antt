@@ -8,7 +8,7 @@ use Rattle.run_model.specs.Common.{Common, Strand, Activation, Channel, Role, En
 -- ---- what is there
 
 abbrev pub no_strand : Strand
-no_strand = record { role = None; status = IsActive; taken = false }
+no_strand = record { unit = 0; role = None; status = IsActive; taken = false }
 
 abbrev pub no_channel : Channel
 no_channel = record { sent = 0; received = 0; queue = [] }
@@ -80,7 +80,7 @@ wakes c (IsBlocked need) = met c need
 wakes c (IsEnded place end) = false
 
 abbrev pub with_status : Strand → Status → Strand
-with_status s status = record { role = s.role; status = status; taken = s.taken }
+with_status s status = record { unit = s.unit; role = s.role; status = status; taken = s.taken }
 
 abbrev pub woken : Common → Strand → Strand
 woken c s = if wakes c s.status then with_status s IsActive else s
@@ -131,7 +131,7 @@ abbrev pub workers_ended : End → List (Option Role) → Common → Common
 workers_ended end [] c = c
 workers_ended end (r ∷ rs) c = workers_ended end rs (worker_ended end r c)
 
--- a strand is made, and is ready last
-abbrev pub strand_made : Option Role → Common → Common
-strand_made role c =
-    record c { strands = c.strands ++ record { role = role; status = IsActive; taken = false } ∷ []; ready = c.ready ++ length c.strands ∷ [] }
+-- a strand is made for a unit, and is ready last
+abbrev pub strand_made : ℕ → Option Role → Common → Common
+strand_made unit role c =
+    record c { strands = c.strands ++ record { unit = unit; role = role; status = IsActive; taken = false } ∷ []; ready = c.ready ++ length c.strands ∷ [] }

@@ -34,7 +34,7 @@ strands_in ts = map (λ t. t.strand) ts
 abbrev pub took : Common → Target → Common
 took c t =
     if t.is_worker then c
-    else with_strand c t.strand (record { role = (strand_at c t.strand).role; status = (strand_at c t.strand).status; taken = true })
+    else with_strand c t.strand (record { unit = (strand_at c t.strand).unit; role = (strand_at c t.strand).role; status = (strand_at c t.strand).status; taken = true })
 
 abbrev pub is_taken : Common → Target → Bool
 is_taken c t = not t.is_worker && (strand_at c t.strand).taken
