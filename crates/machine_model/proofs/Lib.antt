@@ -1,0 +1,9 @@
+pub mod Back
+pub mod Forth
+pub mod Keeping
+pub mod Lifts
+pub mod Once
+pub mod Quietly
+pub mod RunsOnce
+pub mod SameOutcomes
+pub mod Steps

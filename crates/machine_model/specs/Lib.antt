@@ -1,0 +1,6 @@
+pub mod Following
+pub mod Keeping
+pub mod Laws
+pub mod Machine
+pub mod Outcomes
+pub mod Runs

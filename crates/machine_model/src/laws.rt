@@ -1,0 +1,90 @@
+//! Laws of machines. These calls do nothing: their clauses are laws.
+ghost use Rattle.machine_model.specs.Machine.{Machine};
+ghost use Rattle.machine_model.specs.Laws.{StepsOnce, RunsOnce, FollowersDoTheSame, KeptHolds};
+
+use run_model::Meaning;
+
+/// A machine.
+pub trait AnyMachine {
+    ghost use Rattle.machine_model.specs.Machine.{Machine};
+
+    /// What its frames keep.
+    ghost control: { Type 0 };
+
+    ghost machine: { Machine control };
+}
+
+/// Two machines, of which the second follows the first.
+pub trait Followed {
+    ghost use Rattle.machine_model.specs.Machine.{Machine};
+    ghost use Rattle.run_model.specs.Common.{Common};
+
+    /// What frames of the first keep.
+    ghost control: { Type 0 };
+
+    ghost first: { Machine control };
+
+    /// What frames of the second keep.
+    ghost other_control: { Type 0 };
+
+    ghost second: { Machine other_control };
+
+    /// Which frames of the second follow which of the first.
+    ghost follows: { control → other_control → Type 0 };
+
+    /// What has to hold of a frame of the first, wherever it runs.
+    ghost fine: { Common → control → Type 0 };
+}
+
+/// A machine, and what is to hold of its states.
+pub trait Invariant {
+    ghost use Rattle.std.specs.Prelude.{ℕ, Option};
+    ghost use Rattle.value_model.specs.declared.value.Value.{Value as ValueOf};
+    ghost use Rattle.run_model.specs.Common.{Common, Role};
+    ghost use Rattle.machine_model.specs.Machine.{Machine, Frame};
+
+    /// What its frames keep.
+    ghost control: { Type 0 };
+
+    ghost machine: { Machine control };
+
+    /// What holds of all that frames share.
+    ghost good: { Common → Type 0 };
+
+    /// The same before those who wake are ready.
+    ghost nearly: { Common → Type 0 };
+
+    /// What comes later, with what is of one worker as it was.
+    ghost later: { Option Role → Common → Common → Type 0 };
+
+    /// What holds of a frame that is about to go on.
+    ghost fits: { Common → Frame control → Type 0 };
+
+    /// What holds of a frame that awaits the result of a unit.
+    ghost awaits: { Common → Frame control → ℕ → Type 0 };
+
+    /// Which values a unit may give.
+    ghost holds: { Common → ValueOf → ℕ → Type 0 };
+
+    /// Which values a panic may have.
+    ghost throws: { Common → ValueOf → Type 0 };
+
+    /// Of which units the lowest frame of a strand may be.
+    ghost lowest: { Common → ℕ → ℕ → Type 0 };
+}
+
+/// A state has at most one next one, and by an order at most one run, where the natives come to one thing.
+pub fn states_have_one_next<N: Meaning, M: AnyMachine>()
+    ensures steps { StepsOnce N.answers M.machine }
+    ensures runs { RunsOnce N.answers M.machine }
+{}
+
+/// Machines whose frames answer alike have the same outcomes.
+pub fn followers_do_the_same<N: Meaning, P: Followed>()
+    ensures { FollowersDoTheSame N.answers P.first P.second P.follows P.fine }
+{}
+
+/// What single frames and what they share keep holds of each state that a machine reaches.
+pub fn what_is_kept_holds<N: Meaning, I: Invariant>()
+    ensures { KeptHolds N.answers I.machine I.good I.nearly I.later I.fits I.awaits I.holds I.throws I.lowest }
+{}
