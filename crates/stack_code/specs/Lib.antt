@@ -1,0 +1,11 @@
+pub mod CodeMachine
+pub mod Commands
+pub mod Flow
+pub mod Good
+pub mod Laws
+pub mod Messages
+pub mod Places
+pub mod Tables
+pub mod Talk
+pub mod Uses
+pub mod WellTyped
