@@ -117,16 +117,16 @@ pub fn one_item(alloc: Global, item: SemType) -> Read<AtomDef> {
     Ok(AtomDef::List { fixed, rest: None })
 }
 
-pub fn is_valid_in(env: &TypeEnv, shape: &Shape, t: &SemType) -> bool {
+fn is_valid_in(env: &TypeEnv, shape: &Shape, t: &SemType) -> bool {
     shape.is_valid() && holds(env, shape, t)
 }
 
 /// The reply, where what came with it shows it.
-pub fn shown(is: bool, reply: Reply) -> Reply {
+fn shown(is: bool, reply: Reply) -> Reply {
     if is { reply } else { Reply::Wrong }
 }
 
-pub fn stopped(stop: Stop<TypeLimit>) -> Read<Reply> {
+fn stopped(stop: Stop<TypeLimit>) -> Read<Reply> {
     match stop {
         Stop::Memory => Err(Stop::Memory),
         Stop::Fault(TypeLimit::Questions) => Ok(Reply::TooManyQuestions),

@@ -10,16 +10,12 @@
 //!   a basic set or an atom
 //! - `chain NUMBER => yes`, or `no`, `questions` or `arrows`: whether there is a shape of the first of so many
 //!   atoms that lead from one to the next
-//! - `apply TYPE to TYPE gives TYPE => yes`, or `no`, `questions` or `arrows`: whether functions of the first,
-//!   applied to lists of the second, have results in exactly the third; `panic` in its place asks whether one
-//!   of them fails
 //! - `same TYPE, TYPE => yes`, or `no`: whether the types have one diagram
 //! - `simple TYPE => yes`, or `no`: whether the type has a simple shape
 //! - `paths KIND of TYPE => PATH | PATH`, or `never`: the paths of a type for a kind, in order, each as
 //!   `readonly & NAME & !NAME`, where names are those of atoms, or `any`
 //! - `exclusive NUMBER => yes`: whether the exclusive or of so many new atoms has one diagram in both orders
 
-use crate::applied::{Expected, gives};
 use crate::asked::{Reply, add, chain, has_shape, is_below, one_item};
 use crate::compacted::compact;
 use crate::drawn::{Way, are_one, has_paths, has_simple, in_both_orders};
@@ -93,7 +89,6 @@ impl Rows {
             "some" => self.some(tokens),
             "compact" => self.compact(tokens),
             "chain" => self.chain(tokens),
-            "apply" => self.apply(tokens),
             "same" => self.same(tokens),
             "simple" => self.simple(tokens),
             "paths" => self.paths(tokens),
@@ -168,27 +163,6 @@ impl Rows {
         let expected = reply(tokens)?;
         at_end(tokens)?;
         Ok(replied(chain(self.alloc, count)?, expected))
-    }
-
-    /// What functions give to arguments.
-    fn apply(&mut self, tokens: &mut Tokens) -> Read<Outcome> {
-        let mut reader = self.reader(Unknown::Misread);
-        let f = reader.whole(tokens, MOST_LEVELS)?;
-        word(tokens, "to")?;
-        let args = reader.whole(tokens, MOST_LEVELS)?;
-        word(tokens, "gives")?;
-        let given = if tokens.takes_keyword(Keyword::Panic) {
-            Expected::Failure
-        } else {
-            Expected::Results(reader.whole(tokens, MOST_LEVELS)?)
-        };
-        let defs = reader.into_defs();
-        tokens.expect(Sign::FatArrow, Misread::NotALine)?;
-        let expected = reply(tokens)?;
-        at_end(tokens)?;
-        self.add(defs)?;
-        let answer = gives(self.alloc, &mut self.decider, &f, &args, &given)?;
-        Ok(replied(answer, expected))
     }
 
     /// Whether two types have one diagram.
