@@ -1,5 +1,5 @@
 //! Questions about types, asked at a place: a fault has this place.
-ghost use Rattle.std.specs.Prelude.{◌≡◌, All};
+ghost use Rattle.std.specs.Prelude.{◌≡◌, All, OnErr};
 ghost use Rattle.bal_base.specs.declared.fault.FaultCode.{FaultCode as Code};
 ghost use Rattle.bal_base.specs.declared.fault.Kept.{Kept as KeptOf};
 ghost use Rattle.type_model.specs.Application.{IsFunctionType, IsListType};
@@ -142,7 +142,7 @@ pub fn apply<T: Types>(
 }
 
 /// Numbers a group of atoms, which may name each other, from the number that it gives. `AtomLimit` comes exactly where there
-/// would be too many.
+/// would be too many. After a refusal, and where memory is wanted, the atoms are as before.
 #[tactic(auto, unfolding(crate::specs::Checks::Comes, crate::specs::Questions::adds))]
 pub fn add<T: Types>(
     alloc: Global,
@@ -154,6 +154,7 @@ pub fn add<T: Types>(
     requires distinct { All HasDistinctFields defs.items }
     ensures kept { KeepsTypes (T.atoms types.old) (T.atoms types.new) }
     ensures env { IsEnv (T.atoms types.new) }
+    ensures refused { OnErr result (T.atoms types.new ≡ T.atoms types.old) }
     ensures comes { Comes (adds (λ old group. group ≡ defs.items) at) (T.atoms types.old) result (T.atoms types.new) }
 {
     match types.add(alloc, defs) {

@@ -1,5 +1,5 @@
 -- Choices that are put together of others name the same atoms.
-use Rattle.std.proofs.Common.{ℕ, ◌<◌, ◌++◌, List, [], ◌∷◌, Bool, true, false, All, if◌then◌else◌}
+use Rattle.std.proofs.Common.{ℕ, ◌<◌, ◌++◌, List, [], ◌∷◌, Bool, true, false, if◌then◌else◌}
 use Rattle.std.proofs.lemmas.List.Elements.{All-cons, All-head, All-nil, All-push, All-tail}
 use Rattle.type_model.specs.declared.basic.Choice.{Choice}
 use Rattle.type_model.specs.Defined.{ChoicesBelow}

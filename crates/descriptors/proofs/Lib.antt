@@ -1,4 +1,6 @@
 pub mod ChoicesBelow
 pub mod FieldNames
+pub mod LanguageTypes
 pub mod Making
+pub mod OwnGroup
 pub mod Yielding

@@ -1,5 +1,5 @@
 -- Types that were made where memory may be wanted, as what a check gives.
-use Rattle.std.proofs.Common.{◌≡◌, ℕ, Bool, List, [], length, Result, Ok, Err, IfOk}
+use Rattle.std.proofs.Common.{◌≡◌, ℕ, Bool, List, length, Result, Ok, Err, IfOk}
 use Rattle.bal_base.specs.declared.fault.Fault.{Fault}
 use Rattle.bal_base.specs.declared.stop.Memory.{Memory as NoMemory}
 use Rattle.bal_base.specs.declared.stop.Stop.{Stop}

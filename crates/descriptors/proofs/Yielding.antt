@@ -1,5 +1,5 @@
 -- How checks in which atoms are added stand one behind another.
-use Rattle.std.proofs.Common.{◌≡◌, ℕ, zero, suc, ◌<◌, ◌≤◌, ◌+◌, ◌++◌, List, [], ◌∷◌, length, length-append, Option, Result, Ok, Err, None, Some, IfOk, inl, inr, refl, sym, subst, map, drop, get_or, All, ap, ◌∙◌, arith}
+use Rattle.std.proofs.Common.{◌≡◌, ℕ, zero, suc, ◌<◌, ◌≤◌, ◌+◌, ◌++◌, List, [], ◌∷◌, length, length-append, Option, Result, Ok, Err, None, Some, IfOk, refl, sym, subst, map, drop, get_or, ap, ◌∙◌, arith}
 use Rattle.bal_base.specs.declared.fault.Fault.{Fault}
 use Rattle.bal_base.specs.declared.place.Place.{Place}
 use Rattle.bal_base.specs.declared.shape.Shape.{Shape}

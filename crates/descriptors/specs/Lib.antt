@@ -1,4 +1,5 @@
 pub mod Described
 pub mod Descriptors
+pub mod Language
 pub mod Naming
 pub mod Steps

@@ -1,15 +1,18 @@
 //! Type descriptors as types.
 //!
 //! `specs/Descriptors.antt` says what a descriptor is apart from how it is written, `specs/Naming.antt` what a name stands for,
-//! and `specs/Described.antt` what each descriptor means, with the faults in order.
+//! `specs/Described.antt` what each descriptor means, with the faults in order, and `specs/Language.antt` which types the language
+//! itself names.
 //!
 //! - [`Names`]: what the names of a package stand for.
 //! - [`describe`]: a descriptor as it stands in a module, as a type.
+//! - [`own_types`]: the types that the language itself names, over atoms that are added once.
 //! - [`type_tree`], [`rewritten`], [`new_arrow`] and their kin: the same by parts, for whoever makes the names.
 #![tactic(auto)]
 
 mod atoms;
 mod descriptors;
+mod language;
 mod lists;
 mod names;
 mod own;
@@ -20,6 +23,7 @@ mod together;
 
 pub use atoms::new_arrow;
 pub use descriptors::{describe, type_tree};
+pub use language::own_types;
 pub use names::{
     Entry, FileNames, Meaning, ModuleNames, Names, OwnTypes, Scope, Signature, Source,
 };

@@ -9,7 +9,6 @@ use Rattle.type_model.specs.declared.atoms.AtomDef.{AtomDef}
 use Rattle.type_model.specs.declared.basic.BasicSet.{BasicSet}
 use Rattle.type_model.specs.declared.basic.SemType.{Basic}
 use Rattle.type_model.specs.declared.atoms.FieldDef.{FieldDef}
-use Rattle.type_model.specs.Defined.{TyBelow}
 use Rattle.type_model.specs.Places.{is_same_text}
 use Rattle.descriptors.specs.Described.{IsIntersection, field_described, names_of, plain}
 use Rattle.descriptors.specs.Descriptors.{absent, any_error, any_function, array, builtin, closed_record, descriptor_if, descriptor_of, error_with, fields_in_a_row, function_from, future_of, in_a_row, intersection, is_readonly, map_of, named, of_field, of_intersection, of_param, of_params, of_postfix, of_primary, open_record, optional, present, repeated, tuple, union, value}

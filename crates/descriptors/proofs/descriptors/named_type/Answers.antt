@@ -1,9 +1,7 @@
 use Rattle.std.proofs.Common.{Err, Some, refl, subst, sym}
 use Rattle.bal_base.specs.declared.fault.Kept.TheVariants.{Nothing}
 use Rattle.bal_base.specs.declared.stop.Stop.TheVariants.{Fault as OwnFault}
-use Rattle.type_model.specs.declared.basic.Ty.{Ty}
 use Rattle.descriptors.specs.Described.{gives_named}
-use Rattle.descriptors.specs.Naming.{type_named}
 use Rattle.descriptors.specs.Steps.{Yields}
 use Rattle.type_model.specs.Defined.{TyBelow}
 use Rattle.descriptors.proofs.Yielding.{copy-below, weaker, yields-lifted, yields-refused}

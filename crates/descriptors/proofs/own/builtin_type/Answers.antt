@@ -1,5 +1,5 @@
 use Rattle.std.proofs.Common.{List, [], length, arith, sym, subst}
-use Rattle.bal_tree.specs.declared.types.BuiltinType.TheVariants.{Any, AnyData, Boolean}
+use Rattle.bal_tree.specs.declared.types.BuiltinType.TheVariants.{Any, Boolean}
 use Rattle.type_model.specs.declared.atoms.AtomDef.{AtomDef}
 use Rattle.type_model.specs.Defined.{TyBelow}
 use Rattle.type_model.proofs.DefinedLaws.{TyBelow-more}
