@@ -14,8 +14,12 @@ use Rattle.type_diagrams.proofs.Meeting.{Meets-nothing, Meets-same}
 use Rattle.type_diagrams.proofs.Shapes.{one-further}
 use Rattle.empty_product.specs.declared.avoid.Filling.{Filling}
 use Rattle.empty_product.specs.declared.avoid.Filling.TheVariants.{Parts, Empty, Ask}
-use Rattle.empty_product.specs.Lists.{AreAsked, AreThose, AvoidsItem, HasHeldItem, IsInAtom, IsItemQuestion, TellsItems, TellsLists}
+use Rattle.empty_product.specs.Lists.{AreAsked, AreThose, AreWithout, AvoidAll, AvoidsItem, HasHeldItem, IsInAtom, IsItemQuestion, TellsItems, TellsLists}
 use Rattle.empty_product.specs.Slots.{IsInHeld}
+use Rattle.type_diagrams.specs.declared.projection.Projection.{Projection}
+use Rattle.type_diagrams.specs.declared.projection.Projection.TheVariants.{Parts as Found, Ask as AskItem}
+use Rattle.empty_product.specs.Items.{StandsInItems, StandsInList, TellsItemsAt, TellsListsAt}
+use Rattle.empty_product.proofs.Gathering.{along-Gathers}
 use Rattle.empty_product.proofs.ItemPlaces.{at-Contains, at_place, none_some, some_same}
 
 -- ---- what is held, in tables that grow
@@ -86,28 +90,39 @@ module _ (env : List AtomDef) (base : ℕ → Condition) (table : Table) (kept :
   -- lists of some lengths, where the atoms that have such lists are avoided by items
   module _ (wanted unwanted atoms : List ℕ) (m : ℕ) (IsLength : ℕ → Type 0) (allowed : (n : ℕ) → IsLength n → All (AllowsLength env n) wanted) (those : AreThose (AllowsLength env m) unwanted atoms)
       (to : (n a : ℕ) → IsLength n → Contains unwanted a → AllowsLength env n a → AllowsLength env m a) (from : (n a : ℕ) → IsLength n → Contains unwanted a → AllowsLength env m a → AllowsLength env n a) where
-    pub items-TellsLists : (filling : Filling) → TellsItems env base table kept IsLength atoms filling → TellsLists env base table kept wanted unwanted IsLength filling
-    items-TellsLists (Parts parts) h = (
-      h.0,
-      h.1,
-      record {
-        allowed = allowed (length h.0) h.2.count;
-        inside = h.2.inside;
-        outside = λ k d lt i.
-            let a = get_or unwanted k d in
-            let plays = those.others k d lt (to (length h.0) a h.2.count (Contains-get_or unwanted k d lt) i.allowed) in
-            AvoidsItem-not_in env a h.0 (All-contains (λ b. AvoidsItem env b h.0) atoms a h.2.avoiding plays) i;
-      },
-    )
-    items-TellsLists Empty h = λ items long without. h items (record {
+    pub AvoidAll-AreWithout : (items : List Shape) → AvoidAll env base IsLength atoms items → AreWithout env base wanted unwanted items
+    AvoidAll-AreWithout items all = record {
+      allowed = allowed (length items) all.count;
+      inside = all.inside;
+      outside = λ k d lt i.
+          let a = get_or unwanted k d in
+          let plays = those.others k d lt (to (length items) a all.count (Contains-get_or unwanted k d lt) i.allowed) in
+          AvoidsItem-not_in env a items (All-contains (λ b. AvoidsItem env b items) atoms a all.avoiding plays) i;
+    }
+
+    pub AreWithout-AvoidAll : (items : List Shape) → IsLength (length items) → AreWithout env base wanted unwanted items → AvoidAll env base IsLength atoms items
+    AreWithout-AvoidAll items long without = record {
       count = long;
       inside = without.inside;
       avoiding = λ k d lt.
           let a = get_or atoms k d in
           let among = those.among k d lt in
           AvoidsItem-outside env a items (from (length items) a long among.0 among.1) (All-contains (λ b. ¬ IsInAtom env b items) unwanted a without.outside among.0);
-    })
+    }
+
+    pub items-TellsLists : (filling : Filling) → TellsItems env base table kept IsLength atoms filling → TellsLists env base table kept wanted unwanted IsLength filling
+    items-TellsLists (Parts parts) h = (h.0, h.1, AvoidAll-AreWithout h.0 h.2)
+    items-TellsLists Empty h = λ items long without. h items (AreWithout-AvoidAll items long without)
     items-TellsLists (Ask q) h = IsItemQuestion-more atoms unwanted (All-weaker (λ a. Contains unwanted a × AllowsLength env m a) (Contains unwanted) (λ a c. c.0) atoms those.among) q h
+
+    -- what stands at a place of them
+    pub items-TellsListsAt : (place : ℕ) (found : Condition) (p : Projection) → TellsItemsAt env base table kept IsLength atoms place found p → TellsListsAt env base table kept wanted unwanted IsLength place found p
+    items-TellsListsAt place found (Found q) h =
+        along-Gathers env table (StandsInItems env base IsLength atoms place) (HasHeldItem env table kept) found q (StandsInList env base wanted unwanted IsLength place) (HasHeldItem env table kept)
+        (λ items y s. (items, record { count = s.all.count; list = AvoidAll-AreWithout items s.all; stands = s.stands }))
+        (λ items y s. inl (items, record { all = AreWithout-AvoidAll items s.count s.list; stands = s.stands }, λ held. held))
+        h
+    items-TellsListsAt place found (AskItem q) h = IsItemQuestion-more atoms unwanted (All-weaker (λ a. Contains unwanted a × AllowsLength env m a) (Contains unwanted) (λ a c. c.0) atoms those.among) q h
 
 -- ---- what is known of what is asked at a place
 

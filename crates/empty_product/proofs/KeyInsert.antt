@@ -114,6 +114,13 @@ module _ (keys : List Text) (i : ℕ) (key : Text) (le : i ≤ length keys) (ord
       split : All Of (take i keys) × All Of (drop i keys)
       split = All-parts Of (take i keys) (drop i keys) (subst (All Of) (sym (take-append-drop i keys)) (All-weaker (Contains keys) Of (λ k c. inl c) keys (All-contains_itself keys)))
 
+-- it stands at its place
+pub insert-at : (keys : List Text) (i : ℕ) (key : Text) → i ≤ length keys → slice_get (insert keys i key) i ≡ Some key
+insert-at [] zero key le = refl
+insert-at [] (suc i) key le = absurd (omega (arith, le))
+insert-at (k ∷ keys) zero key le = refl
+insert-at (k ∷ keys) (suc i) key le = insert-at keys i key (omega (arith, le))
+
 -- a key that is there
 pub there-added : (keys : List Text) (key : Text) → Contains keys key → HasAdded (λ k. k ≡ key) keys keys
 there-added keys key c = record {

@@ -149,7 +149,7 @@ module _ (env : List AtomDef) (small : length env ≤ the_mark) (p : Path) (pos 
       Meets-nothing env y.0 ((Meets-same env (asks (map (item_of env place) (a ∷ wanted)) []) nothing y.0 inside.0 h.2).0 met)
 
   -- the list with such items is on the path
-  without-IsShapeOn : (items : Shapes) → (has_mark p ≡ true → list_any (λ l. l == the_mark) p.neg ≡ true → ⊥) → AreWithout env base wanted playing (shapes_list items) → IsShapeOn env Lists p (AList (has_mark p) items)
+  pub without-IsShapeOn : (items : Shapes) → (has_mark p ≡ true → list_any (λ l. l == the_mark) p.neg ≡ true → ⊥) → AreWithout env base wanted playing (shapes_list items) → IsShapeOn env Lists p (AList (has_mark p) items)
   without-IsShapeOn items not_both without =
       let x = AList (has_mark p) items in
       let here = items_in-List (has_mark p) items in
@@ -190,7 +190,7 @@ module _ (env : List AtomDef) (small : length env ≤ the_mark) (p : Path) (pos 
 
   module _ (table : Table) (kept : List (ℕ × Option Shape)) where
     -- a question about an item is one of the path
-    item-IsMemberQuestion : (q : ℕ) → IsItemQuestion env base table kept playing q → IsMemberQuestion env Lists p (condition table q)
+    pub item-IsMemberQuestion : (q : ℕ) → IsItemQuestion env base table kept playing q → IsMemberQuestion env Lists p (condition table q)
     item-IsMemberQuestion q is =
         let ask = is.asks_item in
         let cs = wanted_parts (item_of env ask.place) p in

@@ -162,21 +162,15 @@ module _ (env : List AtomDef) (base : ℕ → Condition) (n : ℕ) (same : IsSam
             let asking = at-map (rest_asking_of t1) ds at.0 d.0 d.1 in
             avoided atom count at.0 (rest_asking_of t1 d.0) asking d.2 (All-contains (λ a. Any (IsAvoidedBy env t2 kept (condition t1 rest) a) parts ⊎ Contains staying a.atom) askings (rest_asking_of t1 d.0) split.each (at-Contains askings at.0 (rest_asking_of t1 d.0) asking))
 
-    -- where there are no such items before, there are no longer lists either
-    pub longer-none : (m : ℕ) → m ≡ n → All (IsSound env t0) kept → ((items : List Shape) → AvoidAll env base (λ k. k ≡ m) staying items → HasHeldItem env t3 kept items) → (items : List Shape) → AvoidAll env base (λ k. n + 1 ≤ k) atoms items → HasHeldItem env t3 kept items
-    longer-none m e sound none items all =
-        ⊎_elim
-        (λ (h : HasHeldItem env t3 kept items). h)
-        (λ (avoiding : All (λ s. AvoidsItem env s (take m items)) staying).
-        let long = all.count in
-        let taken = length-take m items in
-        let held = none (take m items) (record {
+    -- The first items of a longer list are such items, or one of it is held.
+    pub longer-taken : (m : ℕ) → m ≡ n → All (IsSound env t0) kept → (items : List Shape) → AvoidAll env base (λ k. n + 1 ≤ k) atoms items → HasHeldItem env t3 kept items ⊎ AvoidAll env base (λ k. k ≡ m) staying (take m items)
+    longer-taken m e sound items all = ⊎_elim
+        (λ (h : HasHeldItem env t3 kept items). inl h)
+        (λ (avoiding : All (λ s. AvoidsItem env s (take m items)) staying). let long = all.count in let taken = length-take m items in inr (record {
           count = omega (arith, long, e, taken);
           inside = λ place x is. all.inside place x (at_take items m place x is).0;
           avoiding = avoiding;
-        }) in
-        let at = Contains-at (take m items) held.item held.among in
-        record { item = held.item; among = at-Contains items at.0 held.item (at_take items m at.0 held.item at.1).0; held = held.held })
+        }))
         (either_all (HasHeldItem env t3 kept items) (λ s. AvoidsItem env s (take m items)) staying each)
       where
         second : Keeps t0 t2
@@ -200,6 +194,19 @@ module _ (env : List AtomDef) (base : ℕ → Condition) (n : ℕ) (same : IsSam
             let s = get_or staying k d in
             let av = All-contains (λ a. AvoidsItem env a items) atoms s all.avoiding (staying-among k d lt) in
             by s av (split.stay k d lt) (order av.place m)
+
+    -- what is held among the first items is so among all
+    pub taken-HasHeldItem : (m : ℕ) (items : List Shape) → HasHeldItem env t3 kept (take m items) → HasHeldItem env t3 kept items
+    taken-HasHeldItem m items held =
+        let at = Contains-at (take m items) held.item held.among in
+        record { item = held.item; among = at-Contains items at.0 held.item (at_take items m at.0 held.item at.1).0; held = held.held }
+
+    -- where there are no such items before, there are no longer lists either
+    pub longer-none : (m : ℕ) → m ≡ n → All (IsSound env t0) kept → ((items : List Shape) → AvoidAll env base (λ k. k ≡ m) staying items → HasHeldItem env t3 kept items) → (items : List Shape) → AvoidAll env base (λ k. n + 1 ≤ k) atoms items → HasHeldItem env t3 kept items
+    longer-none m e sound none items all = ⊎_elim
+        (λ (h : HasHeldItem env t3 kept items). h)
+        (λ (taken : AvoidAll env base (λ k. k ≡ m) staying (take m items)). taken-HasHeldItem m items (none (take m items) taken))
+        (longer-taken m e sound items all)
 
   -- the question for a further item
   pub further-IsItemQuestion : (q : ℕ) → IsDiagram t2 q → IsUnknown kept q → ¬ IsNothing (condition t2 q) → Any (λ a. AreOne (condition t2 q) (without (condition t1 rest) a.part)) askings → IsItemQuestion env base t2 kept atoms q

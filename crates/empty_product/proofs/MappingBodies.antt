@@ -20,7 +20,7 @@ use Rattle.empty_product.specs.declared.further.RestDemand.{RestDemand}
 use Rattle.empty_product.specs.declared.avoid.Filling.TheVariants.{Parts as SomeParts, Empty as NoFilling, Ask as AskFilling}
 use Rattle.type_diagrams.specs.declared.turn.Turn.TheVariants.{Shape as Found, Empty, Ask}
 use Rattle.empty_product.specs.Further.{RestAsking, AreSplit, IsAvoidedBy, MustStay, TellsFurther, rest_askings_of}
-use Rattle.empty_product.specs.Keys.{AreNamedKeys, IsBehind}
+use Rattle.empty_product.specs.Keys.{HasNamedKeys, IsBehind}
 use Rattle.empty_product.specs.Play.{AreInPlay}
 use Rattle.empty_product.specs.declared.further.Further.TheVariants.{Ask as AskFurther}
 use Rattle.type_diagrams.specs.declared.turn.Turn.{Turn}
@@ -109,7 +109,7 @@ module _ (env : List AtomDef) (table : Table) where
   row-askings a (key ∷ keys) [] h = absurd h
   row-askings a (key ∷ keys) (d ∷ ds) h = (record { part = h.0.question.condition; required = h.0.required }, row-askings a keys ds h.1)
 
-  row-demands : (a : ℕ) (keys : List Text) (ds : List Demand) → AllZip (IsDemandOf env table a) keys ds → All (IsDemand table) ds
+  pub row-demands : (a : ℕ) (keys : List Text) (ds : List Demand) → AllZip (IsDemandOf env table a) keys ds → All (IsDemand table) ds
   row-demands a [] [] h = All-nil _
   row-demands a [] (d ∷ ds) h = absurd h
   row-demands a (key ∷ keys) [] h = absurd h
@@ -183,7 +183,7 @@ module _ (env : List AtomDef) (wanted : List ℕ) (marked : Bool) (keys : List T
 
 -- ---- what is told of the whole
 
-module _ (env : List AtomDef) (wanted : List ℕ) (marked : Bool) (table : Table) (kept : List (ℕ × Option Shape)) (unwanted : List ℕ) (keys : List Text) (named : AreNamedKeys env (wanted ++ unwanted) keys) (fresh : Text) (behind : IsBehind keys fresh)
+module _ (env : List AtomDef) (wanted : List ℕ) (marked : Bool) (table : Table) (kept : List (ℕ × Option Shape)) (unwanted : List ℕ) (keys : List Text) (named : HasNamedKeys env (wanted ++ unwanted) keys) (fresh : Text) (behind : IsBehind keys fresh)
     (rest : Condition) (rest_is : AreOne rest (wanted_at env wanted marked fresh)) (askings : List RestAsking) (askings_are : AllZip (IsRestAskingOf env fresh) unwanted askings) where
   pub asked-tells : (q : ℕ) → TellsFurther env table kept rest askings (AskFurther q) → TellsMappings env wanted marked table kept unwanted (Ask q)
   asked-tells q h = record {

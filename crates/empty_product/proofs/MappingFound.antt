@@ -18,7 +18,7 @@ use Rattle.type_diagrams.proofs.Elements.{All-where}
 use Rattle.type_diagrams.proofs.Meeting.{Meets-same}
 use Rattle.type_diagrams.proofs.PathShapes.{IsAtomOf}
 use Rattle.empty_product.specs.Further.{RestAsking}
-use Rattle.empty_product.specs.Keys.{Names, AreNamedKeys, IsBehind}
+use Rattle.empty_product.specs.Keys.{Names, HasNamedKeys, IsBehind}
 use Rattle.empty_product.specs.Mappings.{wanted_at, IsPlaceOf, IsAskingOf, IsMappingOf, members_at}
 use Rattle.empty_product.specs.Products.{IsIn, Avoids}
 use Rattle.empty_product.specs.Slots.{Place, MayHave, HasNone, MustHave, Asking, IsAt, AvoidsAt}
@@ -55,7 +55,7 @@ members_at-append (key ∷ keys) more (None ∷ parts) further e = members_at-ap
 members_at-append (key ∷ keys) more (Some x ∷ parts) further e = ap (λ ms. (key, x) ∷ ms) (members_at-append keys more parts further (omega (arith, e)))
 
 module _ (env : List AtomDef) (small : length env ≤ the_mark) (wanted : List ℕ) (marked : Bool) (defs : All (IsAtomOf env Mappings) wanted) where
-  module _ (unwanted : List ℕ) (keys : List Text) (named : AreNamedKeys env (wanted ++ unwanted) keys) (fresh : Text) (behind : IsBehind keys fresh) where
+  module _ (unwanted : List ℕ) (keys : List Text) (named : HasNamedKeys env (wanted ++ unwanted) keys) (fresh : Text) (behind : IsBehind keys fresh) where
     module _ (rest : Condition) (rest_is : AreOne rest (wanted_at env wanted marked fresh)) (places : List Place) (are : AllZip (IsPlaceOf env wanted marked) keys places) (parts : List (Option Shape)) (in_places : IsIn env places parts) (further : List Shape) (inside : All (IsShapeOf env rest) further) (x : Shape) (is : IsMappingOf marked keys parts further x) where
       abbrev ms : List Member
       ms = members_at (keys ++ is.fresh) (parts ++ map Some further)

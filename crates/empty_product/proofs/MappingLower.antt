@@ -36,7 +36,7 @@ module _ (env : List AtomDef) (small : length env ≤ the_mark) (x : Shape) (kin
   known : AreMembers x
   known = members-known x kind valid
 
-  sorted : Sorted (λ (m : Member). m.0) (members_in x)
+  pub sorted : Sorted (λ (m : Member). m.0) (members_in x)
   sorted = Sorted-rise (λ (m : Member). m.0) (members_in x) known.rise
 
   has_key : (key : Text) (y : Shape) → part_at (members_in x) key ≡ Some y → HasKey (members_in x) key
@@ -148,7 +148,7 @@ module _ (env : List AtomDef) (small : length env ≤ the_mark) (x : Shape) (kin
     needed : (key : Text) → Any (Requires env key) wanted → part_at (members_in x) key ≡ None → ⊥
     needed key r at = let n = Any-is (Requires env key) wanted r in part_at-None (members_in x) key at (required-key env (members_in x) n.0 (fits n.0 n.1).required key n.2)
 
-    at-place : (key : Text) (p : Place) (o : Option Shape) → part_at (members_in x) key ≡ o → IsPlaceOf env wanted marked key p → IsAt env p o
+    pub at-place : (key : Text) (p : Place) (o : Option Shape) → part_at (members_in x) key ≡ o → IsPlaceOf env wanted marked key p → IsAt env p o
     at-place key (MayHave c) None at is = tt
     at-place key (MayHave c) (Some y) at is = shape_at key c is.0 y at
     at-place key HasNone o at is = absurd is

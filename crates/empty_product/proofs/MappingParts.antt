@@ -13,7 +13,7 @@ use Rattle.type_diagrams.specs.Conditions.{Meets, asks, frozen}
 use Rattle.type_diagrams.specs.Members.{member_of}
 use Rattle.type_diagrams.proofs.Elements.{All-parts, All-unmap, map-where}
 use Rattle.type_diagrams.proofs.Meeting.{Meets-asks, Meets-frozen}
-use Rattle.empty_product.specs.Keys.{Names, AreNamedKeys, IsBehind}
+use Rattle.empty_product.specs.Keys.{Names, HasNamedKeys, IsBehind}
 use Rattle.empty_product.specs.Mappings.{conditions_at, wanted_at}
 use Rattle.empty_product.proofs.AtomFields.{member_of-unnamed}
 use Rattle.empty_product.proofs.TextOrder.{Below, below-apart}
@@ -92,7 +92,7 @@ module _ (env : List AtomDef) (wanted : List ℕ) (marked : Bool) where
 pub behind-not-there : (keys : List Text) (fresh : Text) → IsBehind keys fresh → ¬ Contains keys fresh
 behind-not-there keys fresh behind c = below-apart fresh fresh (All-contains (λ k. Below k fresh) keys fresh behind.above c) refl
 
-module _ (env : List AtomDef) (atoms : List ℕ) (keys : List Text) (named : AreNamedKeys env atoms keys) where
+module _ (env : List AtomDef) (atoms : List ℕ) (keys : List Text) (named : HasNamedKeys env atoms keys) where
   -- the atoms don't name a key that is none of the named ones
   pub not-named : (key : Text) → ¬ Contains keys key → (a : ℕ) → Contains atoms a → ¬ Names env a key
   not-named key out a c n = out (named.all a key c n)

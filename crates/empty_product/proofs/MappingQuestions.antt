@@ -24,7 +24,7 @@ use Rattle.type_diagrams.proofs.AskedDiagrams.{gives_itself}
 use Rattle.type_diagrams.proofs.Keeping.{keeps-further}
 use Rattle.type_diagrams.proofs.Shapes.{one-further, combined-Gives, gives-keeps}
 use Rattle.empty_product.specs.declared.mapping_atoms.KeyBase.{KeyBase}
-use Rattle.empty_product.specs.Keys.{Names, AreInOrder, HasAdded, AreNamedKeys}
+use Rattle.empty_product.specs.Keys.{Names, AreInOrder, HasAdded, HasNamedKeys}
 use Rattle.empty_product.specs.KeyBases.{IsBase, AreBases, IsApartAt, IsApartBy, fields_in, fields_of}
 use Rattle.empty_product.specs.Play.{AreInPlay}
 use Rattle.empty_product.proofs.AtomFields.{IsNamed, IsNeeded, field_of, field_of-Some, field_of-None, key_type-found, key_type-none, Requires-fields, Names-fields, Requires-Names}
@@ -210,7 +210,7 @@ module _ (env : List AtomDef) (wanted : List ℕ) (keys : List Text) (bases : Li
       here : Any (λ (c : KeyBase). c.key ≡ get_or keys i key) (bases ++ b ∷ [])
       here = Any-of (λ (c : KeyBase). c.key ≡ get_or keys i key) (bases ++ b ∷ []) b (Contains-push bases b) (same ∙ is)
 
-  pub all-bases : (table : Table) → AreNamedKeys env wanted keys → AreBasesAt env table wanted keys bases → AreBases env table wanted bases
+  pub all-bases : (table : Table) → HasNamedKeys env wanted keys → AreBasesAt env table wanted keys bases → AreBases env table wanted bases
   all-bases table named are = record {
     each = are.each;
     all = λ key r. let n = Any-is (Requires env key) wanted r in All-contains (λ k. Any (λ (b : KeyBase). b.key ≡ k) bases) keys key are.all (named.all n.0 key n.1 (Requires-Names env key n.0 n.2));
@@ -283,14 +283,6 @@ none-added IsMore keys = record {
   added = λ key h. absurd (Any-none (λ x. IsMore x key) h);
 }
 
--- named keys are those that are added to none by the atoms
-pub named-added : (env : List AtomDef) (atoms : List ℕ) (keys : List Text) → AreInOrder keys → HasAdded (λ key. Any (λ a. Names env a key) atoms) [] keys → AreNamedKeys env atoms keys
-named-added env atoms keys ordered added = record {
-  ordered = ordered;
-  each = All-weaker _ (λ key. Any (λ a. Names env a key) atoms) (λ key. ⊎_elim (λ (c : Contains [] key). absurd (omega (arith, c.1))) (λ (n : Any (λ a. Names env a key) atoms). n)) keys added.among;
-  all = λ a key c n. added.added key (Any-of (λ b. Names env b key) atoms a c n);
-}
-
 -- what the fields of an atom add is what it names
 pub atom-added : (env : List AtomDef) (a : ℕ) (fields : List FieldDef) (rest : Option Ty) → parts_of mapping_parts env a ≡ Some (fields, rest) → (old new : List Text) → HasAdded (λ key. Any (IsNamed key) fields) old new → HasAdded (Names env a) old new
 atom-added env a fields rest is old new added = record {
@@ -314,14 +306,22 @@ same-added name old new h = record {
   added = λ k e. h.added k (sym e);
 }
 
+-- one more key among them
+pub also-named : {IsMore : Text → Type 0} (env : List AtomDef) (atoms : List ℕ) (old new : List Text) → HasNamedKeys env atoms old → AreInOrder new → HasAdded IsMore old new → HasNamedKeys env atoms new
+also-named env atoms old new named ordered added = record {
+  ordered = ordered;
+  all = λ b key c n. All-contains (Contains new) old key added.kept (named.all b key c n);
+}
+
 -- the keys of one more atom
-pub more-named : (env : List AtomDef) (atoms : List ℕ) (a : ℕ) (mid new : List Text) → AreNamedKeys env atoms mid → AreInOrder new → HasAdded (Names env a) mid new → AreNamedKeys env (atoms ++ a ∷ []) new
-more-named env atoms a mid new named ordered added =
-    named-added env (atoms ++ a ∷ []) new ordered (more-added (Names env) atoms a [] mid new (record {
-      among = All-weaker (λ key. Any (λ b. Names env b key) atoms) (λ key. Contains [] key ⊎ Any (λ b. Names env b key) atoms) (λ key n. inr n) mid named.each;
-      kept = All-nil _;
-      added = λ key h. let n = Any-is (λ b. Names env b key) atoms h in named.all n.0 key n.1 n.2;
-    }) added)
+pub more-named : (env : List AtomDef) (atoms : List ℕ) (a : ℕ) (mid new : List Text) → HasNamedKeys env atoms mid → AreInOrder new → HasAdded (Names env a) mid new → HasNamedKeys env (atoms ++ a ∷ []) new
+more-named env atoms a mid new named ordered added = record {
+  ordered = ordered;
+  all = λ b key c n. ⊎_elim
+      (λ (old : Contains atoms b). All-contains (Contains new) mid key added.kept (named.all b key old n))
+      (λ (e : a ≡ b). added.added key (subst (λ d. Names env d key) (sym e) n))
+      (Contains-push_cases atoms a b c);
+}
 
 -- what the type at a key asks, by the field of the name or by the rest
 pub key-asked : (env : List AtomDef) (a : ℕ) (key : Text) (fields : List FieldDef) (rest : Option Ty) (o : Option FieldDef) → parts_of mapping_parts env a ≡ Some (fields, rest) → o ≡ field_of fields key

@@ -27,7 +27,8 @@ use Rattle.type_diagrams.proofs.PathShapes.{IsAtomOf, atoms-are, has_mark, in_wa
 use Rattle.type_diagrams.proofs.Shapes.{one-further}
 use Rattle.empty_product.specs.declared.avoid.Filling.TheVariants.{Empty as NoFilling}
 use Rattle.empty_product.specs.Further.{RestAsking, AreSplit, IsAvoidedBy, MustStay}
-use Rattle.empty_product.specs.Keys.{Names, AreNamedKeys, IsBehind}
+use Rattle.empty_product.specs.Keys.{Names, HasNamedKeys, IsBehind}
+use Rattle.empty_product.specs.MemberParts.{IsFree}
 use Rattle.empty_product.specs.Mappings.{AsksFurther, AreWays, IsMappingOf, IsAskingOf, IsPlaceOf, IsRestAskingOf, IsSettled, TellsMappings, wanted_at}
 use Rattle.empty_product.specs.Play.{AreInPlay}
 use Rattle.empty_product.specs.Products.{AsksPart, Avoids, IsIn, TellsFilling}
@@ -104,7 +105,7 @@ atoms_for f P (c ∷ left) h =
     (first.0 ∷ rest.0, All-cons P first.0 rest.0 first.1 rest.1, (first.2, rest.2))
 
 -- all of some rows, or something else
-all_rows : {X Y : Type 0} (R : X → Y → Type 0) (P : Y → Type 0) (H : Type 0) (xs : List X) (ys : List Y) → AllZip R xs ys → ((k : ℕ) (x : X) (y : Y) → slice_get xs k ≡ Some x → R x y → P y ⊎ H) → All P ys ⊎ H
+pub all_rows : {X Y : Type 0} (R : X → Y → Type 0) (P : Y → Type 0) (H : Type 0) (xs : List X) (ys : List Y) → AllZip R xs ys → ((k : ℕ) (x : X) (y : Y) → slice_get xs k ≡ Some x → R x y → P y ⊎ H) → All P ys ⊎ H
 all_rows R P H [] [] z f = inl (All-nil P)
 all_rows R P H [] (y ∷ ys) z f = absurd z
 all_rows R P H (x ∷ xs) [] z f = absurd z
@@ -116,17 +117,17 @@ all_rows R P H (x ∷ xs) (y ∷ ys) z f = by (f 0 x y refl z.0) (all_rows R P H
     by (inl p) (inr h) = inr h
 
 module _ (env : List AtomDef) (small : length env ≤ the_mark) (table : Table) (kept : List (ℕ × Option Shape)) (p : Path) (literals : HasLiteralsOf env Mappings p) (playing : List ℕ) (play : AreInPlay (IsMappingOutOfPlay env (atoms_in p.pos)) (atoms_in p.neg) playing) where
-  pos : All (IsAtomOf env Mappings) (atoms_in p.pos)
+  pub pos : All (IsAtomOf env Mappings) (atoms_in p.pos)
   pos = atoms-are env Mappings p.pos literals.holding
 
-  neg : All (IsAtomOf env Mappings) (atoms_in p.neg)
+  pub neg : All (IsAtomOf env Mappings) (atoms_in p.neg)
   neg = atoms-are env Mappings p.neg literals.failing
 
-  def_of : (a : ℕ) → Contains (atoms_in p.neg) a → IsAtomOf env Mappings a
+  pub def_of : (a : ℕ) → Contains (atoms_in p.neg) a → IsAtomOf env Mappings a
   def_of a c = All-contains (IsAtomOf env Mappings) (atoms_in p.neg) a neg c
 
   -- an atom in play is one of the unwanted ones
-  in_play : (a : ℕ) → Contains playing a → Contains (atoms_in p.neg) a × (¬ IsMappingOutOfPlay env (atoms_in p.pos) a)
+  pub in_play : (a : ℕ) → Contains playing a → Contains (atoms_in p.neg) a × (¬ IsMappingOutOfPlay env (atoms_in p.pos) a)
   in_play a c = All-contains (λ b. Contains (atoms_in p.neg) b × (¬ IsMappingOutOfPlay env (atoms_in p.pos) b)) playing a play.among c
 
   -- ---- a question about a part
@@ -143,7 +144,7 @@ module _ (env : List AtomDef) (small : length env ≤ the_mark) (table : Table) 
   )
 
   module _ (fresh : Text) (rest : Condition) (rest_is : AreOne rest (wanted_at env (atoms_in p.pos) (has_mark p) fresh)) (askings : List RestAsking) (askings_are : AllZip (IsRestAskingOf env fresh) playing askings) where
-    further-asked : (d : Condition) → ¬ IsNothing d → Any (λ r. AreOne d (without rest r.part)) askings → IsMemberQuestion env Mappings p d
+    pub further-asked : (d : Condition) → ¬ IsNothing d → Any (λ r. AreOne d (without rest r.part)) askings → IsMemberQuestion env Mappings p d
     further-asked d some h =
         let n = Any-is (λ r. AreOne d (without rest r.part)) askings h in
         let at = Contains-at askings n.0 n.1 in
@@ -172,7 +173,7 @@ module _ (env : List AtomDef) (small : length env ≤ the_mark) (table : Table) 
           let a = AllZip-back (IsRestAskingOf env fresh) playing askings askings_are at.0 n.0 at.1 in
           record { asking = n.0; atom = a.0; same = sym a.2.atom ∙ n.2.0; among = at-Contains playing at.0 a.0 a.1; part = a.2.part; must = n.2.1 }
 
-      staying-in_play : (s : ℕ) → Contains staying s → Contains playing s
+      pub staying-in_play : (s : ℕ) → Contains staying s → Contains playing s
       staying-in_play s c = let h = stays s c in subst (Contains playing) h.same h.among
 
       module _ (keys : List Text) (places : List Place) (rows : List (List Asking)) (ways : AreWays env (atoms_in p.pos) (has_mark p) keys staying places rows) where
@@ -181,7 +182,7 @@ module _ (env : List AtomDef) (small : length env ≤ the_mark) (table : Table) 
         base_of key HasNone base i e = absurd i
         base_of key (MustHave c) base i e = subst (λ b. AreOne b (wanted_at env (atoms_in p.pos) (has_mark p) key)) (some_same e) i.0
 
-        named-asked : (d : Condition) → ¬ IsNothing d → AsksPart places rows d → IsMemberQuestion env Mappings p d
+        pub named-asked : (d : Condition) → ¬ IsNothing d → AsksPart places rows d → IsMemberQuestion env Mappings p d
         named-asked d some ask =
             let key = AllZip-back (IsPlaceOf env (atoms_in p.pos) (has_mark p)) keys places ways.places_are ask.place ask.at ask.is_at in
             let cs = wanted_parts (member_of env key.0) p in
@@ -204,32 +205,32 @@ module _ (env : List AtomDef) (small : length env ≤ the_mark) (table : Table) 
 
         -- ---- each mapping of the path has a lower part
 
-        module _ (named : AreNamedKeys env (atoms_in p.pos ++ playing) keys) (behind : IsBehind keys fresh) (none : TellsFilling env table kept places rows NoFilling) (x : Shape) (valid : IsValid x) (on : IsOnPath env Mappings p x) where
-          wanted_in : All (λ a. In env x (Atom a)) (atoms_in p.pos)
+        module _ (named : HasNamedKeys env (atoms_in p.pos ++ playing) keys) (behind : IsBehind keys fresh) (x : Shape) (valid : IsValid x) (on : IsOnPath env Mappings p x) where
+          pub wanted_in : All (λ a. In env x (Atom a)) (atoms_in p.pos)
           wanted_in = in_wanted env Mappings p x on
 
-          mark : IsTrue (has_mark p) → IsMarked x
+          pub mark : IsTrue (has_mark p) → IsMarked x
           mark t = is_marked env Mappings p x on t
 
-          known_at : (key : Text) (y : Shape) → part_at (members_in x) key ≡ Some y → IsShapeOf env (wanted_at env (atoms_in p.pos) (has_mark p) key) y × (levels y < levels x)
+          pub known_at : (key : Text) (y : Shape) → part_at (members_in x) key ≡ Some y → IsShapeOf env (wanted_at env (atoms_in p.pos) (has_mark p) key) y × (levels y < levels x)
           known_at = part-known env small x on.kind valid (atoms_in p.pos) (has_mark p) pos mark wanted_in
 
-          lower : (y : Shape) → IsInHeld env table kept y → levels y < levels x → HasLower env table kept x
+          pub lower : (y : Shape) → IsInHeld env table kept y → levels y < levels x → HasLower env table kept x
           lower y held lt = record { question = held.question; held = held.held; part = y; inside = held.inside; lower = lt }
 
-          unnamed : (a : ℕ) → Contains (atoms_in p.pos ++ playing) a → (key : Text) → ¬ Contains keys key → ¬ Names env a key
+          pub unnamed : (a : ℕ) → Contains (atoms_in p.pos ++ playing) a → (key : Text) → ¬ Contains keys key → ¬ Names env a key
           unnamed a c key out = not-named env (atoms_in p.pos ++ playing) keys named key out a c
 
-          -- a member at a key that is not named, by which a staying atom is avoided
-          by_further : (s : ℕ) (def : IsAtomOf env Mappings s) → Contains staying s → (o : HasOther env small x on.kind valid s def) → ¬ Contains keys o.key → HasLower env table kept x
-          by_further s def c o out =
+          -- a member at a key that no atom names, by which a staying atom is avoided
+          pub by_further : (s : ℕ) (def : IsAtomOf env Mappings s) → Contains staying s → (o : HasOther env small x on.kind valid s def) → IsFree env (atoms_in p.pos ++ playing) o.key → HasLower env table kept x
+          by_further s def c o free =
               let st = stays s c in
               let k = known_at o.key o.part o.at in
               let no_fresh = behind-not-there keys fresh behind in
               let among = Contains-append_right (atoms_in p.pos) playing s (staying-in_play s c) in
               let wanted_same = wanted_at-unnamed env (atoms_in p.pos) (has_mark p) o.key fresh (All-weaker (Contains (atoms_in p.pos)) (λ a. (¬ Names env a o.key) × (¬ Names env a fresh))
-              (λ a w. let in_all = Contains-append_left (atoms_in p.pos) playing a w in (unnamed a in_all o.key out, unnamed a in_all fresh no_fresh)) (atoms_in p.pos) (All-contains_itself (atoms_in p.pos))) in
-              let member_same = member_of-unnamed env s o.key fresh (unnamed s among o.key out) (unnamed s among fresh no_fresh) in
+              (λ a w. let in_all = Contains-append_left (atoms_in p.pos) playing a w in (free a in_all, unnamed a in_all fresh no_fresh)) (atoms_in p.pos) (All-contains_itself (atoms_in p.pos))) in
+              let member_same = member_of-unnamed env s o.key fresh (free s among) (unnamed s among fresh no_fresh) in
               let inside = subst (λ d. IsShapeOf env d o.part) wanted_same k.0 in
               let rest_shape : IsShapeOf env rest o.part = (inside.0, (Meets-same env rest (wanted_at env (atoms_in p.pos) (has_mark p) fresh) o.part inside.0 rest_is).1 inside.1) in
               let part_is = subst (λ a. AreOne st.asking.part (member_of env fresh a)) st.same st.part in
@@ -243,11 +244,11 @@ module _ (env : List AtomDef) (small : length env ≤ the_mark) (table : Table) 
               let unwanted = (in_play s among).0 in
               let out = All-contains (λ b. ¬ In env x (Atom b)) (atoms_in p.neg) s (in_no_unwanted env Mappings p x on) unwanted in
               ⊎_elim (λ (h : Avoids env row (map (part_at (members_in x)) keys)). inl h)
-              (λ (o : (o : HasOther env small x on.kind valid s (def_of s unwanted)) × (¬ Contains keys o.key)). inr (by_further s (def_of s unwanted) c o.0 o.1))
+              (λ (o : (o : HasOther env small x on.kind valid s (def_of s unwanted)) × (¬ Contains keys o.key)). inr (by_further s (def_of s unwanted) c o.0 (λ a d. unnamed a d o.0.key o.1)))
               (avoided env small x on.kind valid s (def_of s unwanted) keys row are (λ key n. named.all s key (Contains-append_right (atoms_in p.pos) playing s among) n) out)
 
-          has-lower : HasLower env table kept x
-          has-lower =
+          has-lower : TellsFilling env table kept places rows NoFilling → HasLower env table kept x
+          has-lower none =
               ⊎_elim
               (λ (all : All (λ row. Avoids env row (map (part_at (members_in x)) keys)) rows).
               let held = none (map (part_at (members_in x)) keys) (fills env small x on.kind valid (atoms_in p.pos) (has_mark p) pos mark wanted_in keys places ways.places_are) all in
@@ -258,7 +259,7 @@ module _ (env : List AtomDef) (small : length env ≤ the_mark) (table : Table) 
 
         -- ---- the mapping that is found is on the path
 
-        module _ (named : AreNamedKeys env (atoms_in p.pos ++ playing) keys) (behind : IsBehind keys fresh) (x : Shape) (parts : List (Option Shape)) (in_places : IsIn env places parts) (avoid : All (λ row. Avoids env row parts) rows) (is : IsMappingOf (has_mark p) keys parts further x) where
+        module _ (named : HasNamedKeys env (atoms_in p.pos ++ playing) keys) (behind : IsBehind keys fresh) (x : Shape) (parts : List (Option Shape)) (in_places : IsIn env places parts) (avoid : All (λ row. Avoids env row parts) rows) (is : IsMappingOf (has_mark p) keys parts further x) where
           ins : All (λ a. In env x (Atom a)) (atoms_in p.pos)
           ins = in-wanted env small (atoms_in p.pos) (has_mark p) pos playing keys named fresh behind rest rest_is places ways.places_are parts in_places further split.inside x is
 
@@ -296,7 +297,7 @@ module _ (env : List AtomDef) (small : length env ≤ the_mark) (table : Table) 
               (λ (out : IsMappingOutOfPlay env (atoms_in p.pos) a). not-out env small x its_kind valid_found (atoms_in p.pos) (has_mark p) pos its_mark.1 ins a def out)
               (λ (c : Contains playing a). playing-out a def c) h) (atoms_in p.neg) neg play.others
 
-          found-on_path : ¬ ((has_mark p ≡ true) × (list_any (λ l. l == the_mark) p.neg ≡ true)) → IsShapeOn env Mappings p x
+          pub found-on_path : ¬ ((has_mark p ≡ true) × (list_any (λ l. l == the_mark) p.neg ≡ true)) → IsShapeOn env Mappings p x
           found-on_path one_way = (valid_found, marked-on_path env Mappings p x its_kind its_mark.1 (λ n m. one_way (its_mark.0 m, n)) ins outs)
 
   -- ---- the whole
@@ -313,7 +314,7 @@ module _ (env : List AtomDef) (small : length env ≤ the_mark) (table : Table) 
         found-on_path told.fresh told.rest told.rest_is told.askings told.askings_are h.further h.staying h.split told.keys f.places f.askings f.ways told.named told.behind x f.tells.0 f.tells.1 f.tells.2 f.tells.3 one_way
     settled-Turns Empty told h = λ x on.
         let f = h.filled in
-        has-lower told.fresh told.rest told.rest_is told.askings told.askings_are h.further h.staying h.split told.keys f.places f.askings f.ways told.named told.behind f.tells x on.0 on.1
+        has-lower told.fresh told.rest told.rest_is told.askings told.askings_are h.further h.staying h.split told.keys f.places f.askings f.ways told.named told.behind x on.0 on.1 f.tells
     settled-Turns (Ask q) told h =
         let f = h.filled in
         (f.tells.1, f.tells.0, named-asked told.fresh told.rest told.rest_is told.askings told.askings_are h.further h.staying h.split told.keys f.places f.askings f.ways (condition table q) f.tells.2 f.tells.3)

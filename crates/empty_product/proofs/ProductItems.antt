@@ -19,8 +19,8 @@ use Rattle.empty_product.specs.declared.avoid.Filling.{Filling}
 use Rattle.empty_product.specs.declared.avoid.Filling.TheVariants.{Parts, Empty, Ask}
 use Rattle.empty_product.specs.declared.slots.Slot.TheVariants.{Present}
 use Rattle.empty_product.specs.declared.slots.Unwanted.{Unwanted}
-use Rattle.empty_product.specs.Lists.{AreAsked, AreDemandsOf, AvoidAll, AvoidsItem, IsDemandOf, TellsItems}
-use Rattle.empty_product.specs.Products.{AsksPart, Avoids, IsIn, TellsFilling, all_askings, askings_of, places_of}
+use Rattle.empty_product.specs.Lists.{AreAsked, AreDemandsOf, AvoidAll, AvoidsItem, HasHeldItem, IsDemandOf, TellsItems}
+use Rattle.empty_product.specs.Products.{AsksPart, Avoids, HasHeldPart, IsIn, TellsFilling, all_askings, askings_of, places_of}
 use Rattle.empty_product.specs.Slots.{AvoidsAt, IsAt, MustHave, Place, asking_of, condition_at, place_of}
 use Rattle.empty_product.proofs.ItemPlaces.{Contains-at, at-Contains, at-map, at_mapped, at_place, some_same}
 
@@ -126,7 +126,7 @@ module _ (env : List AtomDef) (base : ℕ → Condition) (t new : Table) (kept :
         avoids = λ m. av.avoids ((Meets-same env (condition t d.0.question) (item_of env av.place a) av.item inside.0 given.0.condition).0 m);
       }
 
-  items-IsIn : (items : List Shape) → AvoidAll env base (λ n. n ≡ length bases) atoms items → IsIn env places (map Some items)
+  pub items-IsIn : (items : List Shape) → AvoidAll env base (λ n. n ≡ length bases) atoms items → IsIn env places (map Some items)
   items-IsIn items all = record {
     length = length-mapped Some items ∙ all.count ∙ sym places_long;
     each = λ k p o at stands.
@@ -135,14 +135,23 @@ module _ (env : List AtomDef) (base : ℕ → Condition) (t new : Table) (kept :
         subst (λ r. IsAt env r o) q.2 (subst (IsAt env (MustHave (condition t q.0))) x.2 ((item-asked k q.0 x.0 q.1).1 (all.inside k x.0 x.1)));
   }
 
+  pub held-item : (items : List Shape) → HasHeldPart env new kept (map Some items) → HasHeldItem env new kept items
+  held-item items has =
+      let x = at_mapped Some items has.place (Some has.part) has.stands in record {
+        item = has.part;
+        among = subst (Contains items) (some_same x.0 has.part x.2) (at-Contains items has.place x.0 x.1);
+        held = has.held;
+      }
+
   mapped-Contains : (u : Unwanted) → Contains us u → Contains (all_askings t us) (askings_of t u)
   mapped-Contains u c = let k = Contains-at us u c in at-Contains (all_askings t us) k.0 (askings_of t u) (at-map (askings_of t) us k.0 u k.1)
 
-  pub filling-TellsItems : (filling : Filling) → TellsFilling env new kept places (all_askings t us) filling → TellsItems env base new kept (λ n. n ≡ length bases) atoms filling
-  filling-TellsItems (Parts parts) h =
-      let found = parts-items parts.items h.0 in
-      let is = subst (IsIn env places) found.1 h.0 in
-      let avoids = subst (λ ps. All (λ a. Avoids env a ps) (all_askings t us)) found.1 h.1 in (
+  -- parts by which each atom is avoided are items
+  pub parts-AvoidAll : (parts : List (Option Shape)) → IsIn env places parts → All (λ a. Avoids env a parts) (all_askings t us) → (items : List Shape) × (parts ≡ map Some items) × AvoidAll env base (λ n. n ≡ length bases) atoms items
+  parts-AvoidAll parts fills avoiding =
+      let found = parts-items parts fills in
+      let is = subst (IsIn env places) found.1 fills in
+      let avoids = subst (λ ps. All (λ a. Avoids env a ps) (all_askings t us)) found.1 avoiding in (
         found.0,
         found.1,
         record {
@@ -156,19 +165,17 @@ module _ (env : List AtomDef) (base : ℕ → Condition) (t new : Table) (kept :
               AvoidsItem-from found.0 is (get_or atoms k d) u.0 u.2 (All-contains (λ a. Avoids env a (map Some found.0)) (all_askings t us) (askings_of t u.0) avoids (mapped-Contains u.0 u.1));
         },
       )
-  filling-TellsItems Empty h = λ items all.
-      let has = h (map Some items) (items-IsIn items all) (each items all) in
-      let x = at_mapped Some items has.place (Some has.part) has.stands in record {
-        item = has.part;
-        among = subst (Contains items) (some_same x.0 has.part x.2) (at-Contains items has.place x.0 x.1);
-        held = has.held;
-      }
-    where
-      each : (items : List Shape) → AvoidAll env base (λ n. n ≡ length bases) atoms items → All (λ a. Avoids env a (map Some items)) (all_askings t us)
-      each items all k d lt =
-          let u = at_mapped (askings_of t) us k (get_or (all_askings t us) k d) (slice_get-get_or (all_askings t us) k d lt) in
-          let a = All-contains (λ w. (a : ℕ) × Contains atoms a × IsDemandOf env t (length bases) a w.demands.items) us u.0 demands.only (at-Contains us k u.0 u.1) in
-          subst (λ w. Avoids env w (map Some items)) u.2 (Avoids-from items all a.0 u.0 a.2 (All-contains (λ b. AvoidsItem env b items) atoms a.0 all.avoiding a.1))
+
+  -- and such items are parts by which each is
+  pub AvoidAll-Avoids : (items : List Shape) → AvoidAll env base (λ n. n ≡ length bases) atoms items → All (λ a. Avoids env a (map Some items)) (all_askings t us)
+  AvoidAll-Avoids items all k d lt =
+      let u = at_mapped (askings_of t) us k (get_or (all_askings t us) k d) (slice_get-get_or (all_askings t us) k d lt) in
+      let a = All-contains (λ w. (a : ℕ) × Contains atoms a × IsDemandOf env t (length bases) a w.demands.items) us u.0 demands.only (at-Contains us k u.0 u.1) in
+      subst (λ w. Avoids env w (map Some items)) u.2 (Avoids-from items all a.0 u.0 a.2 (All-contains (λ b. AvoidsItem env b items) atoms a.0 all.avoiding a.1))
+
+  pub filling-TellsItems : (filling : Filling) → TellsFilling env new kept places (all_askings t us) filling → TellsItems env base new kept (λ n. n ≡ length bases) atoms filling
+  filling-TellsItems (Parts parts) h = parts-AvoidAll parts.items h.0 h.1
+  filling-TellsItems Empty h = λ items all. held-item items (h (map Some items) (items-IsIn items all) (AvoidAll-Avoids items all))
   filling-TellsItems (Ask q) h =
       let part = h.3 in
       let place = part.place in

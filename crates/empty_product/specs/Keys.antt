@@ -33,8 +33,7 @@ module _ (env : List AtomDef) where
   abbrev pub Names : ℕ → Text → Type 0
   Names a key = IsSomeAnd (parts_of mapping_parts env a) (λ d. Any (λ f. f.name ≡ key) d.0)
 
-  -- the keys that these mapping atoms name, in order
-  pub record AreNamedKeys (atoms : List ℕ) (keys : List Text) : Type 0 where
+  -- keys in order, and among them all that these mapping atoms name
+  pub record HasNamedKeys (atoms : List ℕ) (keys : List Text) : Type 0 where
     pub ordered : AreInOrder keys
-    pub each : All (λ key. Any (λ a. Names a key) atoms) keys
     pub all : (a : ℕ) (key : Text) → Contains atoms a → Names a key → Contains keys key

@@ -1,9 +1,14 @@
 pub mod Bases
+pub mod Cells
 pub mod Further
+pub mod Items
 pub mod KeyBases
 pub mod Keys
 pub mod Lists
 pub mod Mappings
+pub mod MemberParts
+pub mod Parts
 pub mod Play
 pub mod Products
 pub mod Slots
+pub mod Standing

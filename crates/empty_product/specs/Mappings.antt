@@ -20,7 +20,7 @@ use Rattle.type_diagrams.specs.declared.turn.Turn.TheVariants.{Shape as Found, E
 use Rattle.empty_product.specs.declared.avoid.Filling.TheVariants.{Empty as NoFilling, Ask as AskFilling}
 use Rattle.empty_product.specs.declared.further.Further.TheVariants.{Ask as AskFurther}
 use Rattle.empty_product.specs.Further.{RestAsking, AreSplit, TellsFurther}
-use Rattle.empty_product.specs.Keys.{AreInOrder, AreNamedKeys, IsBehind}
+use Rattle.empty_product.specs.Keys.{AreInOrder, HasNamedKeys, IsBehind}
 use Rattle.empty_product.specs.Products.{IsIn, Avoids, TellsFilling}
 use Rattle.empty_product.specs.Slots.{Place, MayHave, HasNone, MustHave, Asking}
 
@@ -123,7 +123,7 @@ module _ (env : List AtomDef) (wanted : List ℕ) (marked : Bool) (table : Table
   -- of mappings in all wanted atoms and in no unwanted one
   pub record TellsMappings (unwanted : List ℕ) (turn : Turn) : Type 0 where
     pub keys : List Text
-    pub named : AreNamedKeys env (wanted ++ unwanted) keys
+    pub named : HasNamedKeys env (wanted ++ unwanted) keys
     pub fresh : Text
     pub behind : IsBehind keys fresh
     pub rest : Condition

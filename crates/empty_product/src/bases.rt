@@ -1,5 +1,5 @@
 //! Questions about the parts of marked shapes.
-ghost use Rattle.std.specs.Prelude.{◌≡◌, ◌==◌, IfOk, OnOk, length};
+ghost use Rattle.std.specs.Prelude.{◌≡◌, ◌==◌, ◌↔◌, IfOk, IsTrue, OnOk, length, true};
 ghost use Rattle.std.specs.List.{list_any};
 ghost use Rattle.type_diagrams.specs.Conditions.{frozen};
 ghost use Rattle.type_diagrams.specs.Kinds.{the_mark};
@@ -8,7 +8,7 @@ ghost use Rattle.type_diagrams.specs.Whole.{Extends, Gives, HasOneNumberEach};
 ghost use Rattle.empty_product.specs.Bases.{frozen_where};
 
 use bal_base::{AtomList, Memory};
-use type_diagrams::{Diagrams, MARK};
+use type_diagrams::{Diagrams, MARK, Path};
 use type_model::{BasicSet, SemType, TypeEnv};
 
 /// Nil, booleans, ints, strings, marked lists and marked mappings.
@@ -46,8 +46,19 @@ pub(crate) fn frozen_if(
 }
 
 /// Whether the mark is among literals.
-pub(crate) fn has_mark(literals: &AtomList) -> bool
+fn has_mark(literals: &AtomList) -> bool
     ensures { result ≡ list_any (λ l. l == the_mark) literals.now }
 {
     literals.as_slice().iter().any(|literal| *literal == MARK)
+}
+
+/// Whether the path says that its shapes are marked, and that they aren't. No diagram has such a path.
+pub(crate) fn has_both_marks(path: &Path) -> bool
+    ensures { IsTrue result ↔ ((list_any (λ l. l == the_mark) path.now.pos ≡ true) × (list_any (λ l. l == the_mark) path.now.neg ≡ true)) }
+{
+    if path.is_marked() {
+        has_mark(&path.neg)
+    } else {
+        false
+    }
 }

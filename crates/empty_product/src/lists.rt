@@ -1,6 +1,5 @@
 //! List paths.
-ghost use Rattle.std.specs.Prelude.{ℕ, ◌+◌, ◌-◌, ◌<◌, ◌≤◌, ◌++◌, ◌∷◌, ◌≡◌, ◌==◌, ◌&&◌, All, IfOk, IfSome, List, OnOk, Some, ⊤, length, map, slice_index};
-ghost use Rattle.std.specs.List.{list_any};
+ghost use Rattle.std.specs.Prelude.{ℕ, ◌+◌, ◌-◌, ◌<◌, ◌≤◌, ◌++◌, ◌∷◌, ◌≡◌, All, IfOk, IfSome, List, OnOk, Some, ⊤, length, map, slice_index};
 ghost use Rattle.type_diagrams.specs.declared.kind.Kind.TheVariants.{List as Lists};
 ghost use Rattle.type_diagrams.specs.Conditions.{Condition, IsShapeOf, nothing};
 ghost use Rattle.type_diagrams.specs.Kinds.{the_mark};
@@ -15,7 +14,7 @@ ghost use Rattle.empty_product.specs.Lists.{AreAsked, AreDemandsOf, AreThose, Fi
 ghost use Rattle.empty_product.specs.Play.{IsListAtom};
 
 use crate::avoid::{Filling, avoid};
-use crate::bases::{frozen_if, has_mark};
+use crate::bases::{frozen_if, has_both_marks};
 use crate::further::{Further, FurtherParts, RestDemand, further_parts};
 use crate::list_atoms::{
     all_allow_length, allows_length, item_question, items_question, lists_in_play, longest_prefix,
@@ -44,20 +43,13 @@ pub fn list_shape<M: Member>(
     let wanted = path.wanted(alloc)?;
     let named = path.unwanted(alloc)?;
     let never = dia.of(env, &SemType::Basic(BasicSet::Never))?;
-    if is_marked_both_ways(path) {
+    if has_both_marks(path) {
         return Ok(Turn::Empty);
     }
     let unwanted = lists_in_play(alloc, env, dia, never, &wanted, &named)?;
     let marked = path.is_marked();
     let filling = path_lists(alloc, env, dia, never, &wanted, &unwanted, marked, m)?;
     turn_of(alloc, marked, filling)
-}
-
-/// Whether the path says that its lists are marked, and that they aren't. No diagram has such a path.
-fn is_marked_both_ways(path: &Path) -> bool
-    ensures { result ≡ (list_any (λ l. l == the_mark) path.now.pos && list_any (λ l. l == the_mark) path.now.neg) }
-{
-    path.is_marked() && has_mark(&path.neg)
 }
 
 /// Lists of any length in all wanted atoms and in no unwanted one.
@@ -118,7 +110,7 @@ fn all_items(alloc: Global, parts: Vec<Option<Shape>>) -> Result<Vec<Shape>, Mem
 
 /// What is asked at each place up to and with the first one behind the longest fixed prefix; all later
 /// places ask the same as that.
-fn bases(
+pub(crate) fn bases(
     alloc: Global,
     env: &TypeEnv,
     dia: &mut Diagrams,
@@ -144,7 +136,7 @@ fn bases(
 }
 
 /// What is asked at a place.
-fn base(
+pub(crate) fn base(
     env: &TypeEnv,
     dia: &mut Diagrams,
     never: u32,
@@ -263,7 +255,7 @@ fn lists_with_length<M: Member>(
 }
 
 /// The atoms that have lists of this length.
-fn with_length(
+pub(crate) fn with_length(
     alloc: Global,
     defs: &[AtomDef],
     atoms: &[u32],
@@ -327,7 +319,7 @@ fn unsettled<M: Member>(dia: &Diagrams, never: u32, bases: &[u32], m: &M) -> Opt
 }
 
 /// An item in each base.
-fn bases_slots(alloc: Global, bases: &[u32]) -> Result<Vec<Slot>, Memory>
+pub(crate) fn bases_slots(alloc: Global, bases: &[u32]) -> Result<Vec<Slot>, Memory>
     ensures { IfOk result (λ slots. slots.items ≡ map Present bases.now) }
 {
     let mut slots = Vec::new(alloc);
@@ -338,7 +330,7 @@ fn bases_slots(alloc: Global, bases: &[u32]) -> Result<Vec<Slot>, Memory>
 }
 
 /// What each of the atoms asks at the first places.
-fn all_demands(
+pub(crate) fn all_demands(
     alloc: Global,
     env: &TypeEnv,
     dia: &mut Diagrams,
@@ -466,7 +458,7 @@ fn longer_lists<M: Member>(
 }
 
 /// What the atoms ask behind the longest fixed prefix.
-fn rest_demands(
+pub(crate) fn rest_demands(
     alloc: Global,
     env: &TypeEnv,
     dia: &mut Diagrams,

@@ -1,5 +1,5 @@
 //! What mapping atoms say of keys, and which of them are out of play.
-ghost use Rattle.std.specs.Prelude.{◌↔◌, ◌≡◌, ◌∷◌, ◌++◌, if◌then◌else◌, ◌<◌, ◌≤◌, All, Any, IfOk, IfSome, IsTrue, OnOk, Option, Some, [], length, map};
+ghost use Rattle.std.specs.Prelude.{◌↔◌, ◌≡◌, ◌∷◌, ◌++◌, if◌then◌else◌, ◌<◌, ◌≤◌, All, Any, IfOk, IfSome, IsTrue, OnOk, Option, Some, [], length, map, slice_get};
 ghost use Rattle.std.specs.List.{find};
 ghost use Rattle.std.specs.Option.{option_copied};
 ghost use Rattle.bal_base.specs.Valid.{IsText};
@@ -12,7 +12,7 @@ ghost use Rattle.type_diagrams.specs.Members.{IsMappingOutOfPlay, Requires, memb
 ghost use Rattle.type_diagrams.specs.Tables.{IsDiagram};
 ghost use Rattle.type_diagrams.specs.Whole.{Extends, Gives, HasOneNumberEach};
 ghost use Rattle.empty_product.specs.Play.{AreInPlay, IsMappingAtom};
-ghost use Rattle.empty_product.specs.Keys.{AreInOrder, AreNamedKeys, HasAdded, IsBehind, Rise};
+ghost use Rattle.empty_product.specs.Keys.{AreInOrder, HasNamedKeys, HasAdded, IsBehind, Rise};
 ghost use Rattle.empty_product.specs.KeyBases.{AreBases, IsApartAt, IsApartBy, fields_of};
 
 use bal_base::{Memory, Text};
@@ -139,7 +139,7 @@ pub(crate) fn named_keys(
     atoms: &[u32],
 ) -> Result<Vec<Text>, Memory>
     requires { All (IsMappingAtom defs.now) atoms.now }
-    ensures { IfOk result (λ keys. AreNamedKeys defs.now atoms.now keys.items) }
+    ensures { IfOk result (λ keys. HasNamedKeys defs.now atoms.now keys.items) }
 {
     let mut keys = Vec::new(alloc);
     for atom in atoms {
@@ -160,18 +160,19 @@ fn add_keys(keys: &mut Vec<Text>, fields: &[FieldDef]) -> Result<(), Memory>
     Ok(())
 }
 
-/// Puts the key at its place, unless it is there.
-fn add_key(keys: &mut Vec<Text>, key: &Text) -> Result<(), Memory>
+/// Puts the key at its place, unless it is there, and gives the place.
+pub(crate) fn add_key(keys: &mut Vec<Text>, key: &Text) -> Result<usize, Memory>
     requires { AreInOrder keys.old.items }
     ensures ordered { OnOk result (AreInOrder keys.new.items) }
     ensures added { OnOk result (HasAdded (λ k. k ≡ key.now) keys.old.items keys.new.items) }
+    ensures place { IfOk result (λ place. slice_get keys.new.items place ≡ Some key.now) }
 {
     let _scalars = key.as_str();
     match keys.as_slice().binary_search(key) {
-        Ok(_) => Ok(()),
+        Ok(place) => Ok(place),
         Err(place) => {
             keys.insert(place, key.share())?;
-            Ok(())
+            Ok(place)
         }
     }
 }

@@ -1,17 +1,16 @@
 //! Mapping paths.
-ghost use Rattle.std.specs.Prelude.{[], ◌≡◌, ◌==◌, ◌++◌, ◌↔◌, All, IfOk, IsTrue, OnOk, true, length, option_map};
-ghost use Rattle.std.specs.List.{AllZip, cons_option, list_any};
+ghost use Rattle.std.specs.Prelude.{[], ◌≡◌, ◌++◌, All, IfOk, OnOk, length, option_map};
+ghost use Rattle.std.specs.List.{AllZip, cons_option};
 ghost use Rattle.type_diagrams.specs.declared.kind.Kind.TheVariants.{Mapping as Mappings};
 ghost use Rattle.type_diagrams.specs.Conditions.{nothing};
-ghost use Rattle.type_diagrams.specs.Kinds.{the_mark};
 ghost use Rattle.type_diagrams.specs.Turns.{IsReady, IsSound, Turns};
 ghost use Rattle.type_diagrams.specs.Whole.{Extends, Gives, HasOneNumberEach};
-ghost use Rattle.empty_product.specs.Keys.{AreInOrder, AreNamedKeys};
+ghost use Rattle.empty_product.specs.Keys.{AreInOrder, HasNamedKeys};
 ghost use Rattle.empty_product.specs.Mappings.{AreDemandsOf, IsDemandOf, IsMappingOf, IsRestDemandOf, IsSlotOf, TellsFilled, TellsMappings, members_at, wanted_at};
 ghost use Rattle.empty_product.specs.Play.{IsMappingAtom};
 
 use crate::avoid::{Filling, avoid};
-use crate::bases::{frozen_if, has_mark};
+use crate::bases::{frozen_if, has_both_marks};
 use crate::further::{Further, FurtherParts, RestDemand, further_parts};
 use crate::mapping_atoms::{
     any_requires, is_required, key_behind, mappings_in_play, member_question, members_question,
@@ -59,17 +58,6 @@ pub fn map_shape<M: Member>(
     )
 }
 
-/// Whether the mark is to hold and to fail.
-fn has_both_marks(path: &Path) -> bool
-    ensures { IsTrue result ↔ ((list_any (λ l. l == the_mark) path.now.pos ≡ true) × (list_any (λ l. l == the_mark) path.now.neg ≡ true)) }
-{
-    if path.is_marked() {
-        has_mark(&path.neg)
-    } else {
-        false
-    }
-}
-
 /// A mapping in all wanted atoms and in none of the others, that there is none, or a question about a member.
 fn settled<M: Member>(
     alloc: Global,
@@ -108,7 +96,7 @@ fn settled<M: Member>(
 }
 
 /// The keys that these atoms name, rising.
-fn keys_of(
+pub(crate) fn keys_of(
     alloc: Global,
     env: &TypeEnv,
     wanted: &[u32],
@@ -116,7 +104,7 @@ fn keys_of(
 ) -> Result<Vec<Text>, Memory>
     requires wanted { All (IsMappingAtom env.now) wanted.now }
     requires unwanted { All (IsMappingAtom env.now) unwanted.now }
-    ensures { IfOk result (λ keys. AreNamedKeys env.now (wanted.now ++ unwanted.now) keys.items) }
+    ensures { IfOk result (λ keys. HasNamedKeys env.now (wanted.now ++ unwanted.now) keys.items) }
 {
     let mut atoms = Vec::from_slice(alloc, wanted)?;
     atoms.extend_from_slice(unwanted)?;
@@ -159,7 +147,7 @@ fn filled<M: Member>(
 }
 
 /// What is asked at a key.
-fn base(
+pub(crate) fn base(
     env: &TypeEnv,
     dia: &mut Diagrams,
     never: u32,
@@ -179,7 +167,7 @@ fn base(
 }
 
 /// What the atoms ask at a key that none of them names.
-fn rest_demands(
+pub(crate) fn rest_demands(
     alloc: Global,
     env: &TypeEnv,
     dia: &mut Diagrams,
@@ -206,7 +194,7 @@ fn rest_demands(
 }
 
 /// What may stand at each key.
-fn slots(
+pub(crate) fn slots(
     alloc: Global,
     env: &TypeEnv,
     dia: &mut Diagrams,
@@ -254,7 +242,7 @@ fn slot(
 }
 
 /// What each of the atoms asks at each key.
-fn all_demands(
+pub(crate) fn all_demands(
     alloc: Global,
     env: &TypeEnv,
     dia: &mut Diagrams,

@@ -1,4 +1,4 @@
-use Rattle.std.proofs.Common.{ℕ, ◌≡◌, ◌&&◌, Bool, All, Contains, true, false, refl, sym, subst, ◌∙◌}
+use Rattle.std.proofs.Common.{ℕ, ◌≡◌, All, Contains, sym, subst, ◌∙◌}
 use Rattle.std.specs.Bool.{⊤}
 use Rattle.std.proofs.lemmas.Bool.{false≢true}
 use Rattle.std.proofs.lemmas.List.Elements.{All-weaker, All-contains}
@@ -13,14 +13,6 @@ use Rattle.empty_product.specs.Play.{AreInPlay, IsListAtom}
 use Rattle.empty_product.proofs.ListTurns.{lists-Turns, lists-IsFilled}
 use Rattle.empty_product.proofs.MarkedPaths.{no_mark_both_ways}
 use Rattle.empty_product.proofs.lists.list_shape.Goals as goal
-
-and_both : (a b : Bool) → a ≡ true → b ≡ true → (a && b) ≡ true
-and_both true b e f = f
-and_both false b e f = absurd (false≢true e)
-
-and_parts : (a b : Bool) → (a && b) ≡ true → (a ≡ true) × (b ≡ true)
-and_parts true b e = (refl, e)
-and_parts false b e = absurd (false≢true e)
 
 pub lists_in_play-requires-clause-wanted : goal.lists_in_play-requires-clause-wanted
 lists_in_play-requires-clause-wanted g c =
@@ -74,13 +66,13 @@ returns-clause-turns g c =
     let told_marked = subst (λ b. TellsLists env (item_asked env c.deref-3.result.now b) new kept c.deref-3.result.now playing (λ n. ⊤) filling) marked told_of in
     let tells = subst (λ ws. TellsLists env (item_asked env ws (has_mark p)) new kept ws playing (λ n. ⊤) filling) wanted told_marked in
     IfOk-map _ _ (λ turn is. lists-Turns env c.in_ok-filling.ensures.few p (atoms-are env Lists p.pos c.requires.literals.holding) (atoms-are env Lists p.neg c.requires.literals.failing) playing are new kept
-    (λ a b. false≢true (sym c.if-is_marked_both_ways.false ∙ c.is_marked_both_ways.ensures ∙ and_both _ _ a b)) filling turn tells (subst (λ b. IsListTurn b filling turn) marked is))
+    (λ a b. false≢true (sym c.if-has_both_marks.false ∙ c.has_both_marks.ensures.1 (a, b))) filling turn tells (subst (λ b. IsListTurn b filling turn) marked is))
     c.turn_of.result c.turn_of.ensures
 
-pub returns-then-is_marked_both_ways-clause-turns : goal.returns-then-is_marked_both_ways-clause-turns
-returns-then-is_marked_both_ways-clause-turns g c = λ x on.
+pub returns-then-has_both_marks-clause-turns : goal.returns-then-has_both_marks-clause-turns
+returns-then-has_both_marks-clause-turns g c = λ x on.
     let p = c.args.path.now in
-    let both = and_parts (has_mark p) _ (sym c.is_marked_both_ways.ensures ∙ c.if-is_marked_both_ways.true) in
+    let both = c.has_both_marks.ensures.0 c.if-has_both_marks.true in
     absurd (no_mark_both_ways c.args.env.now Lists p x both.0 both.1 on.1)
 
 pub returns-in_err-unwanted-clause-extends : goal.returns-in_err-unwanted-clause-extends

@@ -1,9 +1,10 @@
-use Rattle.std.proofs.Common.{◌≡◌, List, Contains, sym, ap, subst, ◌∙◌}
+use Rattle.std.proofs.Common.{◌≡◌, List, Contains, Some, slice_get, sym, ap, subst, ◌∙◌}
 use Rattle.std.proofs.lemmas.Map.Lookups.{exact_bytes}
+use Rattle.std.proofs.lemmas.Option.{slice_get-get_or}
 use Rattle.std.specs.List.{insert}
 use Rattle.bal_base.specs.declared.text.Text.{Text}
 use Rattle.empty_product.specs.Keys.{AreInOrder, HasAdded}
-use Rattle.empty_product.proofs.KeyInsert.{insert-added, insert-ordered, there-added}
+use Rattle.empty_product.proofs.KeyInsert.{insert-added, insert-at, insert-ordered, there-added}
 use Rattle.empty_product.proofs.mapping_atoms.add_key.Goals as goal
 
 pub returns-in-Ok-clause-added : goal.returns-in-Ok-clause-added
@@ -11,7 +12,7 @@ returns-in-Ok-clause-added c =
     let keys = c.args.keys.now.items in
     let key = c.args.key.now in
     let same = exact_bytes _ key (c.in-Ok.ensures.ok key) in
-    there-added keys key (subst (λ (xs : List Text). Contains xs key) c.as_slice.ensures.value (c.in-Ok.field-0, c.in-Ok.ensures.bound, same))
+    there-added keys key (subst (λ (xs : List Text). Contains xs key) c.as_slice.ensures.value (c.in-Ok.place, c.in-Ok.ensures.bound, same))
 
 pub returns-in_ok-insert-in-Err-clause-ordered : goal.returns-in_ok-insert-in-Err-clause-ordered
 returns-in_ok-insert-in-Err-clause-ordered c =
@@ -30,3 +31,17 @@ returns-in_ok-insert-in-Err-clause-added c =
     let e : insert keys place key ≡ c.insert.new.self.items = ap (insert keys place) (sym c.share.ensures) ∙ sym c.in_ok-insert-in-Err.ensures.items in
     let added = insert-added xs place key c.in-Err.ensures.bound (subst AreInOrder (sym c.as_slice.ensures.value) c.requires) c.as_str-scalars.ensures.scalars in
     subst (HasAdded (λ k. k ≡ key) keys) e (subst (λ ys. HasAdded (λ k. k ≡ key) ys (insert ys place key)) c.as_slice.ensures.value added)
+
+pub returns-in-Ok-clause-place : goal.returns-in-Ok-clause-place
+returns-in-Ok-clause-place c =
+    let key = c.args.key.now in
+    let there = slice_get-get_or c.as_slice.result.now c.in-Ok.place key c.in-Ok.ensures.bound ∙ ap Some (exact_bytes _ key (c.in-Ok.ensures.ok key)) in
+    subst (λ (xs : List Text). slice_get xs c.in-Ok.place ≡ Some key) c.as_slice.ensures.value there
+
+pub returns-in_ok-insert-in-Err-clause-place : goal.returns-in_ok-insert-in-Err-clause-place
+returns-in_ok-insert-in-Err-clause-place c =
+    let xs = c.as_slice.result.now in
+    let key = c.args.key.now in
+    let place = c.in-Err.place in
+    let e : insert xs place key ≡ c.insert.new.self.items = (λ i. insert (c.as_slice.ensures.value i) place key) ∙ ap (insert c.args.keys.now.items place) (sym c.share.ensures) ∙ sym c.in_ok-insert-in-Err.ensures.items in
+    subst (λ (ys : List Text). slice_get ys place ≡ Some key) e (insert-at xs place key c.in-Err.ensures.bound)

@@ -6,7 +6,7 @@ use Rattle.type_diagrams.specs.Members.{Requires, member_of}
 use Rattle.type_diagrams.specs.Whole.{Gives}
 use Rattle.type_diagrams.proofs.AskedDiagrams.{then_all}
 use Rattle.empty_product.specs.declared.mapping_atoms.KeyBase.{KeyBase}
-use Rattle.empty_product.specs.Keys.{AreNamedKeys}
+use Rattle.empty_product.specs.Keys.{HasNamedKeys}
 use Rattle.empty_product.specs.KeyBases.{IsBase}
 use Rattle.empty_product.proofs.MappingQuestions.{AreBasesAt, all-bases, more-bases}
 use Rattle.empty_product.proofs.mapping_atoms.key_bases.Goals as goal
@@ -42,6 +42,6 @@ returns-clause-bases c =
     let env = c.args.env.now in
     let wanted = c.args.wanted.now in
     let keys = c.as_slice-keys.result.now in
-    let named = subst (AreNamedKeys env wanted) (sym c.as_slice-keys.ensures.value) (subst (λ e. AreNamedKeys e wanted c.in_ok-named.named.items) c.defs-defs.ensures.value c.in_ok-named.ensures) in
+    let named = subst (HasNamedKeys env wanted) (sym c.as_slice-keys.ensures.value) (subst (λ e. HasNamedKeys e wanted c.in_ok-named.named.items) c.defs-defs.ensures.value c.in_ok-named.ensures) in
     all-bases env wanted keys c.loop-key.bases.items c.loop-key.dia named
     (subst (λ ks. AreBasesAt env c.loop-key.dia wanted ks c.loop-key.bases.items) (take_all c.loop-key.key-index keys (omega arith)) c.loop-key.invariant.2)

@@ -1,0 +1,164 @@
+//! What stands at one place of products that avoid atoms.
+ghost use Rattle.std.specs.Prelude.{◌≡◌, ◌++◌, ◌∷◌, [], ◌<◌, All, IfOk, List, OnOk, length};
+ghost use Rattle.std.specs.List.{AllZip};
+ghost use Rattle.type_model.specs.declared.atoms.AtomDef.{AtomDef};
+ghost use Rattle.type_diagrams.specs.Conditions.{LooksAtKinds, nothing};
+ghost use Rattle.type_diagrams.specs.Tables.{IsDiagram, condition};
+ghost use Rattle.type_diagrams.specs.Turns.{IsSound};
+ghost use Rattle.type_diagrams.specs.Whole.{Extends, Gives, HasOneNumberEach};
+ghost use Rattle.empty_product.specs.Cells.{GivesDiagram, IsAimOf, IsAimed, LooksAtParts, TellsCells, aims_of, demands_in};
+ghost use Rattle.empty_product.specs.Products.{AreSlots, AreUnwanted, all_askings, places_of};
+ghost use Rattle.empty_product.specs.Standing.{AreLooking, TellsStanding, question_of};
+
+use crate::avoid::{Filling, avoid};
+use crate::slots::{Demand, Slot, Unwanted};
+use bal_base::Memory;
+use std::alloc::Global;
+use type_diagrams::{Diagrams, Member, Projection};
+
+/// What an unwanted atom asks at one place, the target, and at all places. It can't be avoided at the target
+/// by these demands.
+#[derive(Debug, Drop)]
+pub(crate) struct Aimed {
+    pub(crate) there: u32,
+    pub(crate) elsewhere: Unwanted,
+}
+
+/// Besides `found` what stands at the target: what is in `part` and outside some of the undecided atoms, where
+/// some filling of the other places avoids the others of these, and the decided ones too. The part itself is
+/// asked of no table.
+pub(crate) fn cells<M: Member>(
+    alloc: Global,
+    dia: &mut Diagrams,
+    never: u32,
+    slots: &[Slot],
+    undecided: &[Aimed],
+    decided: &[Unwanted],
+    part: u32,
+    found: u32,
+    m: &M,
+) -> Result<Projection, Memory>
+    requires never { Gives dia.old nothing never }
+    requires slots { AreSlots dia.old slots.now }
+    requires undecided { All (IsAimed dia.old (length slots.now)) undecided.now }
+    requires decided { AreUnwanted dia.old (length slots.now) decided.now }
+    requires part { IsDiagram dia.old part }
+    requires found { IsDiagram dia.old found }
+    requires one { HasOneNumberEach dia.old }
+    ensures extends { Extends 0 dia.old dia.new }
+    ensures one { OnOk result (HasOneNumberEach dia.new) }
+    ensures diagram { IfOk result (GivesDiagram dia.new) }
+    ensures looks { IfOk result (λ p. (env : List AtomDef) → LooksAtKinds env (condition dia.old part) → LooksAtKinds env (condition dia.old found) → All (λ a. LooksAtKinds env (condition dia.old a.there)) undecided.now → LooksAtParts env dia.new p) }
+    ensures tells { IfOk result (λ p. (env : List AtomDef) → All (IsSound env dia.old) (M.kept m.now) → TellsCells env (places_of dia.old slots.now) dia.new (M.kept m.now) (aims_of dia.old undecided.now) (all_askings dia.old decided.now) (condition dia.old part) (condition dia.old found) p) }
+{
+    if dia.diff(part, found)? == never {
+        return Ok(Projection::Parts(found));
+    }
+    match avoid(alloc, dia, never, slots, decided, m)? {
+        Filling::Parts(_) => {}
+        Filling::Empty => return Ok(Projection::Parts(found)),
+        Filling::Ask(question) => return Ok(Projection::Ask(question)),
+    }
+    match undecided {
+        [] => Ok(Projection::Parts(dia.union(found, part)?)),
+        [first, rest @ ..] => {
+            let more = with_one(alloc, decided, &first.elsewhere)?;
+            let found = match cells(alloc, dia, never, slots, rest, &more, part, found, m)? {
+                Projection::Parts(found) => found,
+                Projection::Ask(question) => return Ok(Projection::Ask(question)),
+            };
+            let outside = dia.diff(part, first.there)?;
+            cells(alloc, dia, never, slots, rest, decided, outside, found, m)
+        }
+    }
+}
+
+/// The atoms and one more.
+fn with_one(alloc: Global, atoms: &[Unwanted], one: &Unwanted) -> Result<Vec<Unwanted>, Memory>
+    ensures { IfOk result (λ all. demands_in all.items ≡ demands_in atoms.now ++ one.now.demands.items ∷ []) }
+{
+    let mut all = Vec::new(alloc);
+    for atom in atoms {
+        all.push(copy(alloc, atom)?)?;
+    }
+    all.push(copy(alloc, one)?)?;
+    Ok(all)
+}
+
+fn copy(alloc: Global, atom: &Unwanted) -> Result<Unwanted, Memory>
+    ensures { IfOk result (λ u. u.demands.items ≡ atom.now.demands.items) }
+{
+    let demands = Vec::from_slice(alloc, atom.demands.as_slice())?;
+    Ok(Unwanted { demands })
+}
+
+/// Besides `found` what stands at the target in fillings of the slots that avoid the atoms. The target's
+/// question is asked of no table.
+pub(crate) fn parts_at<M: Member>(
+    alloc: Global,
+    dia: &mut Diagrams,
+    never: u32,
+    slots: Vec<Slot>,
+    unwanted: Vec<Unwanted>,
+    target: usize,
+    found: u32,
+    m: &M,
+) -> Result<Projection, Memory>
+    requires never { Gives dia.old nothing never }
+    requires slots { AreSlots dia.old slots.items }
+    requires unwanted { AreUnwanted dia.old (length slots.items) unwanted.items }
+    requires target { target < length slots.items }
+    requires found { IsDiagram dia.old found }
+    requires one { HasOneNumberEach dia.old }
+    ensures extends { Extends 0 dia.old dia.new }
+    ensures one { OnOk result (HasOneNumberEach dia.new) }
+    ensures diagram { IfOk result (GivesDiagram dia.new) }
+    ensures looks { IfOk result (λ p. (env : List AtomDef) → AreLooking env dia.old slots.items unwanted.items → LooksAtKinds env (condition dia.old found) → LooksAtParts env dia.new p) }
+    ensures tells { IfOk result (λ p. (env : List AtomDef) → All (IsSound env dia.old) (M.kept m.now) → TellsStanding env dia.new (M.kept m.now) (places_of dia.old slots.items) (all_askings dia.old unwanted.items) target (condition dia.old found) p) }
+{
+    let Some(part) = part_of(slots[target]) else {
+        return Ok(Projection::Parts(found));
+    };
+    let mut others = slots;
+    others[target] = Slot::Absent;
+    let undecided = aim(unwanted, target, alloc)?;
+    let none = Vec::new(alloc);
+    cells(
+        alloc, dia, never, &others, &undecided, &none, part, found, m,
+    )
+}
+
+/// The question of the part that a slot may have.
+fn part_of(slot: Slot) -> Option<u32>
+    ensures { result ≡ question_of slot }
+{
+    match slot {
+        Slot::Optional(question) | Slot::Present(question) => Some(question),
+        Slot::Absent => None,
+    }
+}
+
+/// The atoms' demands, aimed at a place.
+fn aim(atoms: Vec<Unwanted>, target: usize, alloc: Global) -> Result<Vec<Aimed>, Memory>
+    requires { All (λ u. target < length u.demands.items) atoms.items }
+    ensures { IfOk result (λ aimed. AllZip (IsAimOf target) atoms.items aimed.items) }
+{
+    let mut aimed = Vec::new(alloc);
+    for atom in atoms {
+        aimed.push(aim_one(atom, target))?;
+    }
+    Ok(aimed)
+}
+
+fn aim_one(atom: Unwanted, target: usize) -> Aimed
+    requires { target < length atom.demands.items }
+    ensures { IsAimOf target atom result }
+{
+    let mut elsewhere = atom;
+    let there = elsewhere.demands[target].question;
+    elsewhere.demands[target] = Demand {
+        question: there,
+        required: false,
+    };
+    Aimed { there, elsewhere }
+}
