@@ -1,5 +1,5 @@
 -- The question for the arguments of an application, and its results.
-use Rattle.std.proofs.Common.{◌≡◌, ◌&&◌, not, true, List, [], ◌∷◌, ◌++◌, Option, None, sym, subst, ◌∙◌}
+use Rattle.std.proofs.Common.{◌≡◌, ◌&&◌, not, true, List, [], ◌∷◌, ◌++◌, None, sym, subst, ◌∙◌}
 use Rattle.bal_base.specs.declared.shape.Shape.{Shape}
 use Rattle.type_model.specs.declared.basic.SemType.{SemType, Basic}
 use Rattle.type_model.specs.declared.basic.BasicSet.TheVariants.{ListAll, Readonly}

@@ -36,7 +36,7 @@ by_kind_of x = by (kind_of x) refl
 
 -- ---- a call begins
 
-right-IsSound : (env : List AtomDef) (d : Diagrams) (e : ℕ × Option Shape) → IsRight env d e → IsSound env d e
+pub right-IsSound : (env : List AtomDef) (d : Diagrams) (e : ℕ × Option Shape) → IsRight env d e → IsSound env d e
 right-IsSound env d (q, Some x) r = r
 right-IsSound env d (q, None) r = r.0
 

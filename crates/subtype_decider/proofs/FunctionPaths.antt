@@ -1,7 +1,6 @@
 -- What is asked of the paths of functions, and where it leads.
-use Rattle.std.proofs.Common.{◌≡◌, inl, inr, ℕ, ◌≤◌, List, [], ◌∷◌, map, length, All, Contains, Option, Some, None, sym, subst, ◌∙◌}
+use Rattle.std.proofs.Common.{◌≡◌, inl, inr, ℕ, ◌≤◌, List, [], ◌∷◌, map, length, All, Contains, sym, subst, ◌∙◌}
 use Rattle.std.proofs.lemmas.List.Elements.{All-weaker, All-contains, All-contains_itself}
-use Rattle.bal_base.specs.declared.shape.Shape.{Shape}
 use Rattle.type_model.specs.declared.basic.SemType.{SemType}
 use Rattle.type_model.specs.declared.atoms.AtomDef.{AtomDef}
 use Rattle.type_model.specs.declared.answers.TypeLimit.{TypeLimit}
@@ -22,17 +21,13 @@ use Rattle.type_diagrams.proofs.Asking.{asks_itself, asks_along, asks_one_more, 
 use Rattle.type_diagrams.proofs.PathLiterals.{HasPaths-HasLiteralsOf}
 use Rattle.type_diagrams.proofs.Shapes.{one-further}
 use Rattle.empty_arrow.specs.Giving.{IsShort}
-use Rattle.empty_arrow.specs.Pairs.{AsksArguments}
 use Rattle.empty_arrow.proofs.ChosenArrows.{is_in, arguments-question}
 use Rattle.empty_arrow.proofs.PathLengths.{few_literals}
 use Rattle.subtype_decider.specs.declared.questions.Questions.{Questions}
 use Rattle.subtype_decider.specs.Closed.{IsRight}
 use Rattle.subtype_decider.specs.Leads.{LeadsToPath, WantsTooMany}
 use Rattle.subtype_decider.specs.Working.{IsAtRest}
-
-right-IsSound : (env : List AtomDef) (d : Diagrams) (e : ℕ × Option Shape) → IsRight env d e → IsSound env d e
-right-IsSound env d (q, Some x) r = r
-right-IsSound env d (q, None) r = r.0
+use Rattle.subtype_decider.proofs.Ends.{right-IsSound}
 
 module _ (env : List AtomDef) (p : Path) where
   pub path-IsReady : (q : Questions) → IsAtRest env q → HasLiteralsOf env Functions p → IsReady env q.diagrams q.table Functions p

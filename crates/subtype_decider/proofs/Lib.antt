@@ -16,6 +16,7 @@ pub mod MoreKnown
 pub mod Moved
 pub mod NextPath
 pub mod Passing
+pub mod Projected
 pub mod Stepped
 pub mod Resting
 pub mod ResultTypes

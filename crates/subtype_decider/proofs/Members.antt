@@ -1,13 +1,13 @@
 -- Members of lists: of one that is mapped, cut or written to.
 pub use Rattle.empty_arrow.proofs.SomeOf.{Any-Contains, Contains-Any, Any-here, Any-later, Any-cases, Any-left, Any-right, Any-append_cases}
-use Rattle.std.proofs.Common.{◌≡◌, ◌≢◌, ℕ, zero, suc, ◌<◌, ◌≤◌, ◌+◌, ◌-◌, List, [], ◌∷◌, ◌++◌, map, length, take, get_or, set, Some, slice_get, All, AllPairs, Any, Contains, ⊎_elim, ◌⊎◌, inl, inr, refl, sym, subst, ◌∙◌, ap, length-append, arith}
+use Rattle.std.proofs.Common.{◌≡◌, ◌≢◌, ℕ, zero, suc, ◌<◌, ◌≤◌, ◌+◌, ◌-◌, List, [], ◌∷◌, ◌++◌, map, length, take, get_or, set, Some, slice_get, All, AllPairs, Contains, ⊎_elim, ◌⊎◌, inl, inr, refl, sym, subst, ◌∙◌, ap, length-append, arith}
 use Rattle.std.proofs.Math.ListN.{get_or-map, length-map, length-set, get_or-append}
 use Rattle.std.proofs.Math.Seq.{get_or-append-add, get_or-append_right}
 use Rattle.std.specs.List.{swap_remove}
 use Rattle.std.proofs.lemmas.Bool.{cases_order}
 use Rattle.std.proofs.lemmas.Option.{slice_get_within, slice_get-get_or}
 use Rattle.std.proofs.lemmas.List.{get_or-take, get_or-set_same, get_or-set_other, length-take-le}
-use Rattle.std.proofs.lemmas.List.Elements.{All-contains, Contains-get_or, Contains-append_left, Contains-append_right, Contains-append_cases}
+use Rattle.std.proofs.lemmas.List.Elements.{All-contains, Contains-get_or, Contains-append_left, Contains-append_right}
 
 module _ {X : Type 0} where
   pub any_default : (xs : List X) (k : ℕ) (d e : X) → k < length xs → get_or xs k d ≡ get_or xs k e

@@ -1,15 +1,12 @@
 -- Whether there is a shape, as it is told.
-use Rattle.std.proofs.Common.{◌≡◌, ℕ, ◌+◌, ◌-◌, ◌<◌, ◌≤◌, ◌^◌, List, length, Option, Some, None, Bor, All, Contains, sym, subst, arith}
+use Rattle.std.proofs.Common.{List, Option, Some, None, Bor}
 use Rattle.std.specs.Option.{option_copied, is_some}
 use Rattle.std.proofs.lemmas.List.Elements.{All-contains}
 use Rattle.bal_base.specs.declared.shape.Shape.{Shape}
 use Rattle.type_model.specs.declared.atoms.AtomDef.{AtomDef}
-use Rattle.type_diagrams.specs.declared.kind.Kind.{Kind}
-use Rattle.type_diagrams.specs.declared.path.Path.{Path}
 use Rattle.type_diagrams.specs.Conditions.{Condition, IsShapeOf}
-use Rattle.type_diagrams.specs.Kept.{IsUnknown}
-use Rattle.type_diagrams.specs.Tables.{Table as Diagrams, condition}
-use Rattle.type_diagrams.specs.Turns.{IsShapeOn, HasLower}
+use Rattle.type_diagrams.specs.Tables.{Table as Diagrams}
+use Rattle.type_diagrams.specs.Turns.{HasLower}
 use Rattle.subtype_decider.specs.Closed.{FindsShapeOf, TellsSome, IsClosed, IsRight}
 use Rattle.subtype_decider.proofs.Grown.{Entries}
 

@@ -6,5 +6,6 @@ pub mod Keys
 pub mod Leads
 pub mod Measure
 pub mod Paths
+pub mod Projections
 pub mod Working
 pub mod Writing

@@ -4,7 +4,8 @@ ghost use Rattle.bal_base.specs.Stops.{IfFault};
 ghost use Rattle.type_model.specs.Application.{Applies, IsFunctionType, IsListType, NamesDefined};
 ghost use Rattle.type_model.specs.Calls.{Alone, Applied, KeepsTypes, Without};
 ghost use Rattle.type_model.specs.Defined.{IsDefined, IsDefinedGroup, IsEnv};
-ghost use Rattle.type_model.specs.Inclusion.{AnswersSub, FindsShape, HaveSameShapes};
+ghost use Rattle.type_model.specs.Inclusion.{AnswersSub, FindsShape, HasExactly, HaveSameShapes};
+ghost use Rattle.type_model.specs.Parts.{StandsAt};
 ghost use Rattle.type_model.specs.Places.{HasDistinctFields};
 ghost use Rattle.type_diagrams.specs.Reach.{Passes};
 ghost use Rattle.subtype_decider.specs.Closed.{IsClosed};
@@ -18,7 +19,7 @@ use bal_base::{MOST_ATOMS, Memory, Shape, Stop};
 use std::alloc::Global;
 use std::marker::Model;
 use type_diagrams::Diagrams;
-use type_model::{Answer, Apply, AtomDef, AtomLimit, SemType, TypeEnv, TypeLimit};
+use type_model::{Answer, Apply, AtomDef, AtomLimit, Keys, SemType, TypeEnv, TypeLimit};
 
 /// Types over atoms that can be added, and what was found out about them.
 #[derive(Drop)]
@@ -134,6 +135,30 @@ impl Decider {
     {
         let question = self.questions.of(&self.env, t)?;
         self.questions.find(alloc, &Calls, &self.env, question)
+    }
+
+    /// The type whose shapes are exactly those that stand at such a key in a list or mapping shape of `t`, or, for
+    /// `Results`, among the results of a future shape of `t`. `TypeLimit` comes only where the questions to which
+    /// this leads pass the limit. Whatever it answers, what was found out stays.
+    pub fn member(
+        &mut self,
+        alloc: Global,
+        t: &SemType,
+        keys: &Keys,
+    ) -> Result<SemType, Stop<TypeLimit>>
+        requires { IsDefined self.old.atoms t.now }
+        ensures atoms { self.new.atoms ≡ self.old.atoms }
+        ensures kept { All (Contains self.new.table) self.old.table }
+        ensures defined { IfOk result (IsDefined self.old.atoms) }
+        ensures shapes { IfOk result (λ m. HasExactly self.old.atoms m (StandsAt self.old.atoms t.now keys.now)) }
+        ensures limit { IfFault result (Passes self.old.atoms (Alone t.now)) }
+    {
+        let question = self.questions.of(&self.env, t)?;
+        let parts = self
+            .questions
+            .project(alloc, &Calls, &self.env, question, keys)?;
+        let _atoms = self.env.defs();
+        Ok(type_of(alloc, &self.questions.diagrams, parts)?)
     }
 
     /// A type with the same shapes as `t`. It depends on the condition of `t` alone: the compact form of a union

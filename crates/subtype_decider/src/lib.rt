@@ -1,6 +1,6 @@
 //! Decides questions about types.
 //!
-//! - [`Decider`]: types over atoms, and the questions about them.
+//! - [`Decider`]: types over atoms, and the questions about them; it is a `Types` of `type_model`.
 //! - [`holds`]: whether a shape is in a type. [`type_of`]: a type with the shapes of a diagram.
 //! - [`Questions`]: decides whether diagrams have shapes. [`Entry`] and [`Table`]: what is kept of questions.
 //! - [`Settles`]: what settles the paths of each kind of shapes; [`Calls`]: the calls that do.
@@ -16,10 +16,12 @@ mod giving;
 mod held;
 mod keys;
 mod member;
+mod projecting;
 mod questions;
 mod results;
 mod settles;
 mod table;
+mod types;
 mod way;
 mod writing;
 

@@ -1,5 +1,5 @@
 use Rattle.std.proofs.Common.{rules}
-use Rattle.subtype_decider.proofs.ResultTypes.{none-IsEither, first-IsJoined, more-IsJoined, all-IsEither}
+use Rattle.subtype_decider.proofs.ResultTypes.{first-IsJoined, more-IsJoined, all-IsEither}
 use Rattle.subtype_decider.proofs.results.one_of.Goals as goal
 
 pub loop-t-init : goal.loop-t-init

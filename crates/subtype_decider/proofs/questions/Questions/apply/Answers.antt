@@ -1,4 +1,4 @@
-use Rattle.std.proofs.Common.{◌≡◌, ◌∷◌, [], ◌≤◌, None, Some, Option, List, All, length, rules, sym, subst, ◌∙◌}
+use Rattle.std.proofs.Common.{◌∷◌, [], List, All, rules, sym, subst}
 use Rattle.type_model.specs.declared.answers.Apply.{Apply}
 use Rattle.type_model.specs.Calls.{Applied}
 use Rattle.type_diagrams.specs.declared.kind.Kind.TheVariants.{Function as Functions}

@@ -1,4 +1,4 @@
-use Rattle.std.proofs.Common.{Bool, rules, length, subst}
+use Rattle.std.proofs.Common.{Bool, rules, subst}
 use Rattle.type_diagrams.specs.declared.kind.Kind.TheVariants.{Function as Functions}
 use Rattle.type_diagrams.specs.Reach.{Passes}
 use Rattle.type_diagrams.specs.Tables.{condition}

@@ -1,7 +1,6 @@
-use Rattle.std.proofs.Common.{◌≡◌, [], ◌∷◌, length, All, Bool, Option, rules, sym, subst, ◌∙◌}
+use Rattle.std.proofs.Common.{[], All, Option, rules, sym, subst, ◌∙◌}
 use Rattle.bal_base.specs.declared.shape.Shape.{Shape}
 use Rattle.type_diagrams.specs.declared.kind.Kind.TheVariants.{Function as Functions}
-use Rattle.type_diagrams.specs.Members.{atoms_in}
 use Rattle.type_diagrams.specs.Reach.{Passes}
 use Rattle.type_diagrams.specs.Tables.{condition}
 use Rattle.type_diagrams.specs.Turns.{IsShapeOn}

@@ -1,4 +1,4 @@
-use Rattle.std.proofs.Common.{[], ◌∷◌, get_or, length, ◌≤◌, All, Option, rules, arith, sym, subst}
+use Rattle.std.proofs.Common.{[], get_or, length, ◌≤◌, All, Option, rules, arith, sym, subst}
 use Rattle.std.proofs.lemmas.List.Elements.{All-tail}
 use Rattle.bal_base.specs.declared.shape.Shape.{Shape}
 use Rattle.type_diagrams.specs.Conditions.{IsShapeOf}
