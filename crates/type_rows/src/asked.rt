@@ -117,16 +117,18 @@ pub fn one_item(alloc: Global, item: SemType) -> Read<AtomDef> {
     Ok(AtomDef::List { fixed, rest: None })
 }
 
-fn is_valid_in(env: &TypeEnv, shape: &Shape, t: &SemType) -> bool {
+/// Whether the shape is a valid one of the type.
+pub fn is_valid_in(env: &TypeEnv, shape: &Shape, t: &SemType) -> bool {
     shape.is_valid() && holds(env, shape, t)
 }
 
 /// The reply, where what came with it shows it.
-fn shown(is: bool, reply: Reply) -> Reply {
+pub fn shown(is: bool, reply: Reply) -> Reply {
     if is { reply } else { Reply::Wrong }
 }
 
-fn stopped(stop: Stop<TypeLimit>) -> Read<Reply> {
+/// The reply of a decider that stops, or want of memory.
+pub fn stopped(stop: Stop<TypeLimit>) -> Read<Reply> {
     match stop {
         Stop::Memory => Err(Stop::Memory),
         Stop::Fault(TypeLimit::Questions) => Ok(Reply::TooManyQuestions),

@@ -5,17 +5,23 @@
 //! - `row`: a line, which is empty, defines types or asks a question, and what becomes of it.
 //! - `asked`: questions for a decider.
 //! - `compacted`: compact forms of types.
+//! - `applied`: functions that are applied to arguments.
+//! - `parts`: what stands at keys.
+//! - `keeping`: what a decider keeps.
 //! - `drawn`: questions about diagrams.
 //! - `shapes` and `types`: shapes and types as they are written.
 //! - `names`: the types that lines define.
 //! - `tokens` and `misread`: the tokens of a line, and why a line isn't read.
 #![tactic(auto)]
 
+mod applied;
 mod asked;
 mod compacted;
 mod drawn;
+mod keeping;
 mod misread;
 mod names;
+mod parts;
 mod row;
 mod shapes;
 mod tokens;

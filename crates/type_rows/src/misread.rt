@@ -24,6 +24,10 @@ pub enum Misread {
     UnknownName,
     #[error("a name in a path isn't that of a list, mapping, function, error or future")]
     NotAnAtom,
+    #[error("it applies what isn't a function, or to what isn't a list")]
+    NotApplied,
+    #[error("whether its types are below one another passes a limit")]
+    TooHard,
     #[error("it defines a name that is there")]
     NameTwice,
     #[error("two fields of a record have one name")]

@@ -6,21 +6,31 @@
 //! - `below TYPE, TYPE => yes`, or `no`, `questions` or `arrows`: whether the first is below the second; with a
 //!   second answer behind a comma also whether the second is below the first
 //! - `some TYPE => yes`, or `no`: whether the type has a shape
+//! - `kept TYPE, TYPE => yes`, or `no`, `questions` or `arrows`: whether the first is below the second, by a decider
+//!   of its own, which has to keep its answer; the types name none of the lines above
+//! - `member TYPE at KEY gives TYPE => yes`, or `no`, `questions` or `arrows`: whether exactly the shapes of the
+//!   second type stand at the key in shapes of the first; the module `parts` says how keys are written
 //! - `compact TYPE => NUMBER`: in how many places the compact form of the type, which has the same shapes, names
 //!   a basic set or an atom
 //! - `chain NUMBER => yes`, or `no`, `questions` or `arrows`: whether there is a shape of the first of so many
 //!   atoms that lead from one to the next
+//! - `apply TYPE to TYPE gives TYPE => yes`, or `no`, `questions` or `arrows`: whether functions of the first,
+//!   applied to lists of the second, have results in exactly the third; `panic` in its place asks whether one
+//!   of them fails
 //! - `same TYPE, TYPE => yes`, or `no`: whether the types have one diagram
 //! - `simple TYPE => yes`, or `no`: whether the type has a simple shape
 //! - `paths KIND of TYPE => PATH | PATH`, or `never`: the paths of a type for a kind, in order, each as
 //!   `readonly & NAME & !NAME`, where names are those of atoms, or `any`
 //! - `exclusive NUMBER => yes`: whether the exclusive or of so many new atoms has one diagram in both orders
 
+use crate::applied::{Expected, gives};
 use crate::asked::{Reply, add, chain, has_shape, is_below, one_item};
 use crate::compacted::compact;
 use crate::drawn::{Way, are_one, has_paths, has_simple, in_both_orders};
+use crate::keeping::keeps;
 use crate::misread::{Misread, Read, refuse};
 use crate::names::Names;
+use crate::parts::{keys, stands};
 use crate::shapes::shape;
 use crate::tokens::Tokens;
 use crate::types::{TypeReader, Unknown};
@@ -87,8 +97,11 @@ impl Rows {
         match word.as_str() {
             "below" => self.below(tokens),
             "some" => self.some(tokens),
+            "kept" => self.kept(tokens),
+            "member" => self.member(tokens),
             "compact" => self.compact(tokens),
             "chain" => self.chain(tokens),
+            "apply" => self.apply(tokens),
             "same" => self.same(tokens),
             "simple" => self.simple(tokens),
             "paths" => self.paths(tokens),
@@ -99,19 +112,8 @@ impl Rows {
 
     /// Whether a type is below another one, and the other way round where this is asked too.
     fn below(&mut self, tokens: &mut Tokens) -> Read<Outcome> {
-        let mut reader = self.reader(Unknown::Misread);
-        let s = reader.whole(tokens, MOST_LEVELS)?;
-        tokens.expect(Sign::Comma, Misread::NotALine)?;
-        let t = reader.whole(tokens, MOST_LEVELS)?;
-        let defs = reader.into_defs();
-        tokens.expect(Sign::FatArrow, Misread::NotALine)?;
-        let expected = reply(tokens)?;
-        let back = if tokens.takes(Sign::Comma) {
-            Some(reply(tokens)?)
-        } else {
-            None
-        };
-        at_end(tokens)?;
+        let Pair { s, t, defs } = two_types(self.reader(Unknown::Misread), tokens)?;
+        let (expected, back) = endings(tokens)?;
         self.add(defs)?;
         let answer = is_below(self.alloc, &mut self.decider, &s, &t)?;
         if answer != expected {
@@ -131,11 +133,33 @@ impl Rows {
         let mut reader = self.reader(Unknown::Misread);
         let t = reader.whole(tokens, MOST_LEVELS)?;
         let defs = reader.into_defs();
-        tokens.expect(Sign::FatArrow, Misread::NotALine)?;
-        let expected = reply(tokens)?;
-        at_end(tokens)?;
+        let expected = ending(tokens)?;
         self.add(defs)?;
         Ok(replied(has_shape(self.alloc, &mut self.decider, &t)?, expected))
+    }
+
+    /// Whether a type is below another one, by a decider of its own.
+    fn kept(&self, tokens: &mut Tokens) -> Read<Outcome> {
+        let names = Names::new(self.alloc);
+        let reader = TypeReader::new(self.alloc, &names, Unknown::Misread, 0);
+        let Pair { s, t, defs } = two_types(reader, tokens)?;
+        let expected = ending(tokens)?;
+        Ok(replied(keeps(self.alloc, defs, &s, &t)?, expected))
+    }
+
+    /// Whether exactly the shapes of a type stand at a key in those of another one.
+    fn member(&mut self, tokens: &mut Tokens) -> Read<Outcome> {
+        let mut reader = self.reader(Unknown::Misread);
+        let t = reader.whole(tokens, MOST_LEVELS)?;
+        word(tokens, "at")?;
+        let keys = keys(tokens)?;
+        word(tokens, "gives")?;
+        let parts = reader.whole(tokens, MOST_LEVELS)?;
+        let defs = reader.into_defs();
+        let expected = ending(tokens)?;
+        self.add(defs)?;
+        let answer = stands(self.alloc, &mut self.decider, &t, &keys, &parts)?;
+        Ok(replied(answer, expected))
     }
 
     /// How large the compact form of a type is.
@@ -159,19 +183,32 @@ impl Rows {
         let Ok(count) = u32::try_from(tokens.int(Misread::NotALine)?) else {
             return refuse(Misread::NotALine);
         };
-        tokens.expect(Sign::FatArrow, Misread::NotALine)?;
-        let expected = reply(tokens)?;
-        at_end(tokens)?;
+        let expected = ending(tokens)?;
         Ok(replied(chain(self.alloc, count)?, expected))
+    }
+
+    /// What functions give to arguments.
+    fn apply(&mut self, tokens: &mut Tokens) -> Read<Outcome> {
+        let mut reader = self.reader(Unknown::Misread);
+        let f = reader.whole(tokens, MOST_LEVELS)?;
+        word(tokens, "to")?;
+        let args = reader.whole(tokens, MOST_LEVELS)?;
+        word(tokens, "gives")?;
+        let given = if tokens.takes_keyword(Keyword::Panic) {
+            Expected::Failure
+        } else {
+            Expected::Results(reader.whole(tokens, MOST_LEVELS)?)
+        };
+        let defs = reader.into_defs();
+        let expected = ending(tokens)?;
+        self.add(defs)?;
+        let answer = gives(self.alloc, &mut self.decider, &f, &args, &given)?;
+        Ok(replied(answer, expected))
     }
 
     /// Whether two types have one diagram.
     fn same(&mut self, tokens: &mut Tokens) -> Read<Outcome> {
-        let mut reader = self.reader(Unknown::Misread);
-        let s = reader.whole(tokens, MOST_LEVELS)?;
-        tokens.expect(Sign::Comma, Misread::NotALine)?;
-        let t = reader.whole(tokens, MOST_LEVELS)?;
-        let defs = reader.into_defs();
+        let Pair { s, t, defs } = two_types(self.reader(Unknown::Misread), tokens)?;
         let expected = yes_or_no(tokens)?;
         self.add(defs)?;
         let answer = are_one(&mut self.diagrams, self.decider.env(), &s, &t)?;
@@ -407,6 +444,44 @@ fn word(tokens: &mut Tokens, word: &str) -> Read<()> {
     } else {
         refuse(Misread::NotALine)
     }
+}
+
+/// Two types, and the atoms of their lists, mappings, functions, errors and futures.
+#[derive(Drop)]
+struct Pair {
+    s: SemType,
+    t: SemType,
+    defs: Vec<AtomDef>,
+}
+
+/// Takes two types with a comma between them.
+fn two_types(mut reader: TypeReader, tokens: &mut Tokens) -> Read<Pair> {
+    let s = reader.whole(tokens, MOST_LEVELS)?;
+    tokens.expect(Sign::Comma, Misread::NotALine)?;
+    let t = reader.whole(tokens, MOST_LEVELS)?;
+    let defs = reader.into_defs();
+    Ok(Pair { s, t, defs })
+}
+
+/// Takes the answer with which a line ends.
+fn ending(tokens: &mut Tokens) -> Read<Reply> {
+    tokens.expect(Sign::FatArrow, Misread::NotALine)?;
+    let expected = reply(tokens)?;
+    at_end(tokens)?;
+    Ok(expected)
+}
+
+/// Takes the answer with which a line ends, or two.
+fn endings(tokens: &mut Tokens) -> Read<(Reply, Option<Reply>)> {
+    tokens.expect(Sign::FatArrow, Misread::NotALine)?;
+    let expected = reply(tokens)?;
+    let back = if tokens.takes(Sign::Comma) {
+        Some(reply(tokens)?)
+    } else {
+        None
+    };
+    at_end(tokens)?;
+    Ok((expected, back))
 }
 
 /// Takes an answer.
