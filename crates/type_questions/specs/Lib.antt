@@ -1,0 +1,5 @@
+pub mod Answers
+pub mod Asked
+pub mod Reading
+pub mod Refusals
+pub mod Words
