@@ -3,7 +3,8 @@
 use crate::trees::int_type;
 use crate::values::{Came, what_comes};
 use bal_base::Row;
-use plain_eval::{Asked, Body, Frame, Op, Unit, catch, enter, look, resume};
+use plain_eval::{Asked, Body, Frame, Unit, catch, enter, look, resume};
+use plain_run::Op;
 use std::alloc::Global;
 use typed_tree::{SharedTy, TypedStmt, TypedUnit};
 use value_model::Value;

@@ -1,7 +1,7 @@
 //! What operations on ints and booleans give.
 
 use operations::{Constant, LibraryCall};
-use plain_eval::{Op, TestedType};
+use plain_run::{Op, TestedType};
 use value_model::Value;
 
 /// What comes of an operation.

@@ -2,15 +2,16 @@
 #![tactic(auto, using(crate::proofs::Holding::holding))]
 
 ghost use Rattle.std.specs.Prelude.{◌≡◌, ◌-◌, Bool, OnOk};
-ghost use Rattle.operations.specs.declared.operation.Operation.TheVariants.{MakeList};
+ghost use Rattle.operations.specs.declared.operation.Operation.TheVariants.{MakeError, MakeFunction, MakeList, MakeMapping, WaitAll};
 ghost use Rattle.eval_model.specs.Constructs.{call_operations, library_operations, operations_of, operator_operations, perform_operations, read_operations, start_operations, wait_operations};
 ghost use Rattle.eval_model.specs.Tasks.{dos as dos_of};
-ghost use Rattle.plain_eval.specs.Held.{operation_of, tasks_of};
+ghost use Rattle.plain_eval.specs.Held.{tasks_of};
+ghost use Rattle.plain_run.specs.Operation.{operation_of};
 
-use crate::op::{Op, TestedType};
 use crate::todo::{Task, dos};
 use bal_base::Memory;
 use operations::{Awaited, LibraryCall};
+use plain_run::{Op, TestedType};
 use typed_tree::{Callee, Operator, PerformForm, Read, SharedTy, StrictForm};
 
 /// The operations of an operator.
@@ -173,6 +174,46 @@ fn wait<'a>(tasks: &mut Vec<Task<'a>>, names: &'a Awaited) -> Result<(), Memory>
     }
 }
 
+/// The value of a function's name.
+fn named_function<'a>(unit: u32) -> Op<'a>
+    ensures { operation_of result ≡ MakeFunction unit 0 }
+{
+    Op::MakeFunction { unit, count: 0 }
+}
+
+fn list<'a>(atom: u32, immutable: bool, count: u64) -> Op<'a>
+    ensures { operation_of result ≡ MakeList atom immutable count }
+{
+    Op::MakeList {
+        atom,
+        immutable,
+        count,
+    }
+}
+
+fn mapping<'a>(atom: u32, immutable: bool, count: u64) -> Op<'a>
+    ensures { operation_of result ≡ MakeMapping atom immutable count }
+{
+    Op::MakeMapping {
+        atom,
+        immutable,
+        count,
+    }
+}
+
+fn error<'a>(count: u64) -> Op<'a>
+    ensures { operation_of result ≡ MakeError count }
+{
+    Op::MakeError { count }
+}
+
+/// A wait for all of these.
+fn wait_all<'a>(atom: u32, awaited: &'a Awaited) -> Op<'a>
+    ensures { operation_of result ≡ WaitAll atom awaited.now }
+{
+    Op::WaitAll { atom, awaited }
+}
+
 /// The operations of a construct with so many operands.
 pub fn strict<'a>(tasks: &mut Vec<Task<'a>>, form: &'a StrictForm, count: u64) -> Result<(), Memory>
     ensures { OnOk result (tasks_of tasks.new.items ≡ dos_of (operations_of form.now count) (tasks_of tasks.old.items)) }
@@ -180,38 +221,15 @@ pub fn strict<'a>(tasks: &mut Vec<Task<'a>>, form: &'a StrictForm, count: u64) -
     match form {
         StrictForm::Literal(c) | StrictForm::Constant(c) => dos(tasks, &[Op::Const(c)]),
         StrictForm::Variable(m) => dos(tasks, &[Op::LoadModule(*m)]),
-        StrictForm::FunctionName { unit } => dos(
-            tasks,
-            &[Op::MakeFunction {
-                unit: *unit,
-                count: 0,
-            }],
-        ),
+        StrictForm::FunctionName { unit } => dos(tasks, &[named_function(*unit)]),
         StrictForm::Operator(op) => operator(tasks, *op),
         StrictForm::Is(t) => dos(tasks, &[Op::Test(TestedType::Tree(t))]),
         StrictForm::Cast(t) => dos(tasks, &[Op::Cast(t)]),
-        StrictForm::List { atom, immutable } => dos(
-            tasks,
-            &[Op::MakeList {
-                atom: *atom,
-                immutable: *immutable,
-                count,
-            }],
-        ),
-        StrictForm::Mapping { atom, immutable } => dos(
-            tasks,
-            &[Op::MakeMapping {
-                atom: *atom,
-                immutable: *immutable,
-                count: count / 2,
-            }],
-        ),
-        StrictForm::Error => dos(
-            tasks,
-            &[Op::MakeError {
-                count: count.saturating_sub(2) / 2,
-            }],
-        ),
+        StrictForm::List { atom, immutable } => dos(tasks, &[list(*atom, *immutable, count)]),
+        StrictForm::Mapping { atom, immutable } => {
+            dos(tasks, &[mapping(*atom, *immutable, count / 2)])
+        }
+        StrictForm::Error => dos(tasks, &[error(count.saturating_sub(2) / 2)]),
         StrictForm::Read(how) => read(tasks, how),
         StrictForm::Call(called) => call(tasks, *called, count),
         StrictForm::Library { call, atom, cast } => library(tasks, *call, *atom, cast, count),
@@ -226,15 +244,6 @@ pub fn strict<'a>(tasks: &mut Vec<Task<'a>>, form: &'a StrictForm, count: u64) -
             wait(tasks, names)?;
             dos(tasks, &[Op::Tick])
         }
-        StrictForm::WaitAll { atom, awaited } => dos(
-            tasks,
-            &[
-                Op::Tick,
-                Op::WaitAll {
-                    atom: *atom,
-                    awaited,
-                },
-            ],
-        ),
+        StrictForm::WaitAll { atom, awaited } => dos(tasks, &[Op::Tick, wait_all(*atom, awaited)]),
     }
 }

@@ -1,7 +1,8 @@
 //! A plain evaluator of typed trees: what is to be done in a frame, as references to parts of trees, held in a vector.
 //! Each function's contract is the definition of `eval_model`.
 //!
-//! - [`Op`] and [`TestedType`]: operations, with references to what a tree holds.
+//! Operations are those of `plain_run`, with references to what a tree holds.
+//!
 //! - [`Task`], [`Loop`] and [`Branch`]: what is still to be done.
 //! - [`strict`], [`operator`] and [`perform`]: the operations of a construct; [`eval`], [`exec`] and [`branch`]: the tasks of
 //!   an expression, a statement and a way to go on; [`begins_loop`], [`turn`], [`round`], [`behind_loop`] and
@@ -17,7 +18,6 @@ mod expressions;
 mod frame;
 mod local;
 mod loops;
-mod op;
 mod statements;
 mod todo;
 mod units;
@@ -27,7 +27,6 @@ pub use expressions::eval;
 pub use frame::{Asked, Frame, catch, look, resume};
 pub use local::Held;
 pub use loops::{begins_loop, behind_loop, from_loop, round, turn};
-pub use op::{Op, TestedType};
 pub use statements::{branch, exec};
 pub use todo::{Branch, Loop, Task};
 pub use units::{Body, Unit, enter};

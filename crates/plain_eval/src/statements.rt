@@ -2,18 +2,30 @@
 #![tactic(auto, using(crate::proofs::Holding::holding, typed_tree::proofs::StmtLayers::stmt_layers))]
 
 ghost use Rattle.std.specs.Prelude.{◌≡◌, ◌∷◌, ◌++◌, OnOk, map};
-ghost use Rattle.operations.specs.declared.operation.Operation.TheVariants.{Load};
+ghost use Rattle.operations.specs.declared.operation.Operation.TheVariants.{Load, Store};
 ghost use Rattle.eval_model.specs.Statements.{branch as branch_of_model, exec as exec_of, match_rows, reads_member as reads_member_of, returns as returns_of, rows as rows_of, sets_member as sets_member_of, updates as updates_of};
-ghost use Rattle.eval_model.specs.Tasks.{dos as dos_of};
-ghost use Rattle.plain_eval.specs.Held.{branch_of, operation_of, pattern_row, tasks_of};
+ghost use Rattle.eval_model.specs.Constructs.{perform_operations};
+ghost use Rattle.eval_model.specs.Tasks.{Do, Eval, dos as dos_of, evals as evals_of};
+ghost use Rattle.plain_eval.specs.Held.{branch_of, pattern_row, tasks_of};
+ghost use Rattle.plain_run.specs.Operation.{operation_of};
 
 use crate::constructs::{operator, perform, read};
-use crate::expressions::narrowed_to;
+use crate::expressions::{chooses, local};
 use crate::loops::{begins_loop, behind_loop, from_loop, raises, round};
-use crate::op::{Op, TestedType};
 use crate::todo::{Branch, Loop, Task, dos, evals, execs, first};
 use bal_base::Memory;
-use typed_tree::{Operator, Read, TypedClause, TypedExpr, TypedPattern, TypedStmt, UpdateTarget};
+use plain_run::{Op, TestedType};
+use typed_tree::{
+    Operator, PerformForm, Read, TypedClause, TypedExpr, TypedPattern, TypedStmt, UpdateTarget,
+};
+
+/// An expression, and then the operation that takes its value.
+fn on_value<'a>(tasks: &mut Vec<Task<'a>>, value: &'a TypedExpr, op: Op<'a>) -> Result<(), Memory>
+    ensures { OnOk result (tasks_of tasks.new.items ≡ Eval value.now ∷ Do (operation_of op.entry) ∷ tasks_of tasks.old.items) }
+{
+    first(tasks, Task::Do(op))?;
+    first(tasks, Task::Eval(value))
+}
 
 /// A member is read, whose container and key are kept.
 fn reads_member<'a>(tasks: &mut Vec<Task<'a>>, how: &'a Read, own: u32) -> Result<(), Memory>
@@ -53,11 +65,7 @@ fn updates<'a>(
             first(tasks, Task::Do(Op::Store(*slot as u64)))?;
             operator(tasks, op)?;
             first(tasks, Task::Eval(value))?;
-            let got = Task::Get {
-                slot: *slot,
-                narrowed: narrowed_to(*narrowed, ty),
-            };
-            first(tasks, got)
+            local(tasks, *slot, *narrowed, ty)
         }
         UpdateTarget::Variable(m) => {
             first(tasks, Task::Do(Op::StoreModule(*m)))?;
@@ -77,10 +85,8 @@ fn updates<'a>(
             first(tasks, Task::Eval(value))?;
             reads_member(tasks, how, *own)?;
             dos(tasks, &[Op::Load(*own as u64), Op::Load(*own as u64 + 1)])?;
-            first(tasks, Task::Do(Op::Store(*own as u64 + 1)))?;
-            first(tasks, Task::Eval(key))?;
-            first(tasks, Task::Do(Op::Store(*own as u64)))?;
-            first(tasks, Task::Eval(container))
+            on_value(tasks, key, Op::Store(*own as u64 + 1))?;
+            on_value(tasks, container, Op::Store(*own as u64))
         }
     }
 }
@@ -132,19 +138,48 @@ fn later_rows<'a>(
     }
 }
 
+/// A value is kept in a slot, and the first pattern that fits it is looked for.
+fn matches<'a>(
+    tasks: &mut Vec<Task<'a>>,
+    own: u32,
+    subject: &'a TypedExpr,
+    clauses: &'a [TypedClause],
+) -> Result<(), Memory>
+    ensures { OnOk result (tasks_of tasks.new.items ≡ Eval subject.now ∷ Do (Store own) ∷ rows_of own (match_rows clauses.now) (tasks_of tasks.old.items)) }
+{
+    later_rows(tasks, own, clauses)?;
+    on_value(tasks, subject, Op::Store(own as u64))
+}
+
+/// Operands are evaluated, and a statement's operations done on them.
+fn performs<'a>(
+    tasks: &mut Vec<Task<'a>>,
+    form: PerformForm,
+    operands: &'a [TypedExpr],
+) -> Result<(), Memory>
+    ensures { OnOk result (tasks_of tasks.new.items ≡ evals_of operands.now (dos_of (perform_operations form) (tasks_of tasks.old.items))) }
+{
+    perform(tasks, form)?;
+    evals(tasks, operands)
+}
+
+/// The frame ends with the value, or with nil.
+fn returns<'a>(tasks: &mut Vec<Task<'a>>, value: &'a Option<Box<TypedExpr>>) -> Result<(), Memory>
+    ensures { OnOk result (tasks_of tasks.new.items ≡ returns_of value.now (tasks_of tasks.old.items)) }
+{
+    match value {
+        None => dos(tasks, &[Op::Nil, Op::Return]),
+        Some(e) => on_value(tasks, e, Op::Return),
+    }
+}
+
 /// What is to be done for a statement, before the tasks.
 pub fn exec<'a>(tasks: &mut Vec<Task<'a>>, s: &'a TypedStmt) -> Result<(), Memory>
     ensures { OnOk result (tasks_of tasks.new.items ≡ exec_of s.now (tasks_of tasks.old.items)) }
 {
     match s {
-        TypedStmt::Set { slot, value, .. } => {
-            first(tasks, Task::Do(Op::Store(*slot as u64)))?;
-            first(tasks, Task::Eval(value))
-        }
-        TypedStmt::Perform { form, operands, .. } => {
-            perform(tasks, *form)?;
-            evals(tasks, operands)
-        }
+        TypedStmt::Set { slot, value, .. } => on_value(tasks, value, Op::Store(*slot as u64)),
+        TypedStmt::Perform { form, operands, .. } => performs(tasks, *form, operands),
         TypedStmt::Update {
             target,
             op,
@@ -156,13 +191,7 @@ pub fn exec<'a>(tasks: &mut Vec<Task<'a>>, s: &'a TypedStmt) -> Result<(), Memor
             first: then,
             second,
             ..
-        } => {
-            first(
-                tasks,
-                Task::Choose(Branch::Block(then), Branch::Block(second)),
-            )?;
-            first(tasks, Task::Eval(condition))
-        }
+        } => chooses(tasks, condition, Branch::Block(then), Branch::Block(second)),
         TypedStmt::While {
             condition,
             body,
@@ -179,16 +208,8 @@ pub fn exec<'a>(tasks: &mut Vec<Task<'a>>, s: &'a TypedStmt) -> Result<(), Memor
             subject,
             clauses,
             ..
-        } => {
-            later_rows(tasks, *own, clauses)?;
-            first(tasks, Task::Do(Op::Store(*own as u64)))?;
-            first(tasks, Task::Eval(subject))
-        }
-        TypedStmt::Return { value: None, .. } => dos(tasks, &[Op::Nil, Op::Return]),
-        TypedStmt::Return { value: Some(e), .. } => {
-            first(tasks, Task::Do(Op::Return))?;
-            first(tasks, Task::Eval(e))
-        }
+        } => matches(tasks, *own, subject, clauses),
+        TypedStmt::Return { value, .. } => returns(tasks, value),
         TypedStmt::Block { stmts, .. } => execs(tasks, stmts),
         TypedStmt::Break { .. } => {
             behind_loop(tasks);

@@ -3,10 +3,11 @@
 
 ghost use Rattle.std.specs.Prelude.{◌≡◌, ◌∷◌, OnOk, map};
 ghost use Rattle.eval_model.specs.Tasks.{dos as dos_of, evals as evals_of, execs as execs_of};
-ghost use Rattle.plain_eval.specs.Held.{operation_of, task_of, tasks_of};
+ghost use Rattle.plain_eval.specs.Held.{task_of, tasks_of};
+ghost use Rattle.plain_run.specs.Operation.{operation_of};
 
-use crate::op::{Op, TestedType};
 use bal_base::Memory;
+use plain_run::{Op, TestedType};
 use typed_tree::{RangeEnd, TypedClause, TypedExpr, TypedPattern, TypedStmt};
 use value_model::Value;
 

@@ -13,9 +13,9 @@ ghost use Rattle.plain_eval.specs.UnitTrees.{body_of, unit_tree_of};
 
 use crate::frame::Frame;
 use crate::local::Held;
-use crate::op::Op;
 use crate::todo::{Task, execs, first};
 use bal_base::Memory;
+use plain_run::Op;
 use std::alloc::Global;
 use typed_tree::{Initial, SharedTy, TypedBody, TypedExpr, TypedStmt, TypedUnit, TypedWorker};
 use value_model::Value;

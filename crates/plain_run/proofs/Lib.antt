@@ -1,0 +1,13 @@
+pub mod Arms
+pub mod Cells
+pub mod Comparing
+pub mod Doing
+pub mod Given
+pub mod Looking
+pub mod Made
+pub mod Operands
+pub mod Panics
+pub mod Room
+pub mod Settling
+pub mod Standing
+pub mod Texts

@@ -1,0 +1,22 @@
+-- A strand or a worker that stands otherwise from now on.
+use Rattle.std.proofs.Common.{◌≡◌, ℕ, List, Some, map, sym, ap, ◌∙◌}
+use Rattle.std.specs.Prelude.{option_map, slice_get, slice_set}
+use Rattle.run_model.specs.Common as model
+use Rattle.run_model.specs.Strands.{no_activation, no_strand, with_status}
+use Rattle.plain_run.specs.declared.held.Activation.{Activation}
+use Rattle.plain_run.specs.declared.held.Strand.{Strand}
+use Rattle.plain_run.specs.Held.{activation_of, channel_of, end_of, strand_of}
+use Rattle.plain_run.specs.Strands.{ends_so, stands_so}
+use Rattle.plain_run.proofs.Looking.{get-there}
+use Rattle.plain_run.proofs.Settling.{set-there}
+
+pub stands-there : (ss : List Strand) (n : ℕ) (s t : Strand) (status : model.Status) → slice_get ss n ≡ Some s → strand_of t ≡ with_status (strand_of s) status → map strand_of (slice_set ss n t) ≡ stands_so (map strand_of ss) n status
+stands-there ss n s t status e h =
+    set-there strand_of ss n t (with_status (strand_of s) status) h
+    ∙ ap (λ x. slice_set (map strand_of ss) n (with_status x status)) (sym (get-there strand_of ss n s no_strand e))
+
+pub ends-there : (xs : List Activation) (r : model.Role) (a b : Activation) (end : model.End) → slice_get xs r.activation ≡ Some a → map (option_map end_of) b.ends.items ≡ slice_set (map (option_map end_of) a.ends.items) r.worker (Some end) → b.strands ≡ a.strands → b.channels ≡ a.channels → map activation_of (slice_set xs r.activation b) ≡ ends_so (map activation_of xs) r end
+ends-there xs r a b end e h s ch =
+    let ended : model.Activation → model.Activation = λ x. record { strands = x.strands; ends = slice_set x.ends r.worker (Some end); channels = x.channels } in
+    set-there activation_of xs r.activation b (ended (activation_of a)) (λ i. record { strands = (s i).items; ends = h i; channels = map (λ ys. map channel_of ys.items) (ch i).items })
+    ∙ ap (λ x. slice_set (map activation_of xs) r.activation (ended x)) (sym (get-there activation_of xs r.activation a no_activation e))

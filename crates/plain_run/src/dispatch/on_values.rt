@@ -1,0 +1,43 @@
+//! Operations on simple values, comparisons and tests.
+ghost use Rattle.std.specs.Prelude.{IfOk};
+ghost use Rattle.plain_run.specs.Effects.{IsPerformed, Stays};
+ghost use Rattle.plain_run.specs.Operation.{body_of, is_behind_frames, operation_of};
+
+use super::on_structures::on_structures;
+use crate::effect::{Ints, Performed, perform_ints};
+use crate::facts::Facts;
+use crate::held::{Asker, Common};
+use crate::op::Op;
+use crate::strings::perform_concat;
+use crate::values::{Comparison, perform_compare, perform_negate, perform_not, perform_same};
+use bal_base::Memory;
+use std::alloc::Global;
+use value_model::Value;
+
+/// What an operation on values comes to, or an operation of a later part.
+pub fn on_values(
+    alloc: Global,
+    facts: &Facts,
+    op: Op,
+    operands: &[Value],
+    asker: &Asker,
+    common: &mut Common,
+) -> Result<Performed, Memory>
+    ensures row { IfOk result (IsPerformed facts.now (operation_of op.entry) operands.now asker.now common.old common.new (is_behind_frames (body_of op.entry))) }
+    ensures stays { IfOk result (Stays common.old common.new) }
+{
+    match op {
+        Op::Add => perform_ints(alloc, Ints::Add, operands, common),
+        Op::Subtract => perform_ints(alloc, Ints::Subtract, operands, common),
+        Op::Multiply => perform_ints(alloc, Ints::Multiply, operands, common),
+        Op::Divide => perform_ints(alloc, Ints::Divide, operands, common),
+        Op::Remainder => perform_ints(alloc, Ints::Remainder, operands, common),
+        Op::Negate => perform_negate(alloc, operands, common),
+        Op::Concat => perform_concat(alloc, operands, common),
+        Op::Less => Ok(perform_compare(Comparison::Less, operands, common)),
+        Op::LessEqual => Ok(perform_compare(Comparison::LessEqual, operands, common)),
+        Op::Not => Ok(perform_not(operands, common)),
+        Op::Same => Ok(perform_same(operands, common)),
+        _ => on_structures(alloc, facts, op, operands, asker, common),
+    }
+}

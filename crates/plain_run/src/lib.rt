@@ -1,0 +1,51 @@
+//! What operations come to, as plain programs: what a run holds is held in vectors, and each operation is a function whose
+//! contract is its row of the table of operations. They are there for the plain evaluator of typed trees, and not for speed.
+//!
+//! - [`Common`] and its parts: what a run holds. `specs/Held.antt` says what it stands for.
+//! - [`Facts`] and its parts: what is known of the program; `specs/Facts.antt`.
+//! - [`Performed`] and [`Effect`]: what is answered for an operation; `specs/Effects.antt`, `IsPerformed`.
+//! - [`perform`] of an [`Op`]: the table of operations. Those without a body yet are answered `NotBuilt`.
+//! - [`perform_ints`], [`perform_negate`] and [`perform_not`]: ints and booleans.
+//! - [`perform_compare`] and [`perform_same`]: comparisons; [`perform_concat`]: strings.
+//! - [`perform_load`], [`perform_load_module`], [`perform_store_module`] and [`perform_tick`]: slots, module variables and ticks.
+//! - [`perform_make_list`] and [`perform_make_function`]: constructors.
+//! - [`perform_call`], [`perform_return`] and [`perform_panic`]: calls, and the ends of frames.
+//!
+//! - [`strand_end`], [`worker_end`], [`has_ended`], [`is_success`], [`has_success`], [`channel`] and [`is_met`]: who has ended,
+//!   what was sent, and whose needs are met.
+//! - [`settle`], [`block`], [`end_strand`] and [`end_worker`]: who becomes ready, and how strands and workers stand.
+//!
+//! `body_of` in `specs/Operation.antt` has a line for each operation.
+#![tactic(auto)]
+
+mod constructors;
+mod dispatch;
+mod effect;
+mod facts;
+mod frames;
+mod held;
+mod ints;
+mod making;
+mod needs;
+mod op;
+mod strands;
+mod strings;
+mod values;
+mod variables;
+mod world;
+
+pub use constructors::{perform_make_function, perform_make_list};
+pub use dispatch::perform;
+pub use effect::{Effect, Ints, Performed, Spawned, perform_ints};
+pub use facts::{Facts, UnitFacts, WorkerFacts};
+pub use frames::{perform_call, perform_load, perform_panic, perform_return, perform_tick};
+pub use held::{
+    Activation, Asker, Channel, Common, End, ErrorObject, FunctionObject, Heap, Members, Need,
+    Role, Status, Strand, Structure, ToRun, World,
+};
+pub use needs::{channel, has_ended, has_success, is_met, is_success, strand_end, worker_end};
+pub use op::{Op, TestedType};
+pub use strands::{block, end_strand, end_worker, settle};
+pub use strings::perform_concat;
+pub use values::{Comparison, perform_compare, perform_negate, perform_not, perform_same};
+pub use variables::{perform_load_module, perform_store_module};

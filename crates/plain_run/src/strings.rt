@@ -1,0 +1,77 @@
+//! Operations on strings.
+ghost use Rattle.std.specs.Prelude.{◌≡◌, ◌++◌, IfOk, length, true};
+ghost use Rattle.operations.specs.declared.operation.Operation.TheVariants as operation;
+ghost use Rattle.run_model.specs.Rows.{GivesText};
+ghost use Rattle.plain_run.specs.declared.facts.Facts.{Facts as FactsOf};
+ghost use Rattle.plain_run.specs.declared.held.Asker.{Asker as AskerOf};
+ghost use Rattle.plain_run.specs.Came.{WorldStays, came_of};
+ghost use Rattle.plain_run.specs.Effects.{IsPerformed, Stays};
+ghost use Rattle.plain_run.specs.Held.{world_of};
+ghost use Rattle.plain_run.specs.Values.{AreTwoTexts};
+
+use crate::effect::{Performed, lifted};
+use crate::held::{Common, World};
+use crate::world::{Came, panics};
+use bal_base::{Memory, Text};
+use std::alloc::Global;
+use value_model::{PanicName, Value};
+
+/// The most code points of a string.
+const MOST_CODE_POINTS: usize = 16_777_216;
+
+/// How many code points a text has.
+pub fn code_points(text: &Text) -> usize
+    ensures { result ≡ length text.now }
+{
+    text.as_str().chars().count()
+}
+
+/// One text behind another.
+fn joined(alloc: Global, first: &Text, second: &Text) -> Result<Text, Memory>
+    ensures { IfOk result (λ t. t ≡ first.now ++ second.now) }
+{
+    let mut both = String::new(alloc);
+    both.push_str(first.as_str())?;
+    both.push_str(second.as_str())?;
+    Text::from_string(alloc, both)
+}
+
+/// The string, or a panic where it is too long.
+pub fn gives_text(alloc: Global, world: &mut World, text: Text) -> Result<Came, Memory>
+    ensures row { IfOk result (λ came. GivesText (world_of world.old) text (came_of came world.new)) }
+    ensures stays { IfOk result (WorldStays world.old world.new) }
+{
+    if code_points(&text) > MOST_CODE_POINTS {
+        return panics(alloc, world, PanicName::TooLong);
+    }
+    Ok(Came::Gave(Some(Value::Str(text))))
+}
+
+/// Two strings, where the operands are such.
+fn two_texts(operands: &[Value]) -> Option<(Text, Text)>
+    ensures { AreTwoTexts operands.now result }
+{
+    match operands {
+        [Value::Str(s), Value::Str(t)] => Some((s.share(), t.share())),
+        _ => None,
+    }
+}
+
+/// `s + t` of strings
+pub fn perform_concat(
+    alloc: Global,
+    operands: &[Value],
+    common: &mut Common,
+) -> Result<Performed, Memory>
+    ensures row { IfOk result (λ done. (facts : FactsOf) (asker : AskerOf) → IsPerformed facts operation.Concat operands.now asker common.old common.new true done) }
+    ensures stays { IfOk result (Stays common.old common.new) }
+{
+    match two_texts(operands) {
+        None => Ok(Performed::Unfit),
+        Some((s, t)) => {
+            let text = joined(alloc, &s, &t)?;
+            let came = gives_text(alloc, &mut common.world, text)?;
+            Ok(Performed::Done(lifted(came)))
+        }
+    }
+}

@@ -1,0 +1,102 @@
+//! Module variables.
+ghost use Rattle.std.specs.Prelude.{◌≡◌, ◌∷◌, IfOk, [], true};
+ghost use Rattle.operations.specs.declared.operation.Operation.TheVariants as operation;
+ghost use Rattle.run_model.specs.CallRows.{held_after as held_after_of, is_initialiser as is_initialiser_of};
+ghost use Rattle.plain_run.specs.declared.facts.Facts.{Facts as FactsOf};
+ghost use Rattle.plain_run.specs.declared.held.Asker.{Asker as AskerOf};
+ghost use Rattle.plain_run.specs.Effects.{IsPerformed, Stays};
+ghost use Rattle.plain_run.specs.Facts.{facts_of};
+
+use crate::effect::{Effect, Performed, lifted};
+use crate::facts::Facts;
+use crate::held::Common;
+use crate::world::panics;
+use bal_base::Memory;
+use std::alloc::Global;
+use value_model::{PanicName, Value};
+
+/// What is in a module variable.
+pub fn perform_load_module(
+    alloc: Global,
+    variable: u32,
+    operands: &[Value],
+    common: &mut Common,
+) -> Result<Performed, Memory>
+    ensures row { IfOk result (λ done. (facts : FactsOf) (asker : AskerOf) → IsPerformed facts (operation.LoadModule variable) operands.now asker common.old common.new true done) }
+    ensures stays { IfOk result (Stays common.old common.new) }
+{
+    match operands {
+        [] => load_variable(alloc, variable, common),
+        _ => Ok(Performed::Unfit),
+    }
+}
+
+fn load_variable(alloc: Global, variable: u32, common: &mut Common) -> Result<Performed, Memory>
+    ensures row { IfOk result (λ done. (facts : FactsOf) (asker : AskerOf) → IsPerformed facts (operation.LoadModule variable) [] asker common.old common.new true done) }
+    ensures stays { IfOk result (Stays common.old common.new) }
+{
+    match common.variables.get(variable as usize) {
+        None => Ok(Performed::Unfit),
+        Some(Some(v)) => Ok(Performed::Done(Effect::Gives(Some(v.share())))),
+        Some(None) => {
+            let came = panics(alloc, &mut common.world, PanicName::NotInitialised)?;
+            Ok(Performed::Done(lifted(came)))
+        }
+    }
+}
+
+/// Whether the unit initialises module variables.
+fn is_initialiser(facts: &Facts, unit: u32) -> bool
+    ensures { result ≡ is_initialiser_of (facts_of facts.now) unit }
+{
+    facts.initialisers.iter().any(|u| *u == unit)
+}
+
+/// What a variable holds after a value was stored.
+fn held_after(initialises: bool, held: &Option<Value>, v: &Value) -> Option<Value>
+    ensures { result ≡ held_after_of initialises held.now v.now }
+{
+    if initialises {
+        return Some(v.share());
+    }
+    match held {
+        Some(_) => Some(v.share()),
+        None => None,
+    }
+}
+
+fn store_variable(
+    facts: &Facts,
+    unit: u32,
+    variable: u32,
+    v: &Value,
+    common: &mut Common,
+) -> Performed
+    ensures row { (asker : AskerOf) → asker.unit ≡ unit → IsPerformed facts.now (operation.StoreModule variable) (v.now ∷ []) asker common.old common.new true result }
+    ensures stays { Stays common.old common.new result }
+{
+    let place = variable as usize;
+    if place >= common.variables.len() {
+        return Performed::Unfit;
+    }
+    let held = held_after(is_initialiser(facts, unit), &common.variables[place], v);
+    common.variables[place] = held;
+    Performed::Done(Effect::Gives(None))
+}
+
+/// A value is stored into a module variable, which an initialiser gives its first value.
+pub fn perform_store_module(
+    facts: &Facts,
+    unit: u32,
+    variable: u32,
+    operands: &[Value],
+    common: &mut Common,
+) -> Performed
+    ensures row { (asker : AskerOf) → asker.unit ≡ unit → IsPerformed facts.now (operation.StoreModule variable) operands.now asker common.old common.new true result }
+    ensures stays { Stays common.old common.new result }
+{
+    match operands {
+        [v] => store_variable(facts, unit, variable, v, common),
+        _ => Performed::Unfit,
+    }
+}
