@@ -1,5 +1,5 @@
 -- A field whose name isn't taken.
-use Rattle.std.proofs.Common.{◌≡◌, ◌≢◌, ◌<◌, ◌++◌, List, [], ◌∷◌, length, get_or, AllPairs, Bool, true, false, Ok, Err, Some, sym, subst, ◌∙◌}
+use Rattle.std.proofs.Common.{◌≡◌, ◌≢◌, ◌<◌, ◌++◌, List, [], ◌∷◌, get_or, AllPairs, Bool, true, false, Ok, Err, Some, sym, subst, ◌∙◌}
 use Rattle.std.specs.List.{list_any}
 use Rattle.std.specs.Cmp.Lexicographic.{bytes_decides}
 use Rattle.std.proofs.lemmas.Bool.{false≢true}
@@ -12,29 +12,30 @@ use Rattle.bal_base.specs.declared.fault.Kept.TheVariants.{Nothing}
 use Rattle.bal_base.specs.declared.stop.Stop.TheVariants.{Fault as OwnFault}
 use Rattle.bal_base.specs.declared.text.Text.{Text}
 use Rattle.bal_tree.specs.declared.name.Word.{Word}
-use Rattle.type_model.specs.declared.atoms.AtomDef.{AtomDef}
 use Rattle.type_model.specs.declared.atoms.FieldDef.{FieldDef}
 use Rattle.type_model.specs.declared.basic.Ty.{Ty}
 use Rattle.type_model.specs.Defined.{TyBelow}
 use Rattle.type_model.specs.Places.{is_same_text}
 use Rattle.checks.specs.Checks.{either, gives, refuses}
 use Rattle.checks.specs.Questions.{IsFault}
-use Rattle.descriptors.specs.Described.{Atoms, field_of, names_of, new_field}
-use Rattle.descriptors.specs.Steps.{FieldBelow, Yields}
-use Rattle.descriptors.proofs.Yielding.{yields-just, yields-refused}
+use Rattle.descriptors.specs.declared.draft.Draft.{Draft}
+use Rattle.descriptors.specs.Described.{field_of, names_of, new_field}
+use Rattle.descriptors.specs.Drafts.{Drafts}
+use Rattle.descriptors.specs.Steps.{FieldBelow}
+use Rattle.descriptors.proofs.Drafting.{drafts-just, drafts-refused}
 
-module _ (taken : List Text) (name : Word) (may_lack : Bool) (t : Ty) (env : List AtomDef) where
-  pub field-given : (f : FieldDef) → list_any (is_same_text name.name) taken ≡ false → f ≡ field_of name may_lack t → TyBelow (length env) t
-      → Yields FieldBelow (new_field taken name may_lack t) env (Ok f) env
-  field-given f free is below = subst
-      (λ b. Yields FieldBelow (either b (refuses (λ s g. IsFault Duplicate (Some name.at) Nothing g)) (gives {S = Atoms} (field_of name may_lack t))) env (Ok f) env)
-      (sym free) (yields-just FieldBelow env (field_of name may_lack t) f is below)
+module _ (taken : List Text) (name : Word) (may_lack : Bool) (t : Ty) (d : Draft) where
+  pub field-given : (f : FieldDef) → list_any (is_same_text name.name) taken ≡ false → f ≡ field_of name may_lack t
+      → Drafts (λ n. TyBelow n t) FieldBelow (new_field taken name may_lack t) d (Ok f) d
+  field-given f free is = subst
+      (λ b. Drafts (λ n. TyBelow n t) FieldBelow (either b (refuses (λ s g. IsFault Duplicate (Some name.at) Nothing g)) (gives {S = Draft} (field_of name may_lack t))) d (Ok f) d)
+      (sym free) (drafts-just (λ n. TyBelow n t) FieldBelow d (field_of name may_lack t) f is (λ n le below. below))
 
   pub field-refused : (f : Fault) → list_any (is_same_text name.name) taken ≡ true → IsFault Duplicate (Some name.at) Nothing f
-      → Yields FieldBelow (new_field taken name may_lack t) env (Err (OwnFault f)) env
+      → Drafts (λ n. TyBelow n t) FieldBelow (new_field taken name may_lack t) d (Err (OwnFault f)) d
   field-refused f used is = subst
-      (λ b. Yields FieldBelow (either b (refuses (λ s g. IsFault Duplicate (Some name.at) Nothing g)) (gives {S = Atoms} (field_of name may_lack t))) env (Err (OwnFault f)) env)
-      (sym used) (yields-refused FieldBelow (λ s g. IsFault Duplicate (Some name.at) Nothing g) env f is)
+      (λ b. Drafts (λ n. TyBelow n t) FieldBelow (either b (refuses (λ s g. IsFault Duplicate (Some name.at) Nothing g)) (gives {S = Draft} (field_of name may_lack t))) d (Err (OwnFault f)) d)
+      (sym used) (drafts-refused (λ n. TyBelow n t) FieldBelow d (λ s g. IsFault Duplicate (Some name.at) Nothing g) f is)
 
 module _ (done : List FieldDef) (f : FieldDef) where
   pub names-more : names_of (done ++ f ∷ []) ≡ names_of done ++ f.name ∷ []

@@ -1,5 +1,5 @@
--- Types that were made where memory may be wanted, as what a check gives.
-use Rattle.std.proofs.Common.{◌≡◌, ℕ, Bool, List, length, Result, Ok, Err, IfOk}
+-- Types that were made where memory may be wanted, as what a check on a draft gives.
+use Rattle.std.proofs.Common.{◌≡◌, ℕ, Bool, List, Result, Ok, Err, IfOk, refl}
 use Rattle.bal_base.specs.declared.fault.Fault.{Fault}
 use Rattle.bal_base.specs.declared.stop.Memory.{Memory as NoMemory}
 use Rattle.bal_base.specs.declared.stop.Stop.{Stop}
@@ -9,48 +9,59 @@ use Rattle.type_model.specs.declared.basic.BasicSet.{BasicSet}
 use Rattle.type_model.specs.declared.basic.SemType.{Basic}
 use Rattle.type_model.specs.declared.basic.Ty.{Ty}
 use Rattle.type_model.specs.Defined.{TyBelow}
-use Rattle.checks.specs.Checks.{gives, gives_some}
+use Rattle.checks.specs.Checks.{gives}
+use Rattle.descriptors.specs.declared.draft.Draft.{Draft}
 use Rattle.descriptors.specs.declared.names.Names.{Names}
 use Rattle.descriptors.specs.Described.{AreCopies, Atoms, IsAnyFunction, IsBuiltin, IsIntersection, IsOptional, IsUnion, plain}
-use Rattle.descriptors.specs.Steps.{AllBelow, AreNames, Yields, lifted}
-use Rattle.descriptors.proofs.Yielding.{plain-below, yields-just, yields-lifted}
+use Rattle.descriptors.specs.Drafts.{AreNamesBelow, Drafts, wherever}
+use Rattle.descriptors.specs.Steps.{AllBelow, AreOwnTypes, lifted}
+use Rattle.descriptors.proofs.Yielding.{plain-below}
+use Rattle.descriptors.proofs.Drafting.{drafts-just, drafts-lifted}
 
-module _ (env : List AtomDef) where
-  -- a basic set
-  pub made-basic : (set : BasicSet) (t : Ty) → t ≡ plain (Basic set) → Yields TyBelow (gives (plain (Basic set))) env (Ok t) env
-  made-basic set t e = yields-just TyBelow env (plain (Basic set)) t e (plain-below (length env) (Basic set) tt)
+-- a basic set
+pub made-basic : (G : ℕ → Type 0) (d : Draft) (set : BasicSet) (t : Ty) → t ≡ plain (Basic set) → Drafts G TyBelow (gives (plain (Basic set))) d (Ok t) d
+made-basic G d set t e = drafts-just G TyBelow d (plain (Basic set)) t e (λ n le g. plain-below n (Basic set) tt)
 
-  module _ (m : Result Ty NoMemory) (r : Result Ty (Stop Fault)) (e : r ≡ lifted m) where
-    made : (S : Atoms → Ty → Type 0) → IfOk m (S env) → IfOk m (TyBelow (length env)) → Yields TyBelow (gives_some S) env r env
-    made S = yields-lifted TyBelow S env m r e
+module _ (names : Names) (d : Draft) where
+  -- what is so over whatever atoms
+  made : {A : Type 0} (G : ℕ → Type 0) (Q : ℕ → A → Type 0) (P : Atoms → A → Type 0) (m : Result A NoMemory) (r : Result A (Stop Fault)) → r ≡ lifted m
+      → IfOk m (λ a. (over : List AtomDef) → P over a) → IfOk m (λ a. (n : ℕ) → G n → Q n a) → Drafts G Q (wherever names A P) d r d
+  made G Q P (Ok a) r e is below = drafts-lifted G Q d _ (Ok a) r e (λ env own. is env) (λ n le g. below n g)
+  made G Q P (Err m) r e is below = drafts-lifted G Q d _ (Err m) r e tt (λ n le g. tt)
 
   pub made-optional : (t : Ty) (m : Result Ty NoMemory) (r : Result Ty (Stop Fault)) → r ≡ lifted m → IfOk m (λ u. (over : List AtomDef) → IsOptional t over u)
-      → IfOk m (λ u. (n : ℕ) → TyBelow n t → TyBelow n u) → TyBelow (length env) t → Yields TyBelow (gives_some (IsOptional t)) env r env
-  made-optional t (Ok u) r e is below h = made (Ok u) r e (IsOptional t) (is env) (below (length env) h)
-  made-optional t (Err m) r e is below h = made (Err m) r e (IsOptional t) tt tt
+      → IfOk m (λ u. (n : ℕ) → TyBelow n t → TyBelow n u) → Drafts (λ n. TyBelow n t) TyBelow (wherever names Ty (IsOptional t)) d r d
+  made-optional t = made (λ n. TyBelow n t) TyBelow (IsOptional t)
+
+  both-below : (s t : Ty) (m : Result Ty NoMemory) → IfOk m (λ u. (n : ℕ) → TyBelow n s → TyBelow n t → TyBelow n u) → IfOk m (λ u. (n : ℕ) → TyBelow n s × TyBelow n t → TyBelow n u)
+  both-below s t (Ok u) h = λ n p. h n p.0 p.1
+  both-below s t (Err m) h = tt
 
   pub made-union : (s t : Ty) (m : Result Ty NoMemory) (r : Result Ty (Stop Fault)) → r ≡ lifted m → IfOk m (λ u. (over : List AtomDef) → IsUnion s t over u)
-      → IfOk m (λ u. (n : ℕ) → TyBelow n s → TyBelow n t → TyBelow n u) → TyBelow (length env) s → TyBelow (length env) t → Yields TyBelow (gives_some (IsUnion s t)) env r env
-  made-union s t (Ok u) r e is below h k = made (Ok u) r e (IsUnion s t) (is env) (below (length env) h k)
-  made-union s t (Err m) r e is below h k = made (Err m) r e (IsUnion s t) tt tt
+      → IfOk m (λ u. (n : ℕ) → TyBelow n s → TyBelow n t → TyBelow n u) → Drafts (λ n. TyBelow n s × TyBelow n t) TyBelow (wherever names Ty (IsUnion s t)) d r d
+  made-union s t m r e is below = made (λ n. TyBelow n s × TyBelow n t) TyBelow (IsUnion s t) m r e is (both-below s t m below)
 
   pub made-intersection : (b : Bool) (s t : Ty) (m : Result Ty NoMemory) (r : Result Ty (Stop Fault)) → r ≡ lifted m → IfOk m (λ u. (over : List AtomDef) → IsIntersection b s t over u)
-      → IfOk m (λ u. (n : ℕ) → TyBelow n s → TyBelow n t → TyBelow n u) → TyBelow (length env) s → TyBelow (length env) t → Yields TyBelow (gives_some (IsIntersection b s t)) env r env
-  made-intersection b s t (Ok u) r e is below h k = made (Ok u) r e (IsIntersection b s t) (is env) (below (length env) h k)
-  made-intersection b s t (Err m) r e is below h k = made (Err m) r e (IsIntersection b s t) tt tt
+      → IfOk m (λ u. (n : ℕ) → TyBelow n s → TyBelow n t → TyBelow n u) → Drafts (λ n. TyBelow n s × TyBelow n t) TyBelow (wherever names Ty (IsIntersection b s t)) d r d
+  made-intersection b s t m r e is below = made (λ n. TyBelow n s × TyBelow n t) TyBelow (IsIntersection b s t) m r e is (both-below s t m below)
 
-  module _ (names : Names) (are : AreNames env names) where
-    pub made-builtin : (b : BuiltinType) (m : Result Ty NoMemory) (r : Result Ty (Stop Fault)) → r ≡ lifted m → IfOk m (λ t. (over : List AtomDef) → AreNames over names → IsBuiltin b over t)
-        → IfOk m (λ t. (over : List AtomDef) → AreNames over names → TyBelow (length over) t) → Yields TyBelow (gives_some (IsBuiltin b)) env r env
-    made-builtin b (Ok t) r e is below = made (Ok t) r e (IsBuiltin b) (is env are) (below env are)
-    made-builtin b (Err m) r e is below = made (Err m) r e (IsBuiltin b) tt tt
+  pub made-copies : (count : ℕ) (t : Ty) (ts : List Ty) → ((over : List AtomDef) → AreCopies count t over ts) → ((n : ℕ) → TyBelow n t → AllBelow n ts)
+      → Drafts (λ n. TyBelow n t) AllBelow (wherever names (List Ty) (AreCopies count t)) d (Ok ts) d
+  made-copies count t ts = made (λ n. TyBelow n t) AllBelow (AreCopies count t) (Ok ts) (Ok ts) refl
 
-    pub made-any_function : (b : Bool) (m : Result Ty NoMemory) (r : Result Ty (Stop Fault)) → r ≡ lifted m → IfOk m (λ t. (over : List AtomDef) → AreNames over names → IsAnyFunction b over t)
-        → IfOk m (λ t. (over : List AtomDef) → AreNames over names → TyBelow (length over) t) → Yields TyBelow (gives_some (IsAnyFunction b)) env r env
-    made-any_function b (Ok t) r e is below = made (Ok t) r e (IsAnyFunction b) (is env are) (below env are)
-    made-any_function b (Err m) r e is below = made (Err m) r e (IsAnyFunction b) tt tt
+  -- what is so where the language's own types are what they are
+  made_own : (P : Atoms → Ty → Type 0) (m : Result Ty NoMemory) (r : Result Ty (Stop Fault)) → r ≡ lifted m
+      → IfOk m (λ t. (env : List AtomDef) → AreOwnTypes env names.own → P env t) → IfOk m (λ t. (n : ℕ) → AreNamesBelow names n → TyBelow n t)
+      → Drafts (AreNamesBelow names) TyBelow (wherever names Ty P) d r d
+  made_own P (Ok t) r e is below = drafts-lifted (AreNamesBelow names) TyBelow d _ (Ok t) r e is (λ n le g. below n g)
+  made_own P (Err m) r e is below = drafts-lifted (AreNamesBelow names) TyBelow d _ (Err m) r e tt (λ n le g. tt)
 
-  pub made-copies : (n : ℕ) (t : Ty) (m : Result (List Ty) NoMemory) (r : Result (List Ty) (Stop Fault)) → r ≡ lifted m → IfOk m (λ ts. (over : List AtomDef) → AreCopies n t over ts)
-      → IfOk m (λ ts. (k : ℕ) → TyBelow k t → AllBelow k ts) → TyBelow (length env) t → Yields AllBelow (gives_some (AreCopies n t)) env r env
-  made-copies n t (Ok ts) r e is below h = yields-lifted AllBelow (AreCopies n t) env (Ok ts) r e (is env) (below (length env) h)
-  made-copies n t (Err m) r e is below h = yields-lifted AllBelow (AreCopies n t) env (Err m) r e tt tt
+  pub made-builtin : (b : BuiltinType) (m : Result Ty NoMemory) (r : Result Ty (Stop Fault)) → r ≡ lifted m
+      → IfOk m (λ t. (env : List AtomDef) → AreOwnTypes env names.own → IsBuiltin b env t) → IfOk m (λ t. (n : ℕ) → AreNamesBelow names n → TyBelow n t)
+      → Drafts (AreNamesBelow names) TyBelow (wherever names Ty (IsBuiltin b)) d r d
+  made-builtin b = made_own (IsBuiltin b)
+
+  pub made-any_function : (b : Bool) (m : Result Ty NoMemory) (r : Result Ty (Stop Fault)) → r ≡ lifted m
+      → IfOk m (λ t. (env : List AtomDef) → AreOwnTypes env names.own → IsAnyFunction b env t) → IfOk m (λ t. (n : ℕ) → AreNamesBelow names n → TyBelow n t)
+      → Drafts (AreNamesBelow names) TyBelow (wherever names Ty (IsAnyFunction b)) d r d
+  made-any_function b = made_own (IsAnyFunction b)

@@ -33,7 +33,7 @@ use Rattle.checks.specs.Checks.{Check, ◌▷◌, either, gives, gives_some, ref
 use Rattle.checks.specs.Questions.{adds, IsFault}
 use Rattle.descriptors.specs.declared.names.Names.{Names}
 use Rattle.descriptors.specs.declared.names.Scope.{Scope}
-use Rattle.descriptors.specs.Descriptors.{Descriptor, builtin, value, named, optional, union, intersection, array, repeated, tuple, map_of, closed_record, open_record, any_error, error_with, any_function, function_from, future_of, Descriptors, no_more, then_more, FieldDescriptors, no_field, then_field, MaybeDescriptor, absent, present, is_readonly, FieldOf}
+use Rattle.descriptors.specs.Descriptors.{Descriptor, builtin, value, named, optional, union, intersection, array, repeated, tuple, map_of, closed_record, open_record, any_error, error_with, any_function, function_from, future_of, Descriptors, no_more, then_more, FieldDescriptors, no_field, then_field, MaybeDescriptor, absent, present, is_readonly}
 use Rattle.descriptors.specs.Naming.{type_named}
 
 -- the state of a check of descriptors: the definitions of the atoms that are there
@@ -215,8 +215,8 @@ count_of (negsuc n) = 0
 
 -- ---- the table
 
--- S: the states of the checks; atom: an atom more, by its definition; over: the atoms over which types are read
-module _ {S : Type 0} (atom : AtomDef → Place → Check S ℕ) (over : S → Atoms) where
+-- S: the states of the checks; atom: an atom more, by its definition
+module _ {S : Type 0} (atom : AtomDef → Place → Check S ℕ) where
   abbrev pub list_by : List Ty → Option Ty → Place → Check S Ty
   list_by fixed rest at = atom (ListAtom fixed rest) at ▷ λ number. gives (list_of number)
 
@@ -232,32 +232,29 @@ module _ {S : Type 0} (atom : AtomDef → Place → Check S ℕ) (over : S → A
   arrow_by isolated fixed rest result at =
       atom (ListAtom fixed rest) at ▷ λ arguments. plain_by (Arrow (Atom arguments) result isolated) at
 
-  -- something of which P holds over the atoms
-  abbrev pub some_by : {A : Type 0} → (Atoms → A → Type 0) → Check S A
-  some_by P = gives_some (λ s. P (over s))
-
-  module _ (names : Names) (scope : Scope) where
+  -- some: a type, or types, of which this holds over the atoms
+  module _ (some : (A : Type 0) → (Atoms → A → Type 0) → Check S A) (names : Names) (scope : Scope) where
     abbrev mutual
       -- The type that a descriptor means. Its parts come before it, from left to right.
       pub described_by : Descriptor → Check S Ty
-      described_by (builtin b) = some_by (IsBuiltin b)
+      described_by (builtin b) = some Ty (IsBuiltin b)
       described_by (value v) = gives (plain (Basic (value_set v)))
       described_by (named name) = gives_named (type_named names scope name) name.at
-      described_by (optional of) = described_by of ▷ λ t. some_by (IsOptional t)
-      described_by (union left right) = described_by left ▷ λ s. described_by right ▷ λ t. some_by (IsUnion s t)
+      described_by (optional of) = described_by of ▷ λ t. some Ty (IsOptional t)
+      described_by (union left right) = described_by left ▷ λ s. described_by right ▷ λ t. some Ty (IsUnion s t)
       described_by (intersection left right) =
-          described_by left ▷ λ s. described_by right ▷ λ t. some_by (IsIntersection (is_readonly right) s t)
+          described_by left ▷ λ s. described_by right ▷ λ t. some Ty (IsIntersection (is_readonly right) s t)
       described_by (array member at) = described_by member ▷ λ t. list_by [] (Some t) at
       described_by (repeated member n at) =
-          described_by member ▷ λ t. some_by (AreCopies (count_of n) t) ▷ λ copies. list_by copies None at
+          described_by member ▷ λ t. some (List Ty) (AreCopies (count_of n) t) ▷ λ copies. list_by copies None at
       described_by (tuple members rest at) = all_by [] members ▷ λ fixed. if_by rest ▷ λ r. list_by fixed r at
       described_by (map_of member at) = described_by member ▷ λ t. mapping_by [] (Some t) at
       described_by (closed_record fields rest at) = fields_by [] fields ▷ λ fs. if_by rest ▷ λ r. mapping_by fs r at
       described_by (open_record fields at) =
-          fields_by [] fields ▷ λ fs. some_by (IsBuiltin AnyDataWord) ▷ λ r. mapping_by fs (Some r) at
+          fields_by [] fields ▷ λ fs. some Ty (IsBuiltin AnyDataWord) ▷ λ r. mapping_by fs (Some r) at
       described_by any_error = gives (plain (Basic ErrorAll))
       described_by (error_with detail at) = described_by detail ▷ λ t. plain_by (ErrorAtom t.sem) at
-      described_by (any_function isolated) = some_by (IsAnyFunction isolated)
+      described_by (any_function isolated) = some Ty (IsAnyFunction isolated)
       described_by (function_from isolated params rest result at) =
           (all_by [] params ▷ λ fixed. if_by rest ▷ λ r. gives (params_of fixed r)) ▷ λ ps. result_by result ▷ λ out.
           arrow_by isolated ps.0 ps.1 out.sem at
@@ -290,44 +287,13 @@ module _ {S : Type 0} (atom : AtomDef → Place → Check S ℕ) (over : S → A
 abbrev pub new_atom : AtomDef → Place → Check Atoms ℕ
 new_atom def at = adds (λ old group. group ≡ def ∷ []) (Some at)
 
-abbrev pub so_far : Atoms → Atoms
-so_far env = env
-
-abbrev pub new_list : List Ty → Option Ty → Place → Check Atoms Ty
-new_list = list_by new_atom so_far
-
-abbrev pub new_mapping : List FieldDef → Option Ty → Place → Check Atoms Ty
-new_mapping = mapping_by new_atom so_far
-
-abbrev pub new_plain : AtomDef → Place → Check Atoms Ty
-new_plain = plain_by new_atom so_far
-
-abbrev pub new_arrow : Bool → List Ty → Option Ty → SemType → Place → Check Atoms Ty
-new_arrow = arrow_by new_atom so_far
+-- a type, or types, of which this holds over the atoms that are there
+abbrev pub by_now : (A : Type 0) → (Atoms → A → Type 0) → Check Atoms A
+by_now A = gives_some
 
 module _ (names : Names) (scope : Scope) where
   abbrev pub described : Descriptor → Check Atoms Ty
-  described = described_by new_atom so_far names scope
-
-  abbrev pub all_described : List Ty → Descriptors → Check Atoms (List Ty)
-  all_described = all_by new_atom so_far names scope
-
-  abbrev pub fields_described : List FieldDef → FieldDescriptors → Check Atoms (List FieldDef)
-  fields_described = fields_by new_atom so_far names scope
-
-  abbrev pub described_if : MaybeDescriptor → Check Atoms (Option Ty)
-  described_if = if_by new_atom so_far names scope
-
-  abbrev pub result_described : MaybeDescriptor → Check Atoms Ty
-  result_described = result_by new_atom so_far names scope
-
-  -- the parameters of a function type, and what takes the rest
-  abbrev pub params_described : Descriptors → MaybeDescriptor → Check Atoms (List Ty × Option Ty)
-  params_described params rest = all_described [] params ▷ λ fixed. described_if rest ▷ λ r. gives (params_of fixed r)
-
-  -- a field of a record, where these names are taken
-  abbrev pub field_described : List Text → FieldOf → Check Atoms FieldDef
-  field_described taken f = described f.ty ▷ λ t. new_field taken f.name f.optional t
+  described = described_by new_atom by_now names scope
 
   -- the type of a whole descriptor, written again
   abbrev pub described_whole : Descriptor → Check Atoms Ty

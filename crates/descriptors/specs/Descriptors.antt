@@ -90,6 +90,11 @@ abbrev pub if_there : Option (Box Descriptor) → MaybeDescriptor
 if_there None = absent
 if_there (Some d) = present d.value
 
+-- `error`, or with a detail `error<T>`
+abbrev pub error_of : MaybeDescriptor → Place → Descriptor
+error_of absent at = any_error
+error_of (present d) at = error_with d at
+
 -- ---- the descriptor that a tree is
 
 abbrev D : Type 0
@@ -109,10 +114,6 @@ postfix_step (layer.Optional of at) = optional of.value
 postfix_step (layer.Array member at) = array member.value at
 postfix_step (layer.FixedArray member n at) = repeated member.value n at
 
-abbrev if_error : Option (Box D) → Place → D
-if_error None at = any_error
-if_error (Some detail) at = error_with detail.value at
-
 abbrev primary_step : PrimaryType-F D D D D FieldOf D ParamsOf → D
 primary_step (layer.Builtin b at) = builtin b
 primary_step (layer.Literal l) = value (LiteralValue l)
@@ -121,7 +122,7 @@ primary_step (layer.Parens inner at) = inner.value
 primary_step (layer.Name n) = named n
 primary_step (layer.Map member at) = map_of member.value at
 primary_step (layer.Future result at) = future_of result.value at
-primary_step (layer.Error detail at) = if_error detail at
+primary_step (layer.Error detail at) = error_of (if_there detail) at
 primary_step (layer.Tuple members rest at) = tuple (in_a_row members.items) (if_there rest) at
 primary_step (layer.ClosedRecord fields rest at) = closed_record (fields_in_a_row fields.items) (if_there rest) at
 primary_step (layer.OpenRecord fields at) = open_record (fields_in_a_row fields.items) at

@@ -1,5 +1,6 @@
 pub mod Described
 pub mod Descriptors
+pub mod Drafts
 pub mod Language
 pub mod Naming
 pub mod Steps

@@ -14,6 +14,7 @@ ghost use Rattle.descriptors.specs.Language.{own_types as own_types_of, AreOver,
 ghost use Rattle.descriptors.specs.Steps.{AreOwnTypes};
 
 use crate::names::OwnTypes;
+use crate::sides::either;
 use crate::together::plain;
 use bal_base::{Fault, Memory, Stop};
 use checks::add;
@@ -151,14 +152,4 @@ fn everything(alloc: Global) -> Result<SemType, Memory>
 {
     let nothing = Box::new(alloc, SemType::Basic(BasicSet::Never))?;
     Ok(SemType::Not(nothing))
-}
-
-/// The shapes of both types.
-fn either(alloc: Global, left: SemType, right: SemType) -> Result<SemType, Memory>
-    ensures shapes { IfOk result (λ t. (env : List Atom) (x : Shape) → In env x t ↔ (In env x left ⊎ In env x right)) }
-    ensures defined { IfOk result (λ t. (n : ℕ) → NamesBelow n left → NamesBelow n right → NamesBelow n t) }
-{
-    let left = Box::new(alloc, left)?;
-    let right = Box::new(alloc, right)?;
-    Ok(SemType::Or(left, right))
 }

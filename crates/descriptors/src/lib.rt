@@ -7,11 +7,14 @@
 //! - [`Names`]: what the names of a package stand for.
 //! - [`describe`]: a descriptor as it stands in a module, as a type.
 //! - [`own_types`]: the types that the language itself names, over atoms that are added once.
-//! - [`type_tree`], [`rewritten`], [`new_arrow`] and their kin: the same by parts, for whoever makes the names.
+//! - [`Draft`], [`type_tree`], [`rewritten`], [`new_arrow`] and their kin: the same by parts, for whoever makes the names. Atoms are
+//!   drafted first, and then added as one group.
 #![tactic(auto)]
 
 mod atoms;
+mod describing;
 mod descriptors;
+mod draft;
 mod language;
 mod lists;
 mod names;
@@ -19,10 +22,13 @@ mod own;
 mod readonly;
 mod resolving;
 mod rewriting;
+mod sides;
 mod together;
 
 pub use atoms::new_arrow;
-pub use descriptors::{describe, type_tree};
+pub use describing::describe;
+pub use descriptors::{result_type, type_if, type_tree};
+pub use draft::Draft;
 pub use language::own_types;
 pub use names::{
     Entry, FileNames, Meaning, ModuleNames, Names, OwnTypes, Scope, Signature, Source,

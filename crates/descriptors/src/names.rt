@@ -84,7 +84,7 @@ pub struct Signature {
 #[derive(Clone, Copy, Debug, PartialEq, Eq)]
 pub struct Scope {
     /// The module's number.
-    pub module: u32,
+    pub module: usize,
     /// The file's number among those of the module.
-    pub file: Option<u32>,
+    pub file: Option<usize>,
 }

@@ -1,11 +1,12 @@
 //! The types that are keywords.
-ghost use Rattle.std.specs.Prelude.{◌≡◌, IfOk, List, length, Ok as Made};
+ghost use Rattle.std.specs.Prelude.{◌≡◌, ℕ, IfOk, List, Ok as Made};
 ghost use Rattle.bal_tree.specs.declared.types.BuiltinType.TheVariants.{Any, Boolean};
 ghost use Rattle.type_model.specs.declared.basic.SemType.{Basic as IsBasic};
 ghost use Rattle.type_model.specs.declared.atoms.AtomDef.{AtomDef as Atom};
 ghost use Rattle.type_model.specs.Defined.{TyBelow};
 ghost use Rattle.descriptors.specs.Described.{IsAnyFunction, IsBuiltin, plain as plain_of};
-ghost use Rattle.descriptors.specs.Steps.{AreNames};
+ghost use Rattle.descriptors.specs.Drafts.{AreNamesBelow};
+ghost use Rattle.descriptors.specs.Steps.{AreOwnTypes};
 
 use crate::names::Names;
 use crate::together::{copy, plain};
@@ -16,8 +17,8 @@ use type_model::{BasicSet, SemType, Ty};
 
 /// The type that is a keyword.
 pub(crate) fn builtin_type(alloc: Global, names: &Names, builtin: BuiltinType) -> Result<Ty, Memory>
-    ensures is { IfOk result (λ t. (env : List Atom) → AreNames env names.now → IsBuiltin builtin env t) }
-    ensures defined { IfOk result (λ t. (env : List Atom) → AreNames env names.now → TyBelow (length env) t) }
+    ensures is { IfOk result (λ t. (env : List Atom) → AreOwnTypes env names.now.own → IsBuiltin builtin env t) }
+    ensures defined { IfOk result (λ t. (n : ℕ) → AreNamesBelow names.now n → TyBelow n t) }
 {
     match builtin {
         BuiltinType::Int => basic(alloc, BasicSet::IntRange(i64::MIN, i64::MAX)),
@@ -57,8 +58,8 @@ fn any(alloc: Global) -> Result<Ty, Memory>
 
 /// All functions, or all isolated ones.
 pub(crate) fn any_function(alloc: Global, names: &Names, isolated: bool) -> Result<Ty, Memory>
-    ensures is { IfOk result (λ t. (env : List Atom) → AreNames env names.now → IsAnyFunction isolated env t) }
-    ensures defined { IfOk result (λ t. (env : List Atom) → AreNames env names.now → TyBelow (length env) t) }
+    ensures is { IfOk result (λ t. (env : List Atom) → AreOwnTypes env names.now.own → IsAnyFunction isolated env t) }
+    ensures defined { IfOk result (λ t. (n : ℕ) → AreNamesBelow names.now n → TyBelow n t) }
 {
     if isolated {
         Ok(plain(alloc, SemType::Atom(names.own.isolated)))

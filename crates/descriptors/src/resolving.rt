@@ -30,11 +30,11 @@ fn first_source(files: &[FileNames], prefix: &Name) -> Option<Source>
 }
 
 impl ModuleNames {
-    fn source(&self, file: Option<u32>, prefix: &Name) -> Option<Source>
+    fn source(&self, file: Option<usize>, prefix: &Name) -> Option<Source>
         ensures { result ≡ source_in prefix.now file self.now }
     {
         match file {
-            Some(file) => self.files.get(file as usize)?.source(prefix),
+            Some(file) => self.files.get(file)?.source(prefix),
             None => first_source(&self.files, prefix),
         }
     }
@@ -69,15 +69,15 @@ impl Meaning {
 
 impl Names {
     /// The module for which a prefix stands.
-    fn imported(&self, scope: Scope, prefix: &Name) -> Option<u32>
+    fn imported(&self, scope: Scope, prefix: &Name) -> Option<usize>
         ensures { result ≡ imported_as self.now scope prefix.now }
     {
-        let module = self.modules.get(scope.module as usize)?;
-        module.source(scope.file, prefix)?.module()
+        let module = self.modules.get(scope.module)?;
+        Some(module.source(scope.file, prefix)?.module()? as usize)
     }
 
     /// The module in which a name with this prefix is sought.
-    fn home(&self, scope: Scope, prefix: &Option<Prefix>) -> Option<u32>
+    fn home(&self, scope: Scope, prefix: &Option<Prefix>) -> Option<usize>
         ensures { result ≡ home_of self.now scope prefix.now }
     {
         match prefix {
@@ -88,10 +88,10 @@ impl Names {
     }
 
     /// What a module defines under a name.
-    fn entry(&self, module: u32, name: &Name) -> Option<&Entry>
+    fn entry(&self, module: usize, name: &Name) -> Option<&Entry>
         ensures { option_copied result ≡ entry_in self.now name.now «module» }
     {
-        self.modules.get(module as usize)?.entries.get(name)
+        self.modules.get(module)?.entries.get(name)
     }
 
     /// The type that a name stands for in a descriptor: `Unknown` or `NotPublic` where it stands for none.

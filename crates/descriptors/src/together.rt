@@ -7,6 +7,7 @@ ghost use Rattle.type_model.specs.Defined.{TyBelow};
 ghost use Rattle.descriptors.specs.Described.{plain as plain_of, IsCopy, is_chosen as is_chosen_in, with_choices as joined_choices, choices_with, immutable_choice, IsOptional, IsUnion, IsIntersection, AreCopies, literal_set as set_of_literal, value_set as set_of_value};
 ghost use Rattle.descriptors.specs.Steps.{AllBelow, lifted};
 
+use crate::sides::{both, either};
 use bal_base::{Fault, Memory, Stop};
 use bal_tree::Literal;
 use std::alloc::Global;
@@ -115,9 +116,9 @@ pub(crate) fn optional(alloc: Global, t: Ty) -> Result<Ty, Memory>
     ensures is { IfOk result (λ u. (env : List Atom) → IsOptional t env u) }
     ensures defined { IfOk result (λ u. (n : ℕ) → TyBelow n t → TyBelow n u) }
 {
-    let nil = Box::new(alloc, SemType::Basic(BasicSet::Nil))?;
+    let sem = either(alloc, t.sem, SemType::Basic(BasicSet::Nil))?;
     Ok(Ty {
-        sem: SemType::Or(Box::new(alloc, t.sem)?, nil),
+        sem,
         lists: t.lists,
         maps: t.maps,
     })
@@ -130,13 +131,8 @@ pub(crate) fn union(alloc: Global, s: Ty, t: Ty) -> Result<Ty, Memory>
 {
     let lists = with_choices(alloc, &s.lists, &t.lists)?;
     let maps = with_choices(alloc, &s.maps, &t.maps)?;
-    let left = Box::new(alloc, s.sem)?;
-    let right = Box::new(alloc, t.sem)?;
-    Ok(Ty {
-        sem: SemType::Or(left, right),
-        lists,
-        maps,
-    })
+    let sem = either(alloc, s.sem, t.sem)?;
+    Ok(Ty { sem, lists, maps })
 }
 
 /// The intersection, with the choices of the left side for immutable values where the right side is `readonly`.
@@ -146,13 +142,8 @@ pub(crate) fn intersection(alloc: Global, is_readonly: bool, s: Ty, t: Ty) -> Re
 {
     let lists = intersection_choices(alloc, is_readonly, &s.lists)?;
     let maps = intersection_choices(alloc, is_readonly, &s.maps)?;
-    let left = Box::new(alloc, s.sem)?;
-    let right = Box::new(alloc, t.sem)?;
-    Ok(Ty {
-        sem: SemType::And(left, right),
-        lists,
-        maps,
-    })
+    let sem = both(alloc, s.sem, t.sem)?;
+    Ok(Ty { sem, lists, maps })
 }
 
 /// The set of the literal's value.

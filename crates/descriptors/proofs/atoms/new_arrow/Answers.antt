@@ -1,8 +1,9 @@
-use Rattle.descriptors.proofs.Yielding.{yields-on, yields-stops}
+use Rattle.descriptors.proofs.Drafting.{drafts-on, drafts-stops, given, handed-on}
 use Rattle.descriptors.proofs.atoms.new_arrow.Goals as goal
 
-pub returns-in-Ok : goal.returns-in-Ok
-returns-in-Ok g c = yields-on _ _ _ _ _ _ _ _ _ c.in-Ok.ensures c.new_plain.ensures
+pub returns-in_err-arguments : goal.returns-in_err-arguments
+returns-in_err-arguments c =
+    handed-on _ _ _ _ _ _ _ c.from_residual.ensures (drafts-stops _ _ _ _ _ _ _ _ (given _ _ _ _ _ _ _ c.in_err-arguments.ensures (λ n h. h.0)))
 
-pub returns-in-Err : goal.returns-in-Err
-returns-in-Err g c = yields-stops _ _ _ _ _ _ _ c.in-Err.ensures
+pub returns : goal.returns
+returns c = drafts-on _ _ _ _ _ _ _ _ _ _ (given _ _ _ _ _ _ _ c.in_ok-arguments.ensures (λ n h. h.0)) (given _ _ _ _ _ _ _ c.new_plain.ensures (λ n h. (h.1, h.0.1)))

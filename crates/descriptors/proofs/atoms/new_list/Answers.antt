@@ -1,9 +1,9 @@
-use Rattle.descriptors.proofs.Yielding.{yields-on, yields-stops, yields-lifted_just, list-below}
+use Rattle.descriptors.proofs.Drafting.{drafts-lifted_just, drafts-on, drafts-stops, handed-on}
+use Rattle.descriptors.proofs.Yielding.{list-below}
 use Rattle.descriptors.proofs.atoms.new_list.Goals as goal
 
-pub returns-in-Ok : goal.returns-in-Ok
-returns-in-Ok g c =
-    yields-on _ _ _ _ _ _ _ _ _ c.in-Ok.ensures (yields-lifted_just _ _ _ _ _ c.lift.ensures c.list_of.ensures (list-below _ _ c.in-Ok.ensures.over))
+pub returns-in_err-atom : goal.returns-in_err-atom
+returns-in_err-atom c = handed-on _ _ _ _ _ _ _ c.from_residual.ensures (drafts-stops _ _ _ _ _ _ _ _ c.in_err-atom.ensures)
 
-pub returns-in-Err : goal.returns-in-Err
-returns-in-Err g c = yields-stops _ _ _ _ _ _ _ c.in-Err.ensures
+pub returns : goal.returns
+returns c = drafts-on _ _ _ _ _ _ _ _ _ _ c.in_ok-atom.ensures (drafts-lifted_just _ _ _ _ _ _ c.lift.ensures c.list_of.ensures (λ n le h. list-below n _ h.1))
