@@ -18,7 +18,7 @@ Away = List (Option ℕ)
 abbrev pub at : Away → ℕ → Option ℕ
 at away i = get_or away i None
 
-pub none-some : {d : ℕ} → None ≡ Some d → ⊥
+pub none-some : {X : Type 0} {x : X} → None ≡ Some x → ⊥
 none-some h = false≢true (ap is_some h)
 
 abbrev value : Option ℕ → ℕ
@@ -169,7 +169,7 @@ noted-more S R level xs i x a b c f g h lt is from to before next =
 pub nothing-noted : (S : List ℕ → ℕ → Type 0) (level : ℕ) (away : Away) (found : List ℕ) → ((v : ℕ) → S [] v → ⊥) → AreNoted (S []) level away found away found
 nothing-noted S level away found none = unchanged (S []) level away found (λ i lt s. absurd (none i s))
 
-pub none-among : (v : ℕ) → Contains [] v → ⊥
+pub none-among : {X : Type 0} (v : X) → Contains [] v → ⊥
 none-among v (k, lt, is) = omega (arith, lt)
 
 -- among a list and one member more

@@ -1,5 +1,5 @@
 -- The first fault in what the definitions of a package say of names, as checks in text order.
-use Rattle.std.specs.Prelude.{◌≡◌, ◌++◌, ◌∷◌, [], ℕ, suc, List, map, Option, None, Some, slice_get}
+use Rattle.std.specs.Prelude.{◌≡◌, ◌++◌, ◌∷◌, [], ℕ, suc, List, map, Option, None, Some, slice_get, true}
 use Rattle.bal_base.specs.declared.fault.Fault.{Fault}
 use Rattle.bal_base.specs.declared.fault.FaultCode.TheVariants.{IllFounded}
 use Rattle.bal_base.specs.declared.fault.Kept.TheVariants.{Names as ShowsNames}
@@ -56,3 +56,9 @@ module _ (outlines : List Outline) where
     pub table : IsTableOf outlines graph.table.numbers
     pub parts_are : map (λ v. v.items) graph.parts.items ≡ parts outlines
     pub reversed : IsReversed (parts outlines) (map (λ v. v.items) graph.back.items)
+    pub acyclic : graph.acyclic ≡ true → (i : ℕ) → ¬ IsOnCycle (parts outlines) i
+
+-- No definition has a fault: each name is given once, each name of a type stands for one, and no type is its own part.
+pub record AreNamed (outlines : List Outline) : Type 0 where
+  pub faultless : (n : ℕ) (d : Outline) → slice_get outlines n ≡ Some d → first_fault outlines n d d.mentions ≡ None
+  pub acyclic : (n : ℕ) → ¬ IsOnCycle (parts outlines) n

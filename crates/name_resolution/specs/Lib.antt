@@ -1,7 +1,11 @@
+pub mod Clear
 pub mod Cycles
+pub mod Definitions
 pub mod Distances
 pub mod Faults
 pub mod Mentions
+pub mod Named
+pub mod Ordering
 pub mod Outlines
 pub mod Resolved
 pub mod Tables

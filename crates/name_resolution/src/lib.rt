@@ -1,29 +1,36 @@
 //! What the definitions of a package say of names.
 //!
 //! - [`check_names`]: the first fault in that, in text order.
+//! - [`parts_first`]: where there is none, the definitions in an order in which parts come first; [`prefixes`]: those of a file.
 //! - `outlines` and `mentions`: definitions, each with what it mentions of names; `table`: names by module.
 //! - `faults`: what a name stands for, and what is wrong with a mention; `cycles` over `distances`: types that are their
-//!   own parts; `named`: the definitions one after another.
+//!   own parts; `order`: that there are none, by an order; `named`: the definitions one after another.
 //!
 //! `specs/Outlines.antt` says what the definitions of a package say of names, `specs/Resolved.antt` what the names of types stand
 //! for, `specs/Cycles.antt` which cycle is the first of the shortest, and `specs/Faults.antt` which fault comes first.
+//! `specs/Named.antt` says what is so of each definition where there is none.
 #![tactic(auto)]
 
+ghost use Rattle.std.specs.Prelude.{IfOk};
 ghost use Rattle.checks.specs.Checks.{Comes};
 ghost use Rattle.descriptors.specs.Described.{Atoms};
-ghost use Rattle.name_resolution.specs.Faults.{all_named};
+ghost use Rattle.name_resolution.specs.Faults.{AreNamed, all_named};
+ghost use Rattle.name_resolution.specs.Ordering.{IsOrder};
 ghost use Rattle.name_resolution.specs.Outlines.{outlines_of};
+ghost use Rattle.name_resolution.specs.Resolved.{parts};
 
 mod cycles;
 mod distances;
 mod faults;
 mod mentions;
 mod named;
+mod order;
 mod outlines;
 mod table;
 
 use bal_base::{Fault, Memory, Stop};
 use bal_tree::Package;
+pub use outlines::prefixes;
 use std::alloc::Global;
 
 /// Whether the names in the definitions of a package are without fault, or else the first fault in text order: module by module,
@@ -41,4 +48,13 @@ pub fn check_names(alloc: Global, package: &Package) -> Result<(), Stop<Fault>>
         Ok(outlines) => named::definitions(alloc, &outlines),
         Err(Memory) => Err(Stop::Memory),
     }
+}
+
+/// The definitions of a package by their numbers in text order, each once, and behind those that are parts of its type.
+pub fn parts_first(alloc: Global, package: &Package) -> Result<Vec<usize>, Memory>
+    requires { AreNamed (outlines_of «package».now) }
+    ensures { IfOk result (λ order. IsOrder (parts (outlines_of «package».now)) order.items) }
+{
+    let outlines = outlines::package_outlines(alloc, package)?;
+    named::in_order(alloc, &outlines)
 }

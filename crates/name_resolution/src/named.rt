@@ -1,9 +1,13 @@
 //! The first fault in what the definitions of a package say of names.
-ghost use Rattle.std.specs.Prelude.{◌≡◌, ◌<◌, ◌++◌, IfOk, OnOk, length, map, slice_get};
+ghost use Rattle.std.specs.Prelude.{◌≡◌, ◌<◌, ◌++◌, IfOk, OnOk, length, map, slice_get, true, ℕ};
 ghost use Rattle.std.specs.List.{flat_map};
+ghost use Rattle.std.specs.Option.{option_map};
 ghost use Rattle.checks.specs.Checks.{Comes};
 ghost use Rattle.descriptors.specs.Described.{Atoms};
-ghost use Rattle.name_resolution.specs.Faults.{IsGraphOf, all_named, cycle_fault as cycle_fault_of, definition_named, name_if, unless};
+ghost use Rattle.name_resolution.specs.Cycles.{IsOnCycle};
+ghost use Rattle.name_resolution.specs.Distances.{IsCycleFound, IsReversed};
+ghost use Rattle.name_resolution.specs.Faults.{AreNamed, IsGraphOf, all_named, cycle_fault as cycle_fault_of, definition_named, name_if, unless};
+ghost use Rattle.name_resolution.specs.Ordering.{IsOrder};
 ghost use Rattle.name_resolution.specs.Resolved.{first_fault, part as part_of, parts as parts_by_number, parts_of as parts_of_outline};
 ghost use Rattle.name_resolution.specs.Tables.{IsTableOf};
 
@@ -11,17 +15,20 @@ use crate::cycles::first_cycle;
 use crate::distances::reversed;
 use crate::faults::Resolver;
 use crate::mentions::Mention;
+use crate::order::{has_no_cycle, parts_first};
 use crate::outlines::{Kind, Outline};
 use crate::table::NameTable;
 use bal_base::{Fault, FaultCode, Kept, Memory, Name, NameList, Stop};
 use std::alloc::Global;
 
 /// The names of definitions, and by the definitions' numbers those that are parts of each, and those of which each is a part.
+/// `acyclic`: it is known that none is a part of itself.
 #[derive(Drop)]
 pub(crate) struct Graph {
     pub(crate) table: NameTable,
     pub(crate) parts: Vec<Vec<usize>>,
     pub(crate) back: Vec<Vec<usize>>,
+    pub(crate) acyclic: bool,
 }
 
 /// Whether the names in definitions are without fault: each is given once in a module, each name of a type stands for one, and no
@@ -48,7 +55,29 @@ fn graph_of(alloc: Global, outlines: &[Outline]) -> Result<Graph, Memory>
     let table = NameTable::of(alloc, outlines)?;
     let parts = parts(alloc, outlines, &table)?;
     let back = reversed(alloc, &parts)?;
-    Ok(Graph { table, parts, back })
+    let acyclic = has_no_cycle(alloc, &parts)?;
+    Ok(Graph {
+        table,
+        parts,
+        back,
+        acyclic,
+    })
+}
+
+impl Graph {
+    /// The others on the first of the shortest cycles that begin with a definition.
+    fn cycle(&self, alloc: Global, number: usize) -> Result<Option<Vec<usize>>, Memory>
+        requires reversed { IsReversed (map (λ v. v.items) self.now.parts.items) (map (λ v. v.items) self.now.back.items) }
+        requires placed { number < length self.now.back.items }
+        requires acyclic { self.now.acyclic ≡ true → (i : ℕ) → ¬ IsOnCycle (map (λ v. v.items) self.now.parts.items) i }
+        ensures { IfOk result (λ found. IsCycleFound (map (λ v. v.items) self.now.parts.items) number (option_map (λ v. v.items) found)) }
+    {
+        if self.acyclic {
+            Ok(None)
+        } else {
+            first_cycle(alloc, &self.parts, &self.back, number)
+        }
+    }
 }
 
 /// One definition: its cycle, or else the first fault in its names.
@@ -63,7 +92,7 @@ fn definition(
     requires placed { number < length outlines.now }
     ensures { (env : Atoms) → Comes (definition_named outlines.now number d.now) env result env }
 {
-    match first_cycle(alloc, &graph.parts, &graph.back, number) {
+    match graph.cycle(alloc, number) {
         Ok(Some(others)) => match cycle_fault(alloc, outlines, number, d, &others) {
             Ok(fault) => Err(Stop::Fault(fault)),
             Err(Memory) => Err(Stop::Memory),
@@ -84,6 +113,18 @@ fn names(outlines: &[Outline], graph: &Graph, number: usize, d: &Outline) -> Res
     match resolver.first_fault(number, d) {
         Some(fault) => Err(Stop::Fault(fault)),
         None => Ok(()),
+    }
+}
+
+/// The numbers of definitions without fault, each once, and behind those of its parts.
+pub(crate) fn in_order(alloc: Global, outlines: &[Outline]) -> Result<Vec<usize>, Memory>
+    requires { AreNamed outlines.now }
+    ensures { IfOk result (λ order. IsOrder (parts_by_number outlines.now) order.items) }
+{
+    let table = NameTable::of(alloc, outlines)?;
+    match parts_first(alloc, &parts(alloc, outlines, &table)?)? {
+        Some(order) => Ok(order),
+        None => unreachable!(),
     }
 }
 

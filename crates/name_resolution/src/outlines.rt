@@ -85,7 +85,7 @@ fn outlines_in_file(
 }
 
 /// What the prefixes of a file stand for, by its imports.
-fn prefixes(alloc: Global, imports: &[Import]) -> Result<FileNames, Memory>
+pub fn prefixes(alloc: Global, imports: &[Import]) -> Result<FileNames, Memory>
     ensures { IfOk result (λ made. (prefix : List ℕ) → file_source prefix made ≡ import_source imports.now prefix) }
 {
     let mut prefixes = IndexMap::new(alloc);

@@ -1,9 +1,13 @@
-use Rattle.std.proofs.Common.{◌∙◌, ap, map, None, Some}
+use Rattle.std.proofs.Common.{◌∙◌, ℕ, ap, map, subst, sym, None, Some}
 use Rattle.checks.proofs.Steps.{ran_out}
+use Rattle.name_resolution.specs.Cycles.{IsOnCycle}
 use Rattle.name_resolution.specs.Faults.{cycle_fault, definition_named}
 use Rattle.name_resolution.specs.Resolved.{parts}
 use Rattle.name_resolution.proofs.Naming.{acyclic, cyclic, found-as}
 use Rattle.name_resolution.proofs.named.definition.Goals as goal
+
+pub cycle-requires-clause-acyclic : goal.cycle-requires-clause-acyclic
+cycle-requires-clause-acyclic c = λ known. subst (λ next. (i : ℕ) → ¬ IsOnCycle next i) (sym c.requires.graph.parts_are) (c.requires.graph.acyclic known)
 
 pub returns : goal.returns
 returns c env = ran_out (definition_named c.args.outlines.now c.args.number c.args.d.now) env env
@@ -17,14 +21,14 @@ returns-in-Ok c env =
     let n = c.args.number in
     let others = c.in-Ok-Some.others in
     cyclic outlines n c.args.d.now others.items c.in-Ok.fault env
-    (found-as (λ v. v.items) (map (λ v. v.items) c.deref.result.now) (parts outlines) n c.in-Ok-Some.field-0 (Some others)
-    (ap (map (λ v. v.items)) c.deref.ensures.value ∙ c.requires.graph.parts_are) c.in-Ok-Some.field-0-is c.in-Ok-Some.ensures)
-    (c.in-Ok.ensures ∙ ap (cycle_fault outlines n c.args.d.now) c.deref-in-Ok-Some.ensures.value)
+    (found-as (λ v. v.items) (map (λ v. v.items) c.args.graph.now.parts.items) (parts outlines) n c.in-Ok-Some.field-0 (Some others) c.requires.graph.parts_are
+    c.in-Ok-Some.field-0-is c.in-Ok-Some.ensures)
+    (c.in-Ok.ensures ∙ ap (cycle_fault outlines n c.args.d.now) c.deref.ensures.value)
 
 pub returns-in-Ok-None : goal.returns-in-Ok-None
 returns-in-Ok-None c env =
     let outlines = c.args.outlines.now in
     acyclic outlines c.args.number c.args.d.now env c.names.result
-    (found-as (λ v. v.items) (map (λ v. v.items) c.deref.result.now) (parts outlines) c.args.number c.in-Ok-None.field-0 None
-    (ap (map (λ v. v.items)) c.deref.ensures.value ∙ c.requires.graph.parts_are) c.in-Ok-None.field-0-is c.in-Ok-None.ensures)
+    (found-as (λ v. v.items) (map (λ v. v.items) c.args.graph.now.parts.items) (parts outlines) c.args.number c.in-Ok-None.field-0 None c.requires.graph.parts_are
+    c.in-Ok-None.field-0-is c.in-Ok-None.ensures)
     (c.names.ensures env)
