@@ -1,0 +1,196 @@
+-- What single definitions mean, over drafts.
+use Rattle.std.proofs.Common.{◌≡◌, ℕ, List, [], ◌∷◌, map, Option, None, Some, Result, Ok, Err, refl, sym, subst, ap}
+use Rattle.std.specs.List.{AllZip}
+use Rattle.std.proofs.lemmas.List.Elements.{All-cons, All-head, All-nil, All-tail}
+use Rattle.bal_base.specs.declared.fault.Fault.{Fault}
+use Rattle.bal_base.specs.declared.stop.Stop.{Stop}
+use Rattle.bal_tree.specs.declared.def.ConstDef.{ConstDef}
+use Rattle.bal_tree.specs.declared.def.Def.{Def}
+use Rattle.bal_tree.specs.declared.def.Def.TheVariants.{«Type» as TypeOf, Const, Variable as VariableOf, Function as FunctionOf}
+use Rattle.bal_tree.specs.declared.def.FunctionDef.{FunctionDef}
+use Rattle.bal_tree.specs.declared.def.TypeDef.{TypeDef}
+use Rattle.bal_tree.specs.declared.def.VariableDef.{VariableDef}
+use Rattle.bal_tree.specs.declared.params.Param.{Param}
+use Rattle.bal_tree.specs.declared.types.TypeTree.{TypeTree}
+use Rattle.type_model.specs.declared.basic.SemType.{Basic}
+use Rattle.type_model.specs.declared.basic.Ty.{Ty}
+use Rattle.type_model.specs.Defined.{NamesBelow, TyBelow}
+use Rattle.type_model.proofs.SameTypes.{In-same}
+use Rattle.checks.specs.Checks.{gives, ◌▷◌}
+use Rattle.descriptors.specs.declared.draft.Draft.{Draft}
+use Rattle.descriptors.specs.declared.names.Meaning.{Meaning}
+use Rattle.descriptors.specs.declared.names.Meaning.TheVariants.{TypeName, Constant, Variable, Function}
+use Rattle.descriptors.specs.declared.names.Names.{Names}
+use Rattle.descriptors.specs.declared.names.Scope.{Scope}
+use Rattle.descriptors.specs.declared.names.Signature.{Signature}
+use Rattle.descriptors.specs.Described.{Atoms, IsCopy, IsRewritten, plain, value_set}
+use Rattle.descriptors.specs.Descriptors.{descriptor_if, descriptor_of, in_a_row, present}
+use Rattle.descriptors.specs.Drafts.{AreNamesBelow, Drafts, all_drafted, drafted, drafted_arrow, drafted_if, numbered_on, wherever}
+use Rattle.descriptors.specs.Steps.{AllBelow, AreOwnTypes, IfBelow}
+use Rattle.descriptors.proofs.Drafting.{drafts-given, drafts-just, drafts-on, drafts-stops, given}
+use Rattle.descriptors.proofs.Yielding.{copy-below}
+use Rattle.type_builder.proofs.Agreeing.{same-itself}
+use Rattle.type_builder.specs.Building.{MeaningBelow, SignatureBelow}
+use Rattle.type_builder.specs.Meanings.{AreRewritten, IfRewritten, IsCopyIf, IsSignature, constant_drafted, kept_by, meaning_drafted, param_descriptor, rest_descriptor, signature_drafted, signed_drafted}
+
+-- ---- copies
+
+copy-rewritten : (env : Atoms) (t u : Ty) → IsCopy t u → IsRewritten t env u
+copy-rewritten env t u c = record {
+  shapes = λ x valid. let same = In-same env x t.sem u.sem c.sem in (λ i. same.1 i, λ i. same.0 i);
+  lists = sym c.lists;
+  maps = sym c.maps;
+}
+
+copies-rewritten : (env : Atoms) (ts us : List Ty) → AllZip IsCopy ts us → AreRewritten env ts us
+copies-rewritten env [] [] h = tt
+copies-rewritten env [] (u ∷ us) h = absurd h
+copies-rewritten env (t ∷ ts) [] h = absurd h
+copies-rewritten env (t ∷ ts) (u ∷ us) h = (copy-rewritten env t u h.0, copies-rewritten env ts us h.1)
+
+if-rewritten : (env : Atoms) (t u : Option Ty) → IsCopyIf t u → IfRewritten env t u
+if-rewritten env None None h = tt
+if-rewritten env None (Some u) h = absurd h
+if-rewritten env (Some t) None h = absurd h
+if-rewritten env (Some t) (Some u) h = copy-rewritten env t u h
+
+copies-below : (n : ℕ) (ts us : List Ty) → AllZip IsCopy ts us → AllBelow n ts → AllBelow n us
+copies-below n [] [] h b = All-nil (TyBelow n)
+copies-below n [] (u ∷ us) h b = absurd h
+copies-below n (t ∷ ts) [] h b = absurd h
+copies-below n (t ∷ ts) (u ∷ us) h b =
+    All-cons (TyBelow n) u us (copy-below n t u h.0 (All-head (TyBelow n) t ts b)) (copies-below n ts us h.1 (All-tail (TyBelow n) t ts b))
+
+if-below : (n : ℕ) (t u : Option Ty) → IsCopyIf t u → IfBelow n t → IfBelow n u
+if-below n None None h b = tt
+if-below n None (Some u) h b = absurd h
+if-below n (Some t) None h b = absurd h
+if-below n (Some t) (Some u) h b = copy-below n t u h b
+
+-- ---- single definitions
+
+module _ (names : Names) (scope : Scope) where
+  abbrev Below : ℕ → Type 0
+  Below = AreNamesBelow names
+
+  -- by another tree that is the same
+  pub of-tree : (tree other : TypeTree) (old : Draft) (r : Result Ty (Stop Fault)) (new : Draft) → tree ≡ other → Drafts Below TyBelow (drafted names scope (descriptor_of tree)) old r new
+      → Drafts Below TyBelow (drafted names scope (descriptor_of other)) old r new
+  of-tree tree other old r new same y = subst (λ x. Drafts Below TyBelow (drafted names scope (descriptor_of x)) old r new) same y
+
+  -- what takes the rest
+  module _ (rest : Option Param) where
+    abbrev RestComes : Draft → Result (Option Ty) (Stop Fault) → Draft → Type 0
+    RestComes = Drafts Below IfBelow (drafted_if names scope (rest_descriptor rest))
+
+    pub no-rest : (d : Draft) → rest ≡ None → RestComes d (Ok None) d
+    no-rest d is = subst (λ r. Drafts Below IfBelow (drafted_if names scope (rest_descriptor r)) d (Ok None) d) (sym is) (drafts-just Below IfBelow d None None refl (λ n le g. tt))
+
+    module _ (p : Param) (is : rest ≡ Some p) where
+      turned : (old : Draft) (r : Result (Option Ty) (Stop Fault)) (new : Draft) → Drafts Below IfBelow (drafted_if names scope (present (descriptor_of p.ty.value))) old r new → RestComes old r new
+      turned old r new y = subst (λ o. Drafts Below IfBelow (drafted_if names scope (rest_descriptor o)) old r new) (sym is) y
+
+      pub rest-given : (tree : TypeTree) (t : Ty) (old new : Draft) → tree ≡ p.ty.value → Drafts Below TyBelow (drafted names scope (descriptor_of tree)) old (Ok t) new → RestComes old (Ok (Some t)) new
+      rest-given tree t old new same y = turned old (Ok (Some t)) new
+          (drafts-on Below TyBelow IfBelow (drafted names scope (descriptor_of p.ty.value)) (λ t. gives (Some t)) old new new t (Ok (Some t)) (of-tree tree p.ty.value old (Ok t) new same y)
+          (drafts-just (λ n. Below n × TyBelow n t) IfBelow new (Some t) (Some t) refl (λ n le g. g.1)))
+
+      pub rest-stops : (tree : TypeTree) (stop : Stop Fault) (old new : Draft) → tree ≡ p.ty.value → Drafts Below TyBelow (drafted names scope (descriptor_of tree)) old (Err stop) new → RestComes old (Err stop) new
+      rest-stops tree stop old new same y = turned old (Err stop) new
+          (drafts-stops Below TyBelow IfBelow (drafted names scope (descriptor_of p.ty.value)) (λ t. gives (Some t)) old new stop (of-tree tree p.ty.value old (Err stop) new same y))
+
+  -- a type is kept as it is
+  kept-so : (G : ℕ → Type 0) (m : Ty → Meaning) → ((n : ℕ) (t : Ty) → TyBelow n t → MeaningBelow n (m t)) → (t : Ty) (d : Draft) → ((n : ℕ) → G n → TyBelow n t)
+      → Drafts G MeaningBelow (kept_by numbered_on (wherever names) names t ▷ λ u. gives (m u)) d (Ok (m t)) d
+  kept-so G m below t d over =
+      drafts-on G TyBelow MeaningBelow (kept_by numbered_on (wherever names) names t) (λ u. gives (m u)) d d d t (Ok (m t))
+      (drafts-given G TyBelow d (λ s u. (env : Atoms) → AreOwnTypes env names.own → IsRewritten t env u) t (λ env own. same-itself env t t refl) (λ n le g. over n g))
+      (drafts-just (λ n. G n × TyBelow n t) MeaningBelow d (m t) (m t) refl (λ n le g. below n t g.1))
+
+  module _ (unit : ℕ) (def : Def) where
+    abbrev MeaningComes : Draft → Result Meaning (Stop Fault) → Draft → Type 0
+    MeaningComes = Drafts Below MeaningBelow (meaning_drafted names scope unit def)
+
+    as-def : (other : Def) (old : Draft) (r : Result Meaning (Stop Fault)) (new : Draft) → def ≡ other → Drafts Below MeaningBelow (meaning_drafted names scope unit other) old r new → MeaningComes old r new
+    as-def other old r new is y = subst (λ d. Drafts Below MeaningBelow (meaning_drafted names scope unit d) old r new) (sym is) y
+
+    pub type-given : (d : TypeDef) (tree : TypeTree) (t : Ty) (old new : Draft) → def ≡ TypeOf d → tree ≡ d.ty.value → Drafts Below TyBelow (drafted names scope (descriptor_of tree)) old (Ok t) new
+        → MeaningComes old (Ok (TypeName t)) new
+    type-given d tree t old new is same y = as-def (TypeOf d) old (Ok (TypeName t)) new is
+        (drafts-on Below TyBelow MeaningBelow (drafted names scope (descriptor_of d.ty.value)) (λ t. kept_by numbered_on (wherever names) names t ▷ λ u. gives (TypeName u)) old new new t (Ok (TypeName t))
+        (of-tree tree d.ty.value old (Ok t) new same y) (kept-so (λ n. Below n × TyBelow n t) TypeName (λ n u h. h) t new (λ n g. g.1)))
+
+    pub type-stops : (d : TypeDef) (tree : TypeTree) (stop : Stop Fault) (old new : Draft) → def ≡ TypeOf d → tree ≡ d.ty.value → Drafts Below TyBelow (drafted names scope (descriptor_of tree)) old (Err stop) new
+        → MeaningComes old (Err stop) new
+    type-stops d tree stop old new is same y = as-def (TypeOf d) old (Err stop) new is
+        (drafts-stops Below TyBelow MeaningBelow (drafted names scope (descriptor_of d.ty.value)) (λ t. kept_by numbered_on (wherever names) names t ▷ λ u. gives (TypeName u)) old new stop
+        (of-tree tree d.ty.value old (Err stop) new same y))
+
+    pub variable-given : (d : VariableDef) (tree : TypeTree) (t : Ty) (old new : Draft) → def ≡ VariableOf d → tree ≡ d.ty.value → Drafts Below TyBelow (drafted names scope (descriptor_of tree)) old (Ok t) new
+        → MeaningComes old (Ok (Variable d.is_final t)) new
+    variable-given d tree t old new is same y = as-def (VariableOf d) old (Ok (Variable d.is_final t)) new is
+        (drafts-on Below TyBelow MeaningBelow (drafted names scope (descriptor_of d.ty.value)) (λ t. kept_by numbered_on (wherever names) names t ▷ λ u. gives (Variable d.is_final u)) old new new t (Ok (Variable d.is_final t))
+        (of-tree tree d.ty.value old (Ok t) new same y) (kept-so (λ n. Below n × TyBelow n t) (Variable d.is_final) (λ n u h. h) t new (λ n g. g.1)))
+
+    pub variable-stops : (d : VariableDef) (tree : TypeTree) (stop : Stop Fault) (old new : Draft) → def ≡ VariableOf d → tree ≡ d.ty.value → Drafts Below TyBelow (drafted names scope (descriptor_of tree)) old (Err stop) new
+        → MeaningComes old (Err stop) new
+    variable-stops d tree stop old new is same y = as-def (VariableOf d) old (Err stop) new is
+        (drafts-stops Below TyBelow MeaningBelow (drafted names scope (descriptor_of d.ty.value)) (λ t. kept_by numbered_on (wherever names) names t ▷ λ u. gives (Variable d.is_final u)) old new stop
+        (of-tree tree d.ty.value old (Err stop) new same y))
+
+    pub const-comes : (d : ConstDef) (r : Result Meaning (Stop Fault)) (old new : Draft) → def ≡ Const d → Drafts Below MeaningBelow (constant_drafted names scope d) old r new → MeaningComes old r new
+    const-comes d r old new is y = as-def (Const d) old r new is y
+
+    pub function-given : (d : FunctionDef) (s : Signature) (old new : Draft) → def ≡ FunctionOf d → Drafts Below SignatureBelow (signature_drafted names scope unit d) old (Ok s) new → MeaningComes old (Ok (Function s)) new
+    function-given d s old new is y = as-def (FunctionOf d) old (Ok (Function s)) new is
+        (drafts-on Below SignatureBelow MeaningBelow (signature_drafted names scope unit d) (λ s. gives (Function s)) old new new s (Ok (Function s)) y
+        (drafts-just (λ n. Below n × SignatureBelow n s) MeaningBelow new (Function s) (Function s) refl (λ n le g. g.1)))
+
+    pub function-stops : (d : FunctionDef) (stop : Stop Fault) (old new : Draft) → def ≡ FunctionOf d → Drafts Below SignatureBelow (signature_drafted names scope unit d) old (Err stop) new → MeaningComes old (Err stop) new
+    function-stops d stop old new is y = as-def (FunctionOf d) old (Err stop) new is
+        (drafts-stops Below SignatureBelow MeaningBelow (signature_drafted names scope unit d) (λ s. gives (Function s)) old new stop y)
+
+  pub constant-given : (d : ConstDef) (t : Ty) (declared : Option Ty) (old new : Draft) → t ≡ plain (Basic (value_set d.value)) → Drafts Below IfBelow (drafted_if names scope (descriptor_if d.ty)) old (Ok declared) new
+      → Drafts Below MeaningBelow (constant_drafted names scope d) old (Ok (Constant t)) new
+  constant-given d t declared old new is y =
+      drafts-on Below IfBelow MeaningBelow (drafted_if names scope (descriptor_if d.ty)) (λ declared. gives (Constant (plain (Basic (value_set d.value))))) old new new declared (Ok (Constant t)) y
+      (drafts-just (λ n. Below n × IfBelow n declared) MeaningBelow new (Constant (plain (Basic (value_set d.value)))) (Constant t) (ap Constant is) (λ n le g. (tt, All-nil _, All-nil _)))
+
+  pub constant-stops : (d : ConstDef) (stop : Stop Fault) (old new : Draft) → Drafts Below IfBelow (drafted_if names scope (descriptor_if d.ty)) old (Err stop) new
+      → Drafts Below MeaningBelow (constant_drafted names scope d) old (Err stop) new
+  constant-stops d stop old new y =
+      drafts-stops Below IfBelow MeaningBelow (drafted_if names scope (descriptor_if d.ty)) (λ declared. gives (Constant (plain (Basic (value_set d.value))))) old new stop y
+
+  -- the signature of a function of these types
+  module _ (unit : ℕ) (d : FunctionDef) (fixed : List Ty) (rest : Option Ty) (result : Ty) where
+    abbrev pub Parts : ℕ → Type 0
+    Parts n = (AllBelow n fixed × IfBelow n rest) × TyBelow n result
+
+    pub signed-given : (s : Signature) (old new : Draft) → s.unit ≡ unit → s.isolated ≡ d.isolated → AllZip IsCopy fixed s.params → IsCopyIf rest s.rest → IsCopy result s.result
+        → Drafts (λ n. (AllBelow n fixed × IfBelow n rest) × NamesBelow n result.sem) TyBelow (drafted_arrow d.isolated fixed rest result.sem d.at) old (Ok s.arrow) new
+        → Drafts Parts SignatureBelow (signed_drafted names scope unit d fixed rest result) old (Ok s) new
+    signed-given s old new unit_is isolated params others result_is y =
+        drafts-on Parts TyBelow SignatureBelow (drafted_arrow d.isolated fixed rest result.sem d.at) (λ arrow. wherever names Signature (IsSignature unit d.isolated fixed rest result arrow)) old new new s.arrow (Ok s)
+        (given Parts (λ n. (AllBelow n fixed × IfBelow n rest) × NamesBelow n result.sem) TyBelow _ old (Ok s.arrow) new y (λ n h. (h.0, h.1.0)))
+        (drafts-given (λ n. Parts n × TyBelow n s.arrow) SignatureBelow new (λ old x. (env : Atoms) → AreOwnTypes env names.own → IsSignature unit d.isolated fixed rest result s.arrow env x) s
+        (λ env own. record {
+          unit_is = unit_is;
+          isolated_is = isolated;
+          params = copies-rewritten env fixed s.params params;
+          rest_is = if-rewritten env rest s.rest others;
+          result_is = copy-rewritten env result s.result result_is;
+          arrow_is = same-itself env s.arrow s.arrow refl;
+        })
+        (λ n le g. (copies-below n fixed s.params params g.0.0.0, if-below n rest s.rest others g.0.0.1, copy-below n result s.result result_is g.0.1, g.1)))
+
+    pub signed-stops : (stop : Stop Fault) (old new : Draft)
+        → Drafts (λ n. (AllBelow n fixed × IfBelow n rest) × NamesBelow n result.sem) TyBelow (drafted_arrow d.isolated fixed rest result.sem d.at) old (Err stop) new
+        → Drafts Parts SignatureBelow (signed_drafted names scope unit d fixed rest result) old (Err stop) new
+    signed-stops stop old new y =
+        drafts-stops Parts TyBelow SignatureBelow (drafted_arrow d.isolated fixed rest result.sem d.at) (λ arrow. wherever names Signature (IsSignature unit d.isolated fixed rest result arrow)) old new stop
+        (given Parts (λ n. (AllBelow n fixed × IfBelow n rest) × NamesBelow n result.sem) TyBelow _ old (Err stop) new y (λ n h. (h.0, h.1.0)))
+
+  -- the types of the parameters, by another list of them that is the same
+  pub of-params : (params others : List Param) (old : Draft) (r : Result (List Ty) (Stop Fault)) (new : Draft) → params ≡ others
+      → Drafts Below AllBelow (all_drafted names scope [] (in_a_row (map param_descriptor params))) old r new → Drafts Below AllBelow (all_drafted names scope [] (in_a_row (map param_descriptor others))) old r new
+  of-params params others old r new same y = subst (λ ps. Drafts Below AllBelow (all_drafted names scope [] (in_a_row (map param_descriptor ps))) old r new) same y

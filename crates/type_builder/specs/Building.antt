@@ -1,0 +1,76 @@
+-- What the names of a package stand for, and the first fault in its definitions.
+use Rattle.std.specs.Prelude.{◌≡◌, ◌+◌, ◌++◌, ℕ, List, [], ◌∷◌, length, Option, None, Some, All, IfSome, if◌then◌else◌}
+use Rattle.std.specs.List.{AllZip}
+use Rattle.bal_base.specs.declared.text.Name.{Name}
+use Rattle.bal_tree.specs.declared.package.Module.{Module}
+use Rattle.bal_tree.specs.declared.package.Package.{Package}
+use Rattle.bal_tree.specs.declared.package.SourceFile.{SourceFile}
+use Rattle.checks.specs.Checks.{Check, Gives, Refuses, ◌▷◌, gives}
+use Rattle.descriptors.specs.Described.{Atoms}
+use Rattle.descriptors.specs.Language.{own_types}
+use Rattle.descriptors.specs.Naming.{entry_in, file_source}
+use Rattle.descriptors.specs.declared.names.Entry.{Entry}
+use Rattle.descriptors.specs.declared.names.FileNames.{FileNames}
+use Rattle.descriptors.specs.declared.names.Meaning.{Meaning}
+use Rattle.descriptors.specs.declared.names.Meaning.TheVariants.{TypeName, Constant, Variable, Function}
+use Rattle.descriptors.specs.declared.names.ModuleNames.{ModuleNames}
+use Rattle.descriptors.specs.declared.names.Names.{Names}
+use Rattle.descriptors.specs.declared.names.OwnTypes.{OwnTypes}
+use Rattle.descriptors.specs.declared.names.Signature.{Signature}
+use Rattle.name_resolution.specs.Faults.{all_named}
+use Rattle.name_resolution.specs.Outlines.{import_source, outlines_of}
+use Rattle.type_builder.specs.AtomPlaces.{package_places, room_for}
+use Rattle.name_resolution.specs.Definitions.{Placed, defines, definitions_of}
+use Rattle.type_builder.specs.MainFunction.{main_fits}
+use Rattle.type_builder.specs.Meanings.{entries}
+use Rattle.type_model.specs.declared.answers.TypeLimit.{TypeLimit}
+use Rattle.type_model.specs.declared.atoms.AtomDef.{AtomDef}
+use Rattle.type_model.specs.Calls.{Asked}
+use Rattle.type_model.specs.Defined.{TyBelow}
+
+-- the entry of the first definition of a name in a module
+abbrev pub first_entry : ℕ → Name → List Placed → List Entry → Option Entry
+first_entry m name [] es = None
+first_entry m name (p ∷ ps) [] = None
+first_entry m name (p ∷ ps) (e ∷ es) = if defines m name p then Some e else first_entry m name ps es
+
+-- the prefixes of each file are those of its imports
+abbrev pub IsFile : SourceFile → FileNames → Type 0
+IsFile f names = (prefix : Name) → file_source prefix names ≡ import_source f.tree.imports.items prefix
+
+abbrev pub IsModule : Module → ModuleNames → Type 0
+IsModule m names = AllZip IsFile m.files names.files.items
+
+-- What the names of a package stand for where these atoms are behind those that were there: each definition means what it says over all
+-- of them, and needs the atoms that follow those of the definitions before it.
+pub record AreNamesOf (p : Package) (own : OwnTypes) (old group : Atoms) (names : Names) : Type 0 where
+  pub own_are : names.own ≡ own
+  pub files : AllZip IsModule p.modules names.modules.items
+  pub es : List Entry
+  pub defined : entries (old ++ group) names 0 (definitions_of p) (length old) (Gives es) (length old + length group)
+  pub named : (m : ℕ) (name : Name) → entry_in names name m ≡ first_entry m name (definitions_of p) es
+
+unfoldable pub defines_all : Package → OwnTypes → Check Atoms Names
+defines_all p own old (Gives names) new = (group : Atoms) × (new ≡ old ++ group) × AreNamesOf p own old group names
+defines_all p own old (Refuses f) new = ⊥
+
+-- First all names; then there has to be room for the atoms; and last what `main` is. `passes`: which questions pass a limit.
+abbrev pub built : (List AtomDef → Asked → TypeLimit → Type 0) → Package → Check Atoms Names
+built passes p =
+    all_named (outlines_of p) ▷ λ u. own_types ▷ λ own. room_for (package_places p) ▷ λ v. defines_all p own ▷ λ names.
+    main_fits passes p names ▷ λ w. gives names
+
+-- ---- which atoms they name
+
+abbrev pub SignatureBelow : ℕ → Signature → Type 0
+SignatureBelow n s = All (TyBelow n) s.params × IfSome s.rest (TyBelow n) × TyBelow n s.result × TyBelow n s.arrow
+
+abbrev pub MeaningBelow : ℕ → Meaning → Type 0
+MeaningBelow n (TypeName t) = TyBelow n t
+MeaningBelow n (Constant t) = TyBelow n t
+MeaningBelow n (Variable final t) = TyBelow n t
+MeaningBelow n (Function s) = SignatureBelow n s
+
+-- what a name stands for names only atoms that are there
+abbrev pub AreMeanings : Atoms → Names → Type 0
+AreMeanings env names = (m : ℕ) (name : Name) (e : Entry) → entry_in names name m ≡ Some e → MeaningBelow (length env) e.meaning

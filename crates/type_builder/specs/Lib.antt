@@ -1,0 +1,7 @@
+pub mod AtomPlaces
+pub mod Building
+pub mod Keeping
+pub mod Listing
+pub mod MainFunction
+pub mod Meanings
+pub mod Passes

@@ -1,0 +1,72 @@
+//! The second pass: all definitions in text order, which gives their atoms, and what variables and functions are.
+ghost use Rattle.std.specs.Prelude.{◌≡◌, ◌+◌, ◌++◌, ◌<◌, IfOk, List, OnOk, Some as Present, length, ℕ};
+ghost use Rattle.bal_base.specs.Stops.{IfFault};
+ghost use Rattle.descriptors.specs.Described.{Atoms};
+ghost use Rattle.descriptors.specs.Drafts.{AreNamesBelow, AreSound};
+ghost use Rattle.descriptors.specs.Naming.{entry_in};
+ghost use Rattle.descriptors.specs.Steps.{AreOwnTypes};
+ghost use Rattle.descriptors.specs.declared.names.Entry.{Entry as AnyEntry};
+ghost use Rattle.name_resolution.specs.Definitions.{definitions_of, functions_in as functions_in_def};
+ghost use Rattle.type_builder.specs.Building.{AreNamesOf, MeaningBelow};
+ghost use Rattle.type_builder.specs.Keeping.{AreKept};
+ghost use Rattle.type_builder.specs.Listing.{IsListing, placed_of};
+ghost use Rattle.type_builder.specs.Passes.{AreNamed, HaveRoom, IsValueNoted, end_of};
+
+use crate::keeping::new_draft;
+use crate::meanings::meaning;
+use crate::noting::note;
+use crate::placed::{Listing, Site};
+use bal_base::{Fault, Memory, Stop};
+use bal_tree::{Def, Package};
+use descriptors::{Meaning, Names};
+use std::alloc::Global;
+use type_model::AtomDef;
+
+/// The atoms of the definitions of a package, in the order of their numbers; and what variables and functions stand for.
+pub(crate) fn define(
+    alloc: Global,
+    package: &Package,
+    listing: &Listing,
+    names: &mut Names,
+) -> Result<Vec<AtomDef>, Stop<Fault>>
+    requires named { AreNamed «package».now }
+    requires listed { IsListing (definitions_of «package».now) listing.now }
+    requires room { HaveRoom listing.now.first «package».now }
+    requires kept { AreKept «package».now names.old.own listing.now.first names.old }
+    requires below { AreNamesBelow names.old (end_of listing.now.first «package».now) }
+    ensures defined { IfOk result (λ group. (old : Atoms) → length old ≡ listing.now.first → AreOwnTypes (old ++ group.items) names.old.own → AreNamesOf «package».now names.old.own old group.items names.new) }
+    ensures long { IfOk result (λ group. listing.now.first + length group.items ≡ end_of listing.now.first «package».now) }
+    ensures sound { IfOk result (λ group. AreSound (listing.now.first + length group.items) group.items) }
+    ensures meanings { IfOk result (λ group. (home : ℕ) (name : List ℕ) (e : AnyEntry) → entry_in names.new name home ≡ Present e → MeaningBelow (end_of listing.now.first «package».now) e.meaning) }
+    ensures faultless { IfFault result (λ f. ⊥) }
+{
+    let mut draft = new_draft(alloc, listing.first as usize);
+    let mut unit = 0;
+    for site in &listing.sites {
+        let meant = meaning(alloc, &mut draft, names, site.scope(), unit, site.def)?;
+        note_value(names, site, meant)?;
+        unit += functions_in(site.def);
+    }
+    Ok(draft.atoms)
+}
+
+/// How many functions it defines.
+fn functions_in(def: &Def) -> u32
+    ensures { result ≡ functions_in_def def.now }
+{
+    match def {
+        Def::Type(_) | Def::Const(_) | Def::Variable(_) => 0,
+        Def::Function(_) => 1,
+    }
+}
+
+/// From here on a variable or a function stands for this; types and constants are left.
+fn note_value(names: &mut Names, site: &Site, meaning: Meaning) -> Result<(), Memory>
+    requires { site.now.«module» < length names.old.modules.items }
+    ensures { OnOk result (IsValueNoted (placed_of site.now) site.now.def.now meaning names.old names.new) }
+{
+    match site.def {
+        Def::Type(_) | Def::Const(_) => Ok(()),
+        Def::Variable(_) | Def::Function(_) => note(names, site, meaning),
+    }
+}

@@ -1,0 +1,213 @@
+//! What the function `main` has to be.
+ghost use Rattle.std.specs.Prelude.{◌≡◌, ◌↔◌, IfOk, IsTrue, Some as Present, true};
+ghost use Rattle.std.specs.Char.{is_ascii};
+ghost use Rattle.std.specs.List.{list_all};
+ghost use Rattle.std.specs.Option.{option_copied};
+ghost use Rattle.checks.specs.Checks.{Comes};
+ghost use Rattle.descriptors.specs.Described.{Atoms};
+ghost use Rattle.descriptors.specs.Naming.{entry_in};
+ghost use Rattle.type_builder.specs.MainFunction.{IsErrorOrNil, ResultsAreDefined, gives_errors, good_if, has_form as has_form_of, if_main, main_name, main_among as main_among_of, main_fits, main_fits_if, main_if as main_if_of, main_in_files as main_in_files_of, main_of as main_of_package, result_in as result_in_names, result_of as result_of_meaning, takes_words as takes_words_of};
+ghost use Rattle.type_model.specs.Defined.{IsDefined};
+ghost use Rattle.type_model.specs.Places.{is_same_text};
+
+use crate::string_words::type_is_string;
+use bal_base::{Fault, FaultCode, Kept, Memory, Name, Place, Stop};
+use bal_tree::{Def, FunctionDef, Package, Param, SourceFile};
+use checks::is_below;
+use descriptors::{Entry, Meaning, Names};
+use std::alloc::Global;
+use type_model::{BasicSet, SemType, Types};
+
+/// Whether the function `main`, where the default module has one, is public, has no parameter or `string...` alone, and gives
+/// nothing but errors and nil: else `BadMain` at its first token. `TypeLimit` there where the question about what it gives is too
+/// large.
+pub fn check_main<T: Types>(
+    alloc: Global,
+    types: &mut T,
+    package: &Package,
+    names: &Names,
+) -> Result<(), Stop<Fault>>
+    requires defined { ResultsAreDefined (T.atoms types.old) names.now «package».now.main }
+    ensures atoms { T.atoms types.new ≡ T.atoms types.old }
+    ensures comes { Comes (main_fits T.passes «package».now names.now) (T.atoms types.old) result (T.atoms types.new) }
+{
+    match main_of(package) {
+        Some(f) => function_fits(alloc, types, names, package.main, f),
+        None => Ok(()),
+    }
+}
+
+fn function_fits<T: Types>(
+    alloc: Global,
+    types: &mut T,
+    names: &Names,
+    home: u32,
+    f: &FunctionDef,
+) -> Result<(), Stop<Fault>>
+    requires defined { ResultsAreDefined (T.atoms types.old) names.now home }
+    ensures atoms { T.atoms types.new ≡ T.atoms types.old }
+    ensures comes { Comes (main_fits_if T.passes names.now home (Present f.now)) (T.atoms types.old) result (T.atoms types.new) }
+{
+    if has_form(f) {
+        match result_in(names, home, &f.name.name) {
+            Some(given) => below_errors(alloc, types, given, f.at),
+            None => Ok(()),
+        }
+    } else {
+        good(f.at, false)
+    }
+}
+
+/// Whether what a function gives is an error or nil.
+fn below_errors<T: Types>(
+    alloc: Global,
+    types: &mut T,
+    given: &SemType,
+    at: Place,
+) -> Result<(), Stop<Fault>>
+    requires defined { IsDefined (T.atoms types.old) given.now }
+    ensures atoms { T.atoms types.new ≡ T.atoms types.old }
+    ensures comes { Comes (gives_errors T.passes given.now at) (T.atoms types.old) result (T.atoms types.new) }
+{
+    let errors = match errors_or_nil(alloc) {
+        Ok(errors) => errors,
+        Err(Memory) => return Err(Stop::Memory),
+    };
+    match is_below(alloc, types, given, &errors, Some(at)) {
+        Ok(fits) => good(at, fits),
+        Err(stop) => Err(stop),
+    }
+}
+
+fn errors_or_nil(alloc: Global) -> Result<SemType, Memory>
+    ensures { IfOk result (λ t. (env : Atoms) → IsErrorOrNil env t) }
+{
+    let errors = Box::new(alloc, SemType::Basic(BasicSet::ErrorAll))?;
+    let nil = Box::new(alloc, SemType::Basic(BasicSet::Nil))?;
+    Ok(SemType::Or(errors, nil))
+}
+
+/// `BadMain` unless the function fits.
+#[tactic(auto, unfolding(checks::specs::Checks::Comes, checks::specs::Checks::gives_some, checks::specs::Checks::refuses))]
+fn good(at: Place, fits: bool) -> Result<(), Stop<Fault>>
+    ensures { (env : Atoms) → Comes (good_if at fits) env result env }
+{
+    if fits {
+        Ok(())
+    } else {
+        Err(Stop::Fault(Fault {
+            code: FaultCode::BadMain,
+            at: Some(at),
+            kept: Kept::Nothing,
+        }))
+    }
+}
+
+// ---- what functions give
+
+/// What a function of a module gives.
+fn result_in<'a>(names: &'a Names, home: u32, name: &Name) -> Option<&'a SemType>
+    ensures { option_copied result ≡ result_in_names names.now home name.now }
+{
+    result_of(&entry(names, home, name)?.meaning)
+}
+
+fn entry<'a>(names: &'a Names, home: u32, name: &Name) -> Option<&'a Entry>
+    ensures { option_copied result ≡ entry_in names.now name.now home }
+{
+    names.modules.get(home as usize)?.entries.get(name)
+}
+
+fn result_of(meaning: &Meaning) -> Option<&SemType>
+    ensures { option_copied result ≡ result_of_meaning meaning.now }
+{
+    match meaning {
+        Meaning::Function(f) => Some(&f.result.sem),
+        Meaning::TypeName(_) | Meaning::Constant(_) | Meaning::Variable { .. } => None,
+    }
+}
+
+// ---- which function it is
+
+/// The function `main` of the default module.
+fn main_of(package: &Package) -> Option<&FunctionDef>
+    ensures { option_copied result ≡ main_of_package «package».now }
+{
+    main_in_files(
+        package
+            .modules
+            .as_slice()
+            .get(package.main as usize)?
+            .files
+            .as_slice(),
+    )
+}
+
+fn main_in_files(files: &[SourceFile]) -> Option<&FunctionDef>
+    ensures { option_copied result ≡ main_in_files_of files.now }
+{
+    for file in files {
+        if let Some(f) = main_among(&file.tree.defs) {
+            return Some(f);
+        }
+    }
+    None
+}
+
+fn main_among(defs: &[Def]) -> Option<&FunctionDef>
+    ensures { option_copied result ≡ main_among_of defs.now }
+{
+    for def in defs {
+        if let Some(f) = main_if(def) {
+            return Some(f);
+        }
+    }
+    None
+}
+
+fn main_if(def: &Def) -> Option<&FunctionDef>
+    ensures { option_copied result ≡ main_if_of def.now }
+{
+    match def {
+        Def::Function(f) => named_main(f),
+        Def::Type(_) | Def::Const(_) | Def::Variable(_) => None,
+    }
+}
+
+fn named_main(f: &FunctionDef) -> Option<&FunctionDef>
+    ensures { option_copied result ≡ if_main f.now }
+{
+    if is_main(&f.name.name) { Some(f) } else { None }
+}
+
+fn is_main(name: &Name) -> bool
+    ensures { result ≡ is_same_text name.now main_name }
+{
+    is_word(name, "main")
+}
+
+/// Whether the name is this word.
+fn is_word(name: &Name, word: &str) -> bool
+    requires { list_all is_ascii word.now ≡ true }
+    ensures { IsTrue result ↔ (name.now ≡ word.now) }
+{
+    name.as_str() == word
+}
+
+// ---- its form
+
+/// Whether a function is public and has no parameter or `string...` alone.
+fn has_form(f: &FunctionDef) -> bool
+    ensures { result ≡ has_form_of f.now }
+{
+    f.public && f.params.params.is_empty() && takes_words(&f.params.rest)
+}
+
+fn takes_words(rest: &Option<Param>) -> bool
+    ensures { result ≡ takes_words_of rest.now }
+{
+    match rest {
+        None => true,
+        Some(p) => type_is_string(&p.ty),
+    }
+}

@@ -1,0 +1,167 @@
+//! What single definitions mean, over a draft of atoms.
+ghost use Rattle.std.specs.Prelude.{[], IfOk, map};
+ghost use Rattle.std.specs.List.{AllZip};
+ghost use Rattle.descriptors.specs.Described.{IsCopy};
+ghost use Rattle.descriptors.specs.Descriptors.{in_a_row};
+ghost use Rattle.descriptors.specs.Drafts.{AreNamesBelow, Drafts, all_drafted, drafted_if};
+ghost use Rattle.descriptors.specs.Steps.{AllBelow, IfBelow};
+ghost use Rattle.descriptors.specs.declared.names.Names.{Names as AllNames};
+ghost use Rattle.descriptors.specs.declared.names.Scope.{Scope as AnyScope};
+ghost use Rattle.type_builder.specs.Building.{MeaningBelow, SignatureBelow};
+ghost use Rattle.type_builder.specs.Meanings.{IsCopyIf, constant_drafted, meaning_drafted, param_descriptor, rest_descriptor, signature_drafted, signed_drafted};
+ghost use Rattle.type_model.specs.Defined.{TyBelow};
+
+use crate::noting::value_set;
+use bal_base::{Fault, Memory, Stop};
+use bal_tree::{ConstDef, Def, FunctionDef, Param};
+use descriptors::{
+    Draft, Meaning, Names, Scope, Signature, copy, new_arrow, plain, result_type, type_if,
+    type_tree,
+};
+use std::alloc::Global;
+use type_model::{SemType, Ty, TyList};
+
+/// What a definition means, where so many functions come before it.
+pub(crate) fn meaning(
+    alloc: Global,
+    draft: &mut Draft,
+    names: &Names,
+    scope: Scope,
+    unit: u32,
+    def: &Def,
+) -> Result<Meaning, Stop<Fault>>
+    ensures { Drafts (AreNamesBelow names.now) MeaningBelow (meaning_drafted names.now scope unit def.now) draft.old result draft.new }
+{
+    match def {
+        Def::Type(d) => {
+            let t = type_tree(alloc, draft, names, scope, &d.ty)?;
+            Ok(Meaning::TypeName(t))
+        }
+        Def::Const(d) => constant(alloc, draft, names, scope, d),
+        Def::Variable(d) => {
+            let ty = type_tree(alloc, draft, names, scope, &d.ty)?;
+            Ok(Meaning::Variable {
+                is_final: d.is_final,
+                ty,
+            })
+        }
+        Def::Function(d) => {
+            let signature = signature(alloc, draft, names, scope, unit, d)?;
+            Ok(Meaning::Function(signature))
+        }
+    }
+}
+
+/// A constant has the type of its value; the type that it is given may need atoms.
+fn constant(
+    alloc: Global,
+    draft: &mut Draft,
+    names: &Names,
+    scope: Scope,
+    d: &ConstDef,
+) -> Result<Meaning, Stop<Fault>>
+    ensures { Drafts (AreNamesBelow names.now) MeaningBelow (constant_drafted names.now scope d.now) draft.old result draft.new }
+{
+    let _declared = type_if(alloc, draft, names, scope, &d.ty)?;
+    Ok(Meaning::Constant(plain(alloc, SemType::Basic(value_set(&d.value)))))
+}
+
+fn signature(
+    alloc: Global,
+    draft: &mut Draft,
+    names: &Names,
+    scope: Scope,
+    unit: u32,
+    d: &FunctionDef,
+) -> Result<Signature, Stop<Fault>>
+    ensures { Drafts (AreNamesBelow names.now) SignatureBelow (signature_drafted names.now scope unit d.now) draft.old result draft.new }
+{
+    let fixed = params(alloc, draft, names, scope, &d.params.params)?;
+    let rest = rest_type(alloc, draft, names, scope, &d.params.rest)?;
+    let result = result_type(alloc, draft, names, scope, &d.result)?;
+    signed(alloc, draft, unit, d, fixed, rest, result)
+}
+
+/// The signature of a function of these types.
+fn signed(
+    alloc: Global,
+    draft: &mut Draft,
+    unit: u32,
+    d: &FunctionDef,
+    fixed: TyList,
+    rest: Option<Ty>,
+    given: Ty,
+) -> Result<Signature, Stop<Fault>>
+    ensures { (names : AllNames) (scope : AnyScope) → Drafts (λ n. (AllBelow n fixed × IfBelow n rest) × TyBelow n given) SignatureBelow (signed_drafted names scope unit d.now fixed rest given) draft.old result draft.new }
+{
+    let params = copies(alloc, &fixed)?;
+    let others = copy_if(alloc, &rest)?;
+    let gives = copy(alloc, &given)?;
+    let arrow = new_arrow(alloc, draft, d.isolated, fixed, rest, given.sem, d.at)?;
+    Ok(Signature {
+        unit,
+        isolated: d.isolated,
+        params,
+        rest: others,
+        result: gives,
+        arrow,
+    })
+}
+
+fn copies(alloc: Global, types: &TyList) -> Result<TyList, Memory>
+    ensures { IfOk result (AllZip IsCopy types.now) }
+{
+    let mut out = Vec::new(alloc);
+    for t in types.as_slice() {
+        let other = copy(alloc, t)?;
+        out.push(other)?;
+    }
+    Ok(TyList::of(out))
+}
+
+fn copy_if(alloc: Global, t: &Option<Ty>) -> Result<Option<Ty>, Memory>
+    ensures { IfOk result (IsCopyIf t.now) }
+{
+    match t {
+        None => Ok(None),
+        Some(t) => {
+            let other = copy(alloc, t)?;
+            Ok(Some(other))
+        }
+    }
+}
+
+fn params(
+    alloc: Global,
+    draft: &mut Draft,
+    names: &Names,
+    scope: Scope,
+    params: &[Param],
+) -> Result<TyList, Stop<Fault>>
+    ensures { Drafts (AreNamesBelow names.now) AllBelow (all_drafted names.now scope [] (in_a_row (map param_descriptor params.now))) draft.old result draft.new }
+{
+    let mut out = Vec::new(alloc);
+    for p in params {
+        let t = type_tree(alloc, draft, names, scope, &p.ty)?;
+        out.push(t)?;
+    }
+    Ok(TyList::of(out))
+}
+
+fn rest_type(
+    alloc: Global,
+    draft: &mut Draft,
+    names: &Names,
+    scope: Scope,
+    rest: &Option<Param>,
+) -> Result<Option<Ty>, Stop<Fault>>
+    ensures { Drafts (AreNamesBelow names.now) IfBelow (drafted_if names.now scope (rest_descriptor rest.now)) draft.old result draft.new }
+{
+    match rest {
+        None => Ok(None),
+        Some(p) => {
+            let t = type_tree(alloc, draft, names, scope, &p.ty)?;
+            Ok(Some(t))
+        }
+    }
+}
