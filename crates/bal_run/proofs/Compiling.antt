@@ -20,11 +20,11 @@ use Rattle.bal_run.proofs.FindingMain.{short-front, whole-bytes}
 
 -- ---- files that are too long
 
-not-short : (bytes : List ℕ) → MOST_FILE_BYTES < length bytes → IsText bytes → ⊥
+pub not-short : (bytes : List ℕ) → MOST_FILE_BYTES < length bytes → IsText bytes → ⊥
 not-short bytes long t = let short = t.0 in omega arith
 
 -- each fault of a file that is too long is that one
-long-has : (bytes : List ℕ) (f : FaultOf) → MOST_FILE_BYTES < length bytes → HasFault bytes f → f ≡ fault_at Syntax 0
+pub long-has : (bytes : List ℕ) (f : FaultOf) → MOST_FILE_BYTES < length bytes → HasFault bytes f → f ≡ fault_at Syntax 0
 long-has bytes f long (inl (inl h)) = h.1
 long-has bytes f long (inl (inr (inl h))) = absurd (let short = h.0 in omega arith)
 long-has bytes f long (inl (inr (inr (inl h)))) = absurd (not-short bytes long h.0)
@@ -63,7 +63,7 @@ refused-text text fault r stop h is stopped =
     })
 
 -- bytes that are too many, or no text
-not-text-has : (bytes : List ℕ) (fault other : FaultOf) → NotText bytes fault → HasFault bytes other → other ≡ fault
+pub not-text-has : (bytes : List ℕ) (fault other : FaultOf) → NotText bytes fault → HasFault bytes other → other ≡ fault
 not-text-has bytes fault other n (inl (inl h)) = absurd (let short = n.0 in let long = h.0 in omega arith)
 not-text-has bytes fault other n (inl (inr (inl h))) = h.2 ∙ sym n.2
 not-text-has bytes fault other n (inl (inr (inr (inl h)))) = absurd (n.1 h.0.1)
@@ -73,7 +73,7 @@ not-text-has bytes fault other n (inr (inl h)) = absurd (n.1 h.0.1.are.0.1)
 not-text-has bytes fault other n (inr (inr h)) = absurd (n.1 h.0.1.are.0.1)
 
 -- at the start the place is told alike, whatever follows
-at-start : (bytes : List ℕ) (fault : FaultOf) (code : FaultCode) → fault ≡ fault_at code 0 → refusal_of [] fault ≡ refusal_of bytes fault
+pub at-start : (bytes : List ℕ) (fault : FaultOf) (code : FaultCode) → fault ≡ fault_at code 0 → refusal_of [] fault ≡ refusal_of bytes fault
 at-start bytes fault code e = ap (refusal_of []) e ∙ sym (ap (refusal_of bytes) e)
 
 refused-at-start : (bytes : List ℕ) (fault : FaultOf) → TooLong bytes fault ⊎ NotText bytes fault → IsRefusedSo bytes (refusal_of [] fault)
@@ -99,10 +99,10 @@ refused-bytes bytes fault r stop h is stopped = refused-or-not bytes r stop (ref
 
 -- ---- the file and its front
 
-short-or-long : (n : ℕ) → (n ≤ MOST_FILE_BYTES) ⊎ (MOST_FILE_BYTES < n)
+pub short-or-long : (n : ℕ) → (n ≤ MOST_FILE_BYTES) ⊎ (MOST_FILE_BYTES < n)
 short-or-long n = grind arith
 
-front-long : (bytes front : List ℕ) → front ≡ take (MOST_FILE_BYTES + 1) bytes → MOST_FILE_BYTES < length front → MOST_FILE_BYTES < length bytes
+pub front-long : (bytes front : List ℕ) → front ≡ take (MOST_FILE_BYTES + 1) bytes → MOST_FILE_BYTES < length front → MOST_FILE_BYTES < length bytes
 front-long bytes front e long = omega (arith, ap length e, length-take (MOST_FILE_BYTES + 1) bytes, long)
 
 refused-file : (bytes front : List ℕ) (r : Refusal) → front ≡ take (MOST_FILE_BYTES + 1) bytes → IsRefusedSo front r → IsRefusedSo bytes r

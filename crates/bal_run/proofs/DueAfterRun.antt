@@ -38,7 +38,7 @@ run-can-report (Err (Fault f)) status is = subst CanReport (sym is) (_, refl)
 
 -- ---- what was written is a front of what is due
 
-appended-front : (xs o : List ℕ) (w v : Option (List ℕ)) → IsPrefixOf xs o → Told (Appends xs) w v → Told (AppendsFront o) w v
+pub appended-front : (xs o : List ℕ) (w v : Option (List ℕ)) → IsPrefixOf xs o → Told (Appends xs) w v → Told (AppendsFront o) w v
 appended-front xs o (Some a) (Some b) p e = (xs, p, e)
 appended-front xs o None None p e = tt
 appended-front xs o (Some a) None p e = absurd e

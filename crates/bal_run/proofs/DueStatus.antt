@@ -10,15 +10,17 @@ use Rattle.bal_run.specs.declared.status.Built.{Built}
 use Rattle.bal_run.specs.declared.status.Run.{Run}
 use Rattle.bal_run.specs.declared.status.Status.{Status}
 use Rattle.bal_run.specs.declared.status.Status.TheVariants.{Done, Panicked, Refused, FolderFault, OutFault, Memory, Words}
-use Rattle.bal_run.specs.Due.{BadFolder, BadWords, CameToEnd, CodeRan, FolderFails, FolderRefused, IsAsked, IsBeforeRun, NoMemoryToBuild, NoMemoryToRun, NothingRan, OutputFailed, Outside, RunEnded, RunStopped, SinkTells, StatusIsDue, WroteFrontOf, status_of}
+use Rattle.bal_run.specs.Due.{BadFolder, BadWords, CameToEnd, CodeRan, FolderFails, FolderRefused, HasNoAnswer, IsAnswered, IsAsked, IsBeforeRun, IsCut, IsWhole, NoMemoryToBuild, NoMemoryToRun, NoMemoryToWrite, NothingRan, OutputFailed, Outside, QuestionRefused, Questioned, RunEnded, RunStopped, SinkTells, StatusIsDue, WroteFrontOf, status_of}
 use Rattle.bal_run.specs.Evaluation.{Evaluates}
 use Rattle.bal_run.specs.Files.{Files, HasNoMain, CompilesTo, IsBuiltOf, IsMainFile, IsRefusalOf, IsRefusedSo, MainHas}
 use Rattle.bal_run.specs.Progress.{CameSoFar, StoppedInPrint}
 use Rattle.bal_run.specs.Source.{HasFault, ReadsWith, no_main, refusal_of}
 use Rattle.bal_run.specs.Sums.{IsSumProgram}
-use Rattle.bal_run.specs.Words.{IsGood}
+use Rattle.bal_run.specs.Questions.{answer_bytes}
+use Rattle.bal_run.specs.Words.{IsGood, IsRun, NoQuestion}
 use Rattle.sum_code.specs.Outcome.{Outcome, nothing}
 use Rattle.bal_run.proofs.DueAfterRun.{front-so-far}
+use Rattle.bal_run.proofs.QuestionWords.{question-good, run-alone, run-good}
 use Rattle.bal_run.proofs.Simulation.{CodeRuns-one}
 
 -- ---- statuses of ends
@@ -47,10 +49,10 @@ ends-after (PanickedEnd m) h = h
 
 -- ---- main files
 
-main-there : (all : Files) (bytes : List ℕ) → HasNoMain all → IsMainFile all bytes → ⊥
+pub main-there : (all : Files) (bytes : List ℕ) → HasNoMain all → IsMainFile all bytes → ⊥
 main-there all bytes none m = none m.0 m.1.0
 
-one-main : (all : Files) (bytes other : List ℕ) → IsMainFile all bytes → IsMainFile all other → bytes ≡ other
+pub one-main : (all : Files) (bytes other : List ℕ) → IsMainFile all bytes → IsMainFile all other → bytes ≡ other
 one-main all bytes other (k, (n, first), b) (j, (m, least), c) =
     let same : k ≡ j = ⊎_elim (λ lt. absurd (least k lt n)) (λ (r : (k ≡ j) ⊎ (j < k)). ⊎_elim (λ e. e) (λ lt. absurd (first j lt m)) r) (order k j) in
     let both : Some bytes ≡ Some other = sym b ∙ (ap (slice_get (map (λ f. f.1) all)) same ∙ c) in cc
@@ -67,8 +69,24 @@ so-far built made before after due h =
 module _ (words : List (String Global)) (before after : Outside) (run : Run) (due : Status) (d : StatusIsDue words before after run due) where
   -- ---- the cause of the status
 
-  by-stage : {P : Type 0} → (BadWords words before after run due → P) → (BadFolder words before after run due → P) → (CodeRan words before after run due → P) → P
-  by-stage f g h = ⊎_elim f (λ r. ⊎_elim g h r) d
+  pub by-stage : {P : Type 0} → (BadWords words before after run due → P) → (BadFolder words before after run due → P) → (CodeRan words before after run due → P) → (Questioned words before after run due → P) → P
+  by-stage f g h k = ⊎_elim f (λ r. ⊎_elim g (λ q. ⊎_elim h k q) r) d
+
+  -- the cause of what comes of a question
+  pub by-answer :
+      {P : Type 0} (q : Questioned words before after run due) →
+      ((a : IsAnswered q.s q.t before after due) → IsWhole (answer_bytes a.answer) before.out after.out due → P) →
+      ((a : IsAnswered q.s q.t before after due) → IsCut (answer_bytes a.answer) before.out after.out due → P) →
+      ((a : IsAnswered q.s q.t before after due) → NoMemoryToWrite (answer_bytes a.answer) before.out after.out due → P) →
+      (HasNoAnswer q.s q.t before after due → FolderFails before.folder after.folder due → P) →
+      (HasNoAnswer q.s q.t before after due → QuestionRefused q.s q.t before.folder after.folder due → P) →
+      (HasNoAnswer q.s q.t before after due → NoMemoryToBuild before.folder after.folder due → P) →
+      P
+  by-answer q f g h k l m =
+      ⊎_elim
+      (λ a. ⊎_elim (f a) (λ r. ⊎_elim (g a) (h a) r) a.written)
+      (λ n. ⊎_elim (k n) (λ r. ⊎_elim (l n) (m n) r) n.cause)
+      q.ended
 
   by-cause :
       {P : Type 0} →
@@ -79,11 +97,16 @@ module _ (words : List (String Global)) (before after : Outside) (run : Run) (du
       ((c : CodeRan words before after run due) → RunEnded c.built run.steps before.out after.out due → P) →
       ((c : CodeRan words before after run due) → OutputFailed c.built run.steps before.out after.out due → P) →
       ((c : CodeRan words before after run due) → NoMemoryToRun c.built run.steps before.out after.out due → P) →
+      (Questioned words before after run due → P) →
       P
-  by-cause f g h k l m n =
+  by-cause f g h k l m n o =
       by-stage f
       (λ b. ⊎_elim (g b) (λ r. ⊎_elim (h b) (k b) r) b.cause)
       (λ c. ⊎_elim (l c) (λ r. ⊎_elim (m c) (n c) r) c.cause)
+      o
+
+  not-asked : {P : Type 0} → NoQuestion words → Questioned words before after run due → P
+  not-asked alone q = absurd (alone q.s q.t q.is)
 
   -- ---- another answer of the same run
 
@@ -98,17 +121,18 @@ module _ (words : List (String Global)) (before after : Outside) (run : Run) (du
       by-stage
       (λ b. inl (record { due = b.due; bad = b.bad; folder = b.folder; nothing = nothing-again status b.nothing }))
       (λ b. inr (inl (record { cause = b.cause; good = b.good; nothing = nothing-again status b.nothing })))
-      (λ c. inr (inr (record { built = c.built; cause = c.cause; good = c.good; folder = c.folder; kept = c.kept; compiled = c.compiled; turns = c.turns })))
+      (λ c. inr (inr (inl (record { built = c.built; cause = c.cause; good = c.good; folder = c.folder; kept = c.kept; compiled = c.compiled; turns = c.turns }))))
+      (λ q. inr (inr (inr (record { s = q.s; t = q.t; is = q.is; ended = q.ended; built = q.built; steps = q.steps; turns = q.turns }))))
 
   -- ---- what was built
 
   built-where-some : (P : Built → Type 0) → ((c : CodeRan words before after run due) → P c.built) → IfSome run.built P
   built-where-some P h =
-      by-stage (λ b. subst (λ o. IfSome o P) (sym b.nothing.built) tt) (λ b. subst (λ o. IfSome o P) (sym b.nothing.built) tt) (λ c. subst (λ o. IfSome o P) (sym c.kept) (h c))
+      by-stage (λ b. subst (λ o. IfSome o P) (sym b.nothing.built) tt) (λ b. subst (λ o. IfSome o P) (sym b.nothing.built) tt) (λ c. subst (λ o. IfSome o P) (sym c.kept) (h c)) (λ q. subst (λ o. IfSome o P) (sym q.built) tt)
 
-  none-built : (Q : Type 0) → (NothingRan before after run → Q) → IfNone run.built Q
-  none-built Q h =
-      by-stage (λ b. subst (λ o. IfNone o Q) (sym b.nothing.built) (h b.nothing)) (λ b. subst (λ o. IfNone o Q) (sym b.nothing.built) (h b.nothing)) (λ c. subst (λ o. IfNone o Q) (sym c.kept) tt)
+  none-built : (Q : Type 0) → (NothingRan before after run → Q) → (Questioned words before after run due → Q) → IfNone run.built Q
+  none-built Q h k =
+      by-stage (λ b. subst (λ o. IfNone o Q) (sym b.nothing.built) (h b.nothing)) (λ b. subst (λ o. IfNone o Q) (sym b.nothing.built) (h b.nothing)) (λ c. subst (λ o. IfNone o Q) (sym c.kept) tt) (λ q. subst (λ o. IfNone o Q) (sym q.built) (k q))
 
   pub built-compiles : IfSome run.built (CompilesTo before.folder.files)
   built-compiles = built-where-some (CompilesTo before.folder.files) (λ c. c.compiled)
@@ -126,16 +150,30 @@ module _ (words : List (String Global)) (before after : Outside) (run : Run) (du
       built-where-some (λ b. WroteFrontOf b before.out.written after.out.written)
       (λ c. front-so-far c.built run.steps before.out.written after.out.written c.compiled.2.simulates (so-far c.built run.steps before.out after.out due c.cause))
 
-  pub unbuilt-written : IfNone run.built (after.out.written ≡ before.out.written)
-  unbuilt-written = none-built (after.out.written ≡ before.out.written) (λ n. n.written)
+  pub unbuilt-written : NoQuestion words → IfNone run.built (after.out.written ≡ before.out.written)
+  unbuilt-written alone = none-built (after.out.written ≡ before.out.written) (λ n. n.written) (not-asked alone)
 
   pub unbuilt-steps : IfNone run.built (run.steps ≡ 0)
-  unbuilt-steps = none-built (run.steps ≡ 0) (λ n. n.steps)
+  unbuilt-steps = none-built (run.steps ≡ 0) (λ n. n.steps) (λ q. q.steps)
 
   pub unbuilt-turns : IfNone run.built (run.turns ≡ 0)
-  unbuilt-turns = none-built (run.turns ≡ 0) (λ n. n.turns)
+  unbuilt-turns = none-built (run.turns ≡ 0) (λ n. n.turns) (λ q. q.turns)
 
   -- ---- before the run
+
+  -- a question that has no answer
+  unanswered : (q : Questioned words before after run due) → HasNoAnswer q.s q.t before after due → NothingRan before after run
+  unanswered q n = record { built = q.built; steps = q.steps; turns = q.turns; faults = n.faults; written = n.written }
+
+  question-before : IsBeforeRun due → Questioned words before after run due → NothingRan before after run
+  question-before h q =
+      by-answer q
+      (λ a e. absurd (subst IsBeforeRun e.0 h))
+      (λ a e. absurd (subst IsBeforeRun e.0 h))
+      (λ a e. absurd (subst IsBeforeRun e.0 h))
+      (λ n f. unanswered q n)
+      (λ n f. unanswered q n)
+      (λ n f. unanswered q n)
 
   pub nothing-ran : IsBeforeRun due → NothingRan before after run
   nothing-ran h =
@@ -143,9 +181,11 @@ module _ (words : List (String Global)) (before after : Outside) (run : Run) (du
       (λ c e. absurd (ends-after e.0.end (subst IsBeforeRun e.1 h)))
       (λ c e. absurd (subst IsBeforeRun e.0 h))
       (λ c e. absurd (subst IsBeforeRun e.0 h))
+      (question-before h)
 
   pub only-words : (IsGood words → ⊥) → due ≡ Words
-  only-words bad = by-stage (λ b. b.due) (λ b. absurd (bad b.good)) (λ c. absurd (bad c.good))
+  only-words bad =
+      by-stage (λ b. b.due) (λ b. absurd (bad (run-good words b.good))) (λ c. absurd (bad (run-good words c.good))) (λ q. absurd (bad (question-good words q.s q.t q.is)))
 
   pub words-bad : due ≡ Words → IsGood words → ⊥
   words-bad e good =
@@ -156,6 +196,13 @@ module _ (words : List (String Global)) (before after : Outside) (run : Run) (du
       (λ c f. not-end due Words f.0.end refl e f.1)
       (λ c f. let k = f.0 in let bad : ⊥ = cc in bad)
       (λ c f. let k = f.0 in let bad : ⊥ = cc in bad)
+      (λ q. by-answer q
+      (λ a f. let k = f.0 in let bad : ⊥ = cc in bad)
+      (λ a f. let k = f.0 in let bad : ⊥ = cc in bad)
+      (λ a f. let k = f.0 in let bad : ⊥ = cc in bad)
+      (λ n f. let k = f.0 in let bad : ⊥ = cc in bad)
+      (λ n f. let k = f.1 in let bad : ⊥ = cc in bad)
+      (λ n f. let k = f.0 in let bad : ⊥ = cc in bad))
 
   pub only-folder : before.folder.faults < after.folder.faults → due ≡ FolderFault
   only-folder up =
@@ -167,6 +214,13 @@ module _ (words : List (String Global)) (before after : Outside) (run : Run) (du
       (λ c f. absurd (let same = c.folder in omega arith))
       (λ c f. absurd (let same = c.folder in omega arith))
       (λ c f. absurd (let same = c.folder in omega arith))
+      (λ q. by-answer q
+      (λ a f. absurd (let same = a.folder in omega arith))
+      (λ a f. absurd (let same = a.folder in omega arith))
+      (λ a f. absurd (let same = a.folder in omega arith))
+      (λ n f. f.0)
+      (λ n f. absurd (let same = f.3 in omega arith))
+      (λ n f. absurd (let same = f.1 in omega arith)))
 
   pub folder-rose : due ≡ FolderFault → Rises before.folder.faults after.folder.faults
   folder-rose e =
@@ -178,11 +232,18 @@ module _ (words : List (String Global)) (before after : Outside) (run : Run) (du
       (λ c f. absurd (not-end due FolderFault f.0.end refl e f.1))
       (λ c f. absurd (let k = f.0 in let bad : ⊥ = cc in bad))
       (λ c f. absurd (let k = f.0 in let bad : ⊥ = cc in bad))
+      (λ q. by-answer q
+      (λ a f. absurd (let k = f.0 in let bad : ⊥ = cc in bad))
+      (λ a f. absurd (let k = f.0 in let bad : ⊥ = cc in bad))
+      (λ a f. absurd (let k = f.0 in let bad : ⊥ = cc in bad))
+      (λ n f. f.1)
+      (λ n f. absurd (let k = f.1 in let bad : ⊥ = cc in bad))
+      (λ n f. absurd (let k = f.0 in let bad : ⊥ = cc in bad)))
 
   -- ---- refusals
 
-  pub refusal : (r : Refusal) → due ≡ Refused r → IsRefusalOf before.folder.files r
-  refusal r e =
+  pub refusal : NoQuestion words → (r : Refusal) → due ≡ Refused r → IsRefusalOf before.folder.files r
+  refusal alone r e =
       by-cause
       (λ b. absurd (let k = b.due in let bad : ⊥ = cc in bad))
       (λ b f. absurd (let k = f.0 in let bad : ⊥ = cc in bad))
@@ -191,19 +252,21 @@ module _ (words : List (String Global)) (before after : Outside) (run : Run) (du
       (λ c f. absurd (not-end due (Refused r) f.0.end refl e f.1))
       (λ c f. absurd (let k = f.0 in let bad : ⊥ = cc in bad))
       (λ c f. absurd (let k = f.0 in let bad : ⊥ = cc in bad))
+      (not-asked alone)
 
-  abbrev OrFailed : Status → Type 0
+  abbrev pub OrFailed : Status → Type 0
   OrFailed other = (due ≡ other) ⊎ ((due ≡ FolderFault) ⊎ (due ≡ Memory))
 
   -- where one refusal alone may come, and nothing is compiled, it comes, unless the folder failed or memory ran out
-  refused-so : (r : Refusal) → IsGood words → ((q : Refusal) → IsRefusalOf before.folder.files q → q ≡ r) → ((built : Built) → CompilesTo before.folder.files built → ⊥) → OrFailed (Refused r)
+  refused-so : (r : Refusal) → IsRun words → ((q : Refusal) → IsRefusalOf before.folder.files q → q ≡ r) → ((built : Built) → CompilesTo before.folder.files built → ⊥) → OrFailed (Refused r)
   refused-so r good one none =
       by-stage
-      (λ b. absurd (b.bad good))
+      (λ b. absurd (b.bad (run-good words good)))
       (λ b. ⊎_elim (λ f. inr (inl f.0)) (λ q. ⊎_elim (λ f. inl (f.1 ∙ ap Refused (one f.0 f.2))) (λ f. inr (inr f.0)) q) b.cause)
       (λ c. absurd (none c.built c.compiled))
+      (not-asked (run-alone words good))
 
-  pub no-file-due : (all : Files) → before.folder.files ≡ Some all → IsGood words → HasNoMain all → OrFailed (Refused no_main)
+  pub no-file-due : (all : Files) → before.folder.files ≡ Some all → IsRun words → HasNoMain all → OrFailed (Refused no_main)
   no-file-due all e good none =
       refused-so no_main good
       (λ q h. ⊎_elim (λ a. a.0) (λ b. absurd (main-there all b.0 none (subst (λ f. MainHas f b.0) e b.1))) h)
@@ -228,9 +291,10 @@ module _ (words : List (String Global)) (before after : Outside) (run : Run) (du
     pub built-due : ReadsWith bytes IsSumProgram → IsSome run.built ⊎ ((due ≡ FolderFault) ⊎ (due ≡ Memory))
     built-due is =
         by-stage
-        (λ b. absurd (b.bad asked.0))
+        (λ b. absurd (b.bad (run-good words asked.0)))
         (λ b. ⊎_elim (λ f. inr (inl f.0)) (λ q. ⊎_elim (λ f. absurd (refused f.0 f.2)) (λ f. inr (inr f.0)) q) b.cause)
         (λ c. inl (subst (λ o. IsSome o) (sym c.kept) refl))
+        (not-asked (run-alone words asked.0))
       where
         refused : (r : Refusal) → IsRefusalOf before.folder.files r → ⊥
         refused r h =
@@ -241,8 +305,9 @@ module _ (words : List (String Global)) (before after : Outside) (run : Run) (du
 
   -- ---- the run
 
-  pub ended-so : (end : End) → due ≡ status_of end → IsSomeAnd run.built (λ b. CameToEnd end b run.steps before.out.written after.out.written)
-  ended-so end e =
+  -- the words are no question, or the end is none of a question
+  pub ended-so : (Questioned words before after run due → ⊥) → (end : End) → due ≡ status_of end → IsSomeAnd run.built (λ b. CameToEnd end b run.steps before.out.written after.out.written)
+  ended-so other end e =
       by-cause
       (λ b. absurd (not-end due Words end refl b.due e))
       (λ b f. absurd (not-end due FolderFault end refl f.0 e))
@@ -251,6 +316,20 @@ module _ (words : List (String Global)) (before after : Outside) (run : Run) (du
       (λ c f. subst (λ o. IsSomeAnd o (λ b. CameToEnd end b run.steps before.out.written after.out.written)) (sym c.kept) (f.0, one-end f.0.end end (sym f.1 ∙ e), f.3))
       (λ c f. absurd (not-end due OutFault end refl f.0 e))
       (λ c f. absurd (not-end due Memory end refl f.0 e))
+      (λ q. absurd (other q))
+
+  pub no-panic : (message : List ℕ) → due ≡ Panicked message → Questioned words before after run due → ⊥
+  no-panic message e q =
+      by-answer q
+      (λ a f. let k = f.0 in let bad : ⊥ = cc in bad)
+      (λ a f. let k = f.0 in let bad : ⊥ = cc in bad)
+      (λ a f. let k = f.0 in let bad : ⊥ = cc in bad)
+      (λ n f. let k = f.0 in let bad : ⊥ = cc in bad)
+      (λ n f. let k = f.1 in let bad : ⊥ = cc in bad)
+      (λ n f. let k = f.0 in let bad : ⊥ = cc in bad)
+
+  pub unasked : NoQuestion words → Questioned words before after run due → ⊥
+  unasked alone q = alone q.s q.t q.is
 
   pub end-due : (Rises before.out.faults after.out.faults → ⊥) → IfSome run.built (λ b. (outcome : Outcome) → Evaluates b.tree nothing outcome → (due ≡ status_of outcome.end) ⊎ (due ≡ Memory))
   end-due fine =
@@ -272,15 +351,41 @@ module _ (words : List (String Global)) (before after : Outside) (run : Run) (du
       (λ c f. absurd (let same = f.2 in omega arith))
       (λ c f. f.0)
       (λ c f. absurd (let same = f.1 in omega arith))
+      (λ q. by-answer q
+      (λ a f. absurd (let same = f.1 in omega arith))
+      (λ a f. f.0)
+      (λ a f. absurd (let same = f.1 in omega arith))
+      (λ n f. absurd (let same = n.faults in omega arith))
+      (λ n f. absurd (let same = n.faults in omega arith))
+      (λ n f. absurd (let same = n.faults in omega arith)))
 
-  -- the output failed, and so the run stood in a print
-  pub out-failed : due ≡ OutFault → Rises before.out.faults after.out.faults × IsSomeAnd run.built (λ b. StoppedInPrint b.code run.steps before.out.written after.out.written)
-  out-failed e =
+  pub out-rose : due ≡ OutFault → Rises before.out.faults after.out.faults
+  out-rose e =
       by-cause
       (λ b. absurd (let k = b.due in let bad : ⊥ = cc in bad))
       (λ b f. absurd (let k = f.0 in let bad : ⊥ = cc in bad))
       (λ b f. absurd (let k = f.1 in let bad : ⊥ = cc in bad))
       (λ b f. absurd (let k = f.0 in let bad : ⊥ = cc in bad))
       (λ c f. absurd (not-end due OutFault f.0.end refl e f.1))
-      (λ c f. (f.1, subst (λ o. IsSomeAnd o (λ b. StoppedInPrint b.code run.steps before.out.written after.out.written)) (sym c.kept) f.2))
+      (λ c f. f.1)
       (λ c f. absurd (let k = f.0 in let bad : ⊥ = cc in bad))
+      (λ q. by-answer q
+      (λ a f. absurd (let k = f.0 in let bad : ⊥ = cc in bad))
+      (λ a f. f.1)
+      (λ a f. absurd (let k = f.0 in let bad : ⊥ = cc in bad))
+      (λ n f. absurd (let k = f.0 in let bad : ⊥ = cc in bad))
+      (λ n f. absurd (let k = f.1 in let bad : ⊥ = cc in bad))
+      (λ n f. absurd (let k = f.0 in let bad : ⊥ = cc in bad)))
+
+  -- the output failed in a run, and so that stood in a print
+  pub out-failed : NoQuestion words → due ≡ OutFault → IsSomeAnd run.built (λ b. StoppedInPrint b.code run.steps before.out.written after.out.written)
+  out-failed alone e =
+      by-cause
+      (λ b. absurd (let k = b.due in let bad : ⊥ = cc in bad))
+      (λ b f. absurd (let k = f.0 in let bad : ⊥ = cc in bad))
+      (λ b f. absurd (let k = f.1 in let bad : ⊥ = cc in bad))
+      (λ b f. absurd (let k = f.0 in let bad : ⊥ = cc in bad))
+      (λ c f. absurd (not-end due OutFault f.0.end refl e f.1))
+      (λ c f. subst (λ o. IsSomeAnd o (λ b. StoppedInPrint b.code run.steps before.out.written after.out.written)) (sym c.kept) f.2)
+      (λ c f. absurd (let k = f.0 in let bad : ⊥ = cc in bad))
+      (not-asked alone)

@@ -4,6 +4,10 @@ pub mod DueStatus
 pub mod FindingMain
 pub mod Instructions
 pub mod OutputGrows
+pub mod QuestionAnswers
+pub mod QuestionDue
+pub mod QuestionEnds
+pub mod QuestionWords
 pub mod Refusals
 pub mod Reporting
 pub mod RunSoFar

@@ -1,5 +1,5 @@
--- Refusals by the code of their fault, and their texts.
-use Rattle.std.proofs.Common.{◌≡◌, ◌⊎◌, ℕ, List, Option, Some, None, refl, sym, ap, subst, ◌∙◌, inl, inr, ⊎_elim, codes}
+-- Refusals by the code of their fault.
+use Rattle.std.proofs.Common.{◌≡◌, ◌⊎◌, ℕ, List, Option, Some, None, refl, sym, ap, subst, ◌∙◌, inl, inr, ⊎_elim}
 use Rattle.std.specs.Prelude.{IfSome}
 use Rattle.bal_base.specs.declared.fault.Fault.{Fault}
 use Rattle.bal_base.specs.declared.fault.FaultCode.{FaultCode}
@@ -9,10 +9,7 @@ use Rattle.bal_base.specs.declared.place.Place.{Place}
 use Rattle.bal_lexer.specs.Lexes.{RefusesFrom, left_out, bad_token, past_gap, past_token}
 use Rattle.bal_run.specs.Due.{MainIsRefused}
 use Rattle.bal_run.specs.Files.{Files, HasNoMain, IsRefusalOf}
-use Rattle.bal_run.specs.Report.{CanReport}
 use Rattle.bal_run.specs.Source.{Broken, HasFault, IsNotBuilt, LacksMain, NotText, NotTokens, ReadsWith, TooDeep, TooLong, fault_of, no_main, not_built, refusal_of, told_at}
-use Rattle.bal_run.specs.Status.{Says, refusal_text}
-use Rattle.bal_run.specs.declared.status.Status.TheVariants.{Refused}
 
 -- ---- the code of a fault
 
@@ -77,25 +74,3 @@ main-missing files r (inr (bytes, main, so)) e =
 
 pub not-built-yet : (files : Option Files) (r : Refusal) → MainIsRefused files r (λ bytes fault. ReadsWith bytes IsNotBuilt × (fault ≡ fault_of NotBuilt)) → (r ≡ not_built) × MainIsRefused files r (λ bytes fault. ReadsWith bytes IsNotBuilt)
 not-built-yet files r (bytes, fault, main, h, is) = (is ∙ ap (refusal_of bytes) h.1, (bytes, fault, main, h.0, is))
-
--- ---- texts
-
-says : (bytes : List ℕ) (fault : Fault) (code : FaultCode) → AtCode bytes fault code → (words : List ℕ) × Says code words
-says bytes fault NotUtf8 h = (_, refl)
-says bytes fault BadToken h = (_, refl)
-says bytes fault LeftOut h = (_, refl)
-says bytes fault Depth h = (_, refl)
-says bytes fault Syntax h = (_, refl)
-says bytes fault NoMain h = (_, refl)
-says bytes fault NotBuilt h = (_, refl)
-says bytes fault code h = absurd h
-
-reported : (r : Refusal) (words : List ℕ) → Says r.fault.code words → CanReport (Refused r)
-reported r words s = (refusal_text r words, (words, s, refl))
-
-pub refusal-can-report : (files : Option Files) (r : Refusal) → IsRefusalOf files r → CanReport (Refused r)
-refusal-can-report files r (inl h) = subst (λ x. CanReport (Refused x)) (sym h.0) (reported no_main (codes "no public function main") refl)
-refusal-can-report files r (inr (bytes, main, so)) =
-    let same = fault-of bytes r so.fault so.is in
-    let words = says bytes so.fault so.fault.code (at-code bytes so.fault so.has) in
-    reported r words.0 (subst (λ (f : Fault). Says f.code words.0) (sym same) words.1)

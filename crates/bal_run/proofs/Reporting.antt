@@ -124,6 +124,10 @@ module _ (due status : Status) (before after : SinkTells) (r : Reports due statu
   pub come-or-fail : (other : Status) → (due ≡ other) ⊎ ((due ≡ FolderFault) ⊎ (due ≡ Memory)) → ComesTo other status ⊎ ComesTo FolderFault status
   come-or-fail other h = ⊎_elim (λ e. inl (comes-from other e)) (λ q. inr (come-or-memory FolderFault q)) h
 
+  pub come-or-cut : (one two three : Status) → (due ≡ one) ⊎ ((due ≡ two) ⊎ ((due ≡ three) ⊎ (due ≡ Memory))) → ComesTo one status ⊎ (ComesTo two status ⊎ ComesTo three status)
+  come-or-cut one two three h =
+      ⊎_elim (λ e. inl (comes-from one e)) (λ q. ⊎_elim (λ e. inr (inl (comes-from two e))) (λ r. inr (inr (come-or-memory three r))) q) h
+
   -- a status other than those of failed reports was due
   pub due-is : (other : Status) → (other ≡ DiagFault → ⊥) → (other ≡ Memory → ⊥) → status ≡ other → due ≡ other
   due-is other diag memory e = was-due (λ k. diag (sym e ∙ k)) (λ k. memory (sym e ∙ k)) ∙ e

@@ -69,7 +69,7 @@ Compiled files (Err (Fault Folder)) = ⊤
 Compiled files (Err (Fault (Source refusal))) = IsRefusalOf files refusal
 
 -- the count of faults rose exactly where the folder failed
-abbrev pub CountsFolderFaults : ℕ → ℕ → Result Built (Stop LoadFault) → Type 0
+abbrev pub CountsFolderFaults : {A : Type 0} → ℕ → ℕ → Result A (Stop LoadFault) → Type 0
 CountsFolderFaults old new (Err (Fault Folder)) = Rises old new
 CountsFolderFaults old new _ = new ≡ old
 

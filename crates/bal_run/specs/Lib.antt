@@ -3,6 +3,7 @@ pub mod Evaluation
 pub mod Files
 pub mod Lowering
 pub mod Progress
+pub mod Questions
 pub mod Report
 pub mod Running
 pub mod Source

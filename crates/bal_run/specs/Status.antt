@@ -1,10 +1,6 @@
 -- The numbers and the texts of the statuses.
-use Rattle.std.specs.Prelude.{◌≡◌, ◌++◌, ℕ, List, [], ◌∷◌, Option, Some, None, codes, decimal, encode_utf8_all}
-use Rattle.bal_base.specs.FaultCode.{code_number}
-use Rattle.bal_base.specs.declared.fault.FaultCode.{FaultCode}
-use Rattle.bal_base.specs.declared.fault.FaultCode.TheVariants.{NotUtf8, BadToken, Syntax, Depth, LeftOut, NotBuilt, NoMain}
-use Rattle.bal_base.specs.declared.fault.Refusal.{Refusal}
-use Rattle.bal_base.specs.declared.place.Place.{Place}
+use Rattle.std.specs.Prelude.{◌≡◌, ◌++◌, ℕ, List, [], ◌∷◌, codes, encode_utf8_all}
+use Rattle.bal_report.specs.RefusalText.{refusal_text}
 use Rattle.bal_run.specs.declared.status.Status.{Status}
 use Rattle.bal_run.specs.declared.status.Status.TheVariants.{Done, ErrorReturned, Panicked, Refused, GoesOn, Stalled, FolderFault, InputFault, OutFault, Memory, Words, Limit, DiagFault}
 
@@ -25,34 +21,13 @@ exit_status DiagFault = 12
 
 -- ---- texts
 
--- what the codes say that come so far, and no other
-abbrev pub Says : FaultCode → List ℕ → Type 0
-Says NotUtf8 words = words ≡ codes "not UTF-8"
-Says BadToken words = words ≡ codes "not a token"
-Says Syntax words = words ≡ codes "not a definition"
-Says Depth words = words ≡ codes "nested too deeply"
-Says LeftOut words = words ≡ codes "left out of this profile"
-Says NotBuilt words = words ≡ codes "not built yet"
-Says NoMain words = words ≡ codes "no public function main"
-Says _ words = ⊥
-
--- the text behind its place, `FILE:LINE:COLUMN: `, where the fault has one
-abbrev pub at_place : Refusal → Option Place → List ℕ → List ℕ
-at_place r (Some at) text =
-    encode_utf8_all r.file ++ (codes ":" ++ (decimal r.line ++ (codes ":" ++ (decimal r.column ++ (codes ": " ++ text)))))
-at_place r None text = text
-
--- `FILE:LINE:COLUMN: CODE WORDS`, with a line end
-abbrev pub refusal_text : Refusal → List ℕ → List ℕ
-refusal_text r words =
-    at_place r r.fault.at (decimal (code_number r.fault.code) ++ (codes " " ++ (words ++ 10 ∷ [])))
-
--- the text for the diagnostics of a status that comes so far, with its line end; a program that is done says nothing
+-- the text for the diagnostics of a status that comes so far, with its line end; a program that is done says nothing, and no
+-- refusal that comes so far shows events of workers, which would be found in the files
 abbrev pub HasText : Status → List ℕ → Type 0
 HasText Done text = text ≡ []
 HasText (ErrorReturned m) text = ⊥
 HasText (Panicked m) text = text ≡ codes "panic: " ++ (encode_utf8_all m ++ 10 ∷ [])
-HasText (Refused r) text = (words : List ℕ) × Says r.fault.code words × (text ≡ refusal_text r words)
+HasText (Refused r) text = text ≡ encode_utf8_all (refusal_text [] r)
 HasText (GoesOn n) text = ⊥
 HasText (Stalled r) text = ⊥
 HasText FolderFault text = text ≡ codes "cannot read the folder\n"

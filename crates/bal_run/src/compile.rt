@@ -85,7 +85,7 @@ fn built_of(alloc: Global, text: &str) -> Result<Built, Stop<Refusal>>
 }
 
 /// A fault of `main.bal` with its place as people read it: the text is that of the file, at least up to the place.
-fn refusal(alloc: Global, text: &str, fault: Fault) -> Result<Refusal, Memory>
+pub fn refusal(alloc: Global, text: &str, fault: Fault) -> Result<Refusal, Memory>
     requires { IsPlaced text.now fault }
     ensures { IfOk result (λ r. r ≡ refusal_of text.now fault) }
 {
@@ -109,7 +109,8 @@ fn refusal(alloc: Global, text: &str, fault: Fault) -> Result<Refusal, Memory>
     }
 }
 
-fn stop(refusal: Result<Refusal, Memory>) -> Stop<Refusal>
+/// The stop by a refusal, if there was memory for it.
+pub fn stop(refusal: Result<Refusal, Memory>) -> Stop<Refusal>
     ensures { IsStopOf refusal result }
 {
     match refusal {
@@ -119,7 +120,7 @@ fn stop(refusal: Result<Refusal, Memory>) -> Stop<Refusal>
 }
 
 /// The bytes of the first file that is named `main.bal`, as far as one byte more than a file may have.
-fn main_front<F: Folder>(alloc: Global, folder: &mut F) -> Result<Option<Vec<u8>>, Stop<Failed>>
+pub fn main_front<F: Folder>(alloc: Global, folder: &mut F) -> Result<Option<Vec<u8>>, Stop<Failed>>
     ensures faults { CountsFaults (F.faults folder.old) (F.faults folder.new) result }
     ensures front { IfOk result (λ front. IfSome (F.files folder.old) (λ files. IsFrontOfMain files front)) }
 {

@@ -67,7 +67,8 @@ fn is_io_import(import: &Import) -> bool
     is_of_io(import) && import.more.is_empty() && import.prefix.is_none()
 }
 
-fn is_of_io(import: &Import) -> bool
+/// Whether the import is of `ballerina/io` or of a module below it.
+pub fn is_of_io(import: &Import) -> bool
     ensures { IsTrue result ↔ IsOfIo import.now }
 {
     is_word(&import.first.name, "ballerina") && is_io(&import.second)

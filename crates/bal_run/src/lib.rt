@@ -6,13 +6,14 @@
 //!
 //! The layers below the call that have no crates of their own yet: `source` makes the tree of a source file or says
 //! why it is refused, by `form` where it is no program of sums; `lower` makes its code, `compile` puts these together,
-//! and `machine` runs code. `report` tells how a call ended.
+//! and `machine` runs code. `question` answers whether one type is below another. `report` tells how a call ended.
 #![tactic(auto)]
 
 mod compile;
 mod form;
 mod lower;
 mod machine;
+mod question;
 mod report;
 mod source;
 mod status;

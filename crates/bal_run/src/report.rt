@@ -4,11 +4,12 @@ ghost use Rattle.bal_io.specs.Content.{Told, Appends, AppendsFront};
 ghost use Rattle.bal_io.specs.Faults.{CountsFaults, Rises};
 ghost use Rattle.bal_run.specs.Due.{sink_tells};
 ghost use Rattle.bal_run.specs.Report.{CanReport, HasFixedText, Reports, WroteFrontOfText};
-ghost use Rattle.bal_run.specs.Status.{HasText, Says};
+ghost use Rattle.bal_run.specs.Status.{HasText};
 
 use crate::status::Status;
-use bal_base::{Failed, FaultCode, Memory, Refusal, Stop, Text};
+use bal_base::{Failed, Memory, Refusal, Stop, Text};
 use bal_io::Sink;
+use bal_report::refusal_text;
 use std::alloc::Global;
 
 /// Tells the status that is due, and gives the one that it comes to.
@@ -58,7 +59,7 @@ fn write_text<E: Sink>(alloc: Global, status: &Status, diag: &mut E) -> Result<(
 {
     match status {
         Status::Panicked(message) => diag.write(panic_text(alloc, message)?.as_bytes()),
-        Status::Refused(refusal) => diag.write(refusal_text(alloc, refusal)?.as_bytes()),
+        Status::Refused(refusal) => diag.write(refused_text(alloc, refusal)?.as_bytes()),
         other => diag.write(fixed_text(other)),
     }
 }
@@ -72,35 +73,10 @@ fn panic_text(alloc: Global, message: &Text) -> Result<String, Memory>
 }
 
 /// The text of a refusal: its place, where it has one, its code and what that says.
-fn refusal_text(alloc: Global, refusal: &Refusal) -> Result<String, Memory>
-    requires { CanReport (Status.Refused refusal.now) }
+fn refused_text(alloc: Global, refusal: &Refusal) -> Result<String, Memory>
     ensures { IfOk result (λ text. HasText (Status.Refused refusal.now) (string_bytes text)) }
 {
-    let file = refusal.file.as_str();
-    let (line, column) = (refusal.line, refusal.column);
-    let code = refusal.fault.code.number();
-    let words = words_of(refusal.fault.code);
-    match refusal.fault.at {
-        Some(_) => Ok(format!(in alloc; "{file}:{line}:{column}: {code} {words}\n")?),
-        None => Ok(format!(in alloc; "{code} {words}\n")?),
-    }
-}
-
-/// What the code says, of those that come so far.
-fn words_of(code: FaultCode) -> &'static str
-    requires { (words : List ℕ) × Says code words }
-    ensures { Says code result.now }
-{
-    match code {
-        FaultCode::NotUtf8 => "not UTF-8",
-        FaultCode::BadToken => "not a token",
-        FaultCode::Syntax => "not a definition",
-        FaultCode::Depth => "nested too deeply",
-        FaultCode::LeftOut => "left out of this profile",
-        FaultCode::NotBuilt => "not built yet",
-        FaultCode::NoMain => "no public function main",
-        _ => unreachable!(),
-    }
+    refusal_text(alloc, refusal, &[])
 }
 
 /// The text of a status that says the same each time.

@@ -47,7 +47,7 @@ pub fn program_of(alloc: Global, text: &str) -> Result<FileTree, Stop<Fault>>
 }
 
 /// The tree of this text, or the fault of `lex` or of `parse_file`.
-fn tree_of(alloc: Global, text: &str) -> Result<FileTree, Stop<Fault>>
+pub fn tree_of(alloc: Global, text: &str) -> Result<FileTree, Stop<Fault>>
     requires { IsText text.now }
     ensures { IsTreeReading text.now result }
 {

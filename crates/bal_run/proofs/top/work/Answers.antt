@@ -1,25 +1,19 @@
-use Rattle.std.proofs.Common.{sym, ap, subst, inr}
+use Rattle.std.proofs.Common.{sym, ap, subst}
 use Rattle.bal_run.specs.declared.status.Run.{Run}
 use Rattle.bal_run.specs.Report.{CanReport}
-use Rattle.bal_run.proofs.Texts.{load-can-report, words-can-report}
+use Rattle.bal_run.proofs.QuestionEnds.{asked-so}
+use Rattle.bal_run.proofs.QuestionWords.{question-small}
 use Rattle.bal_run.proofs.top.work.Goals as goal
 
-pub returns-then-not-is_good-clause-text : goal.returns-then-not-is_good-clause-text
-returns-then-not-is_good-clause-text g c = subst CanReport (sym (ap (λ (r : Run). r.status) c.not_run.ensures)) words-can-report
+pub ask-requires-clause-left : goal.ask-requires-clause-left
+ask-requires-clause-left g c = (question-small c.args.words.now c.in-Some.s.now c.in-Some.t.now c.in-Some.ensures).0
 
-pub returns-in-Ok-clause-due : goal.returns-in-Ok-clause-due
-returns-in-Ok-clause-due g c =
-    inr (inr (record {
-      built = c.in-Ok.built;
-      cause = c.execute.ensures.stopped;
-      good = c.is_good.ensures.0 c.if-not-is_good.false;
-      folder = c.in-Ok.ensures.faults;
-      kept = c.execute.ensures.kept;
-      compiled = c.in-Ok.ensures.compiled;
-      turns = c.execute.ensures.turns;
-    }))
+pub ask-requires-clause-right : goal.ask-requires-clause-right
+ask-requires-clause-right g c = (question-small c.args.words.now c.in-Some.s.now c.in-Some.t.now c.in-Some.ensures).1
 
-pub returns-in-Err-clause-text : goal.returns-in-Err-clause-text
-returns-in-Err-clause-text g c =
-    subst CanReport (sym (ap (λ (r : Run). r.status) c.not_run-in-Err.ensures))
-    (load-can-report (g.F.Folder.files c.args.folder.now) c.in-Err.stop c.load_status.result c.in-Err.ensures.compiled c.load_status.ensures)
+pub returns-in-Some-clause-due : goal.returns-in-Some-clause-due
+returns-in-Some-clause-due g c =
+    asked-so c.args.words.now _ _ c.not_run.result c.ask.result c.in-Some.s.now c.in-Some.t.now c.in-Some.ensures c.ask.ensures.ended c.not_run.ensures
+
+pub returns-in-Some-clause-text : goal.returns-in-Some-clause-text
+returns-in-Some-clause-text g c = subst CanReport (sym (ap (λ (r : Run). r.status) c.not_run.ensures)) c.ask.ensures.text

@@ -1,0 +1,47 @@
+-- How a question ends, by its answer and by how that was written.
+use Rattle.std.proofs.Common.{◌≡◌, ℕ, List, sym, ap, subst, ◌∙◌, inl, inr}
+use Rattle.std.specs.Prelude.{None, Ok, Err, String, string_bytes}
+use Rattle.std.specs.Global.{Global}
+use Rattle.bal_base.specs.declared.stop.Stop.{Stop}
+use Rattle.bal_base.specs.declared.stop.Stop.TheVariants.{Memory as NoMemory, Fault}
+use Rattle.bal_run.specs.declared.compile.LoadFault.{LoadFault}
+use Rattle.bal_run.specs.declared.compile.LoadFault.TheVariants.{Folder, Source}
+use Rattle.bal_run.specs.declared.status.Run.{Run}
+use Rattle.bal_run.specs.declared.status.Status.{Status}
+use Rattle.bal_run.specs.Due.{IsWritten, Outside, QuestionEnded, StatusIsDue}
+use Rattle.bal_run.specs.Files.{CountsFolderFaults}
+use Rattle.bal_run.specs.Questions.{Answers}
+use Rattle.bal_run.specs.Words.{IsQuestion}
+use Rattle.bal_run.specs.Work.{IsStatusOfLoad}
+use Rattle.bal_run.proofs.Texts.{bytes-written}
+
+module _ (s t : List ℕ) (before after : Outside) (status : Status) where
+  -- an answer was written
+  pub ends-written : (text : String Global) (bytes : List ℕ) → bytes ≡ string_bytes text → Answers before.folder.files s t (Ok text) → after.folder.faults ≡ before.folder.faults → IsWritten bytes before.out after.out status → QuestionEnded s t before after status
+  ends-written text bytes same (answer, has, told) folder w =
+      inl (record {
+        answer = answer;
+        has = has;
+        folder = folder;
+        written = subst (λ l. IsWritten l before.out after.out status) (same ∙ bytes-written text _ told) w;
+      })
+
+  -- there is none
+  pub ends-without : (stop : Stop LoadFault) → Answers before.folder.files s t (Err stop) → CountsFolderFaults {A = String Global} before.folder.faults after.folder.faults (Err stop) → IsStatusOfLoad stop status → after.out.faults ≡ before.out.faults → after.out.written ≡ before.out.written → QuestionEnded s t before after status
+  ends-without NoMemory h counts is faults written = inr (record { cause = inr (inr (is, counts)); faults = faults; written = written })
+  ends-without (Fault Folder) h counts is faults written = inr (record { cause = inl (is, counts); faults = faults; written = written })
+  ends-without (Fault (Source r)) h counts is faults written =
+      inr (record { cause = inr (inl (r, is, h, counts)); faults = faults; written = written })
+
+-- the status of a question that ended so
+pub asked-so : (words : List (String Global)) (before after : Outside) (run : Run) (status : Status) (s t : List ℕ) → IsQuestion words s t → QuestionEnded s t before after status → run ≡ record { status = status; built = None; turns = 0; steps = 0 } → StatusIsDue words before after run run.status
+asked-so words before after run status s t is ended made =
+    inr (inr (inr (record {
+      s = s;
+      t = t;
+      is = is;
+      ended = subst (λ (x : Status). QuestionEnded s t before after x) (sym (ap (λ (r : Run). r.status) made)) ended;
+      built = ap (λ (r : Run). r.built) made;
+      steps = ap (λ (r : Run). r.steps) made;
+      turns = ap (λ (r : Run). r.turns) made;
+    })))
