@@ -6,7 +6,7 @@ pub mod Given
 pub mod Looking
 pub mod Made
 pub mod Operands
-pub mod Panics
+pub mod PanicNames
 pub mod Room
 pub mod Settling
 pub mod Standing

@@ -15,6 +15,9 @@
 //!   what was sent, and whose needs are met.
 //! - [`settle`], [`block`], [`end_strand`] and [`end_worker`]: who becomes ready, and how strands and workers stand.
 //!
+//! - [`Came`], [`lifted`], [`make_error`], [`panics`], [`gives_structure`] and their kin: what bodies of further operations are put
+//!   together of.
+//!
 //! `body_of` in `specs/Operation.antt` has a line for each operation.
 #![tactic(auto)]
 
@@ -36,16 +39,22 @@ mod world;
 
 pub use constructors::{perform_make_function, perform_make_list};
 pub use dispatch::perform;
-pub use effect::{Effect, Ints, Performed, Spawned, perform_ints};
+pub use effect::{Effect, Ints, Performed, Spawned, lifted, perform_ints};
 pub use facts::{Facts, UnitFacts, WorkerFacts};
-pub use frames::{perform_call, perform_load, perform_panic, perform_return, perform_tick};
+pub use frames::{
+    perform_call, perform_load, perform_panic, perform_return, perform_tick, share_all,
+};
 pub use held::{
     Activation, Asker, Channel, Common, End, ErrorObject, FunctionObject, Heap, Members, Need,
     Role, Status, Strand, Structure, ToRun, World,
 };
+pub use making::{gives_function, gives_structure, new_structure};
 pub use needs::{channel, has_ended, has_success, is_met, is_success, strand_end, worker_end};
 pub use op::{Op, TestedType};
 pub use strands::{block, end_strand, end_worker, settle};
-pub use strings::perform_concat;
-pub use values::{Comparison, perform_compare, perform_negate, perform_not, perform_same};
+pub use strings::{gives_text, perform_concat};
+pub use values::{
+    Comparison, is_same, perform_compare, perform_negate, perform_not, perform_same, told,
+};
 pub use variables::{perform_load_module, perform_store_module};
+pub use world::{Came, has_room_for, make_error, panics};

@@ -3,7 +3,7 @@ use Rattle.std.specs.Str.{chars}
 use Rattle.plain_run.specs.Came.{IsErrorMade}
 use Rattle.plain_run.specs.Held.{world_of}
 use Rattle.plain_run.proofs.Made.{panic-past, panic-threw}
-use Rattle.plain_run.proofs.Panics.{message-chars}
+use Rattle.plain_run.proofs.PanicNames.{message-chars}
 use Rattle.plain_run.proofs.world.panics.Goals as goal
 
 pub returns-in-Some-clause-row : goal.returns-in-Some-clause-row
