@@ -1,0 +1,4 @@
+pub mod Entries
+pub mod Lookups
+pub mod Operands
+pub mod Rows
