@@ -1,0 +1,26 @@
+-- A member of a list that is held, and what it is changed to.
+use Rattle.std.proofs.Common.{◌≡◌, ◌∙◌, ℕ, suc, List, [], ◌∷◌, Some, None, Result, Ok, Err, drop, get_or, length, map, refl, sym, ap, arith}
+use Rattle.std.specs.Prelude.{OnOk, slice_get, slice_set}
+use Rattle.plain_run.proofs.Looking.{get-past, get-there}
+use Rattle.plain_run.proofs.Settling.{set-past, set-there}
+use Rattle.plain_strands.specs.Channels.{changed}
+
+pub changed-there : {X Y : Type 0} (f : X → Y) (g : Y → Y) (xs : List X) (n : ℕ) (x t : X) (d : Y) → slice_get xs n ≡ Some x → f t ≡ g (f x) → map f (slice_set xs n t) ≡ changed g d (map f xs) n
+changed-there f g xs n x t d e h = set-there f xs n t (g (f x)) h ∙ ap (λ y. slice_set (map f xs) n (g y)) (sym (get-there f xs n x d e))
+
+pub changed-past : {X Y : Type 0} (f : X → Y) (g : Y → Y) (xs : List X) (n : ℕ) (d : Y) → slice_get xs n ≡ None → map f xs ≡ changed g d (map f xs) n
+changed-past f g xs n d e = set-past f xs n (g (get_or (map f xs) n d)) e
+
+pub drop-none : {X : Type 0} (xs : List X) → length xs ≡ 0 → xs ≡ drop 1 xs
+drop-none [] e = refl
+drop-none (x ∷ xs) e = absurd (nonzero (length xs) e)
+  where
+    nonzero : (n : ℕ) → suc n ≡ 0 → ⊥
+    nonzero n e = omega arith
+
+-- what follows from what a call that may fail left
+pub on-ok : {A E : Type 0} (P Q : Type 0) (r : Result A E) → (P → Q) → OnOk r P → OnOk r Q
+on-ok P Q (Ok a) f h = f h
+on-ok P Q (Err e) f h = h
+
+pub ruleset changing = (get-there, get-past, changed-past, drop-none)

@@ -1,0 +1,7 @@
+-- Strands and activations that are made.
+use Rattle.std.specs.Prelude.{◌+◌, ◌++◌, ℕ, List, [], ◌∷◌}
+use Rattle.run_model.specs.Common.{Activation, Common}
+
+-- one activation more
+abbrev pub with_another : Common → Activation → Common
+with_another c x = record c { activations = c.activations ++ x ∷ [] }
