@@ -1,0 +1,19 @@
+use Rattle.std.proofs.Common.{◌≡◌, Some, None, rules}
+use Rattle.std.specs.Prelude.{reverse, option_map}
+use Rattle.plain_run.specs.Came.{came_of}
+use Rattle.plain_run.specs.Held.{world_of}
+use Rattle.plain_structures.specs.Lookups.{items_at}
+use Rattle.plain_library.proofs.Given.{list-of-values, no-list-of-values}
+use Rattle.plain_library.proofs.lists.reverse_of.Goals as goal
+
+pub returns-in-None-clause-row : goal.returns-in-None-clause-row
+returns-in-None-clause-row c =
+    let w = world_of c.args.world.now in
+    let none : None ≡ option_map reverse (items_at w.heap c.args.n) = search rules in
+    λ own. no-list-of-values w c.args.n reverse c.args.atom none
+
+pub returns-in_ok-came-in-Some-clause-row : goal.returns-in_ok-came-in-Some-clause-row
+returns-in_ok-came-in-Some-clause-row c =
+    let w = world_of c.args.world.now in
+    let some : Some c.in-Some.items.items ≡ option_map reverse (items_at w.heap c.args.n) = search rules in
+    λ own. list-of-values w c.args.n reverse c.args.atom c.in-Some.items.items (came_of c.in_ok-came-in-Some.came c.gives_list.new.world) some c.in_ok-came-in-Some.ensures.row

@@ -1,0 +1,6 @@
+use Rattle.std.specs.Prelude.{◌≡◌, map, take}
+use Rattle.run_model.specs.Strings.{lower_ascii}
+use Rattle.plain_library.proofs.strings.all_lower.Given as goal
+
+abbrev pub invariant-loop-c : goal.invariant-loop-c
+invariant-loop-c l = l.all.items ≡ map lower_ascii (take l.c-index l.characters)
