@@ -1,0 +1,50 @@
+//! Calls of function values, strands, workers, messages and waits.
+ghost use Rattle.std.specs.Prelude.{IfOk};
+ghost use Rattle.plain_run.specs.Effects.{IsPerformed, Stays};
+ghost use Rattle.plain_run.specs.Operation.{operation_of};
+ghost use Rattle.plain_operations.specs.Bodies.{is_for_strands, part_of};
+
+use crate::on_structures::on_structures;
+use bal_base::Memory;
+use plain_run::{Asker, Common, Facts, Op, Performed};
+use plain_strands::{
+    perform_call_value, perform_done, perform_flush, perform_post, perform_receive, perform_send,
+    perform_start, perform_start_value, perform_wait_all, perform_wait_any, perform_wait_future,
+    perform_wait_worker, perform_workers,
+};
+use std::alloc::Global;
+use value_model::Value;
+
+/// What an operation on strands comes to, or an operation of a later part.
+pub fn on_strands(
+    alloc: Global,
+    facts: &Facts,
+    op: Op,
+    operands: &[Value],
+    asker: &Asker,
+    common: &mut Common,
+) -> Result<Performed, Memory>
+    ensures row { IfOk result (IsPerformed facts.now (operation_of op.entry) operands.now asker.now common.old common.new (is_for_strands (part_of op.entry))) }
+    ensures stays { IfOk result (Stays common.old common.new) }
+{
+    match op {
+        Op::CallValue { count } => perform_call_value(alloc, facts, count, operands, common),
+        Op::Start { unit, count } => perform_start(alloc, unit, count, operands, asker, common),
+        Op::StartValue { count } => {
+            perform_start_value(alloc, facts, count, operands, asker, common)
+        }
+        Op::Workers => perform_workers(alloc, facts, operands, asker, common),
+        Op::Send(worker) => perform_send(alloc, worker, operands, asker, common),
+        Op::Post(worker) => perform_post(alloc, worker, operands, asker, common),
+        Op::Done(worker) => Ok(perform_done(worker, operands, asker, common)),
+        Op::Receive(worker) => perform_receive(alloc, worker, operands, asker, common),
+        Op::Flush(worker) => Ok(perform_flush(worker, operands, asker, common)),
+        Op::WaitWorker(worker) => perform_wait_worker(alloc, worker, operands, asker, common),
+        Op::WaitFuture => perform_wait_future(alloc, operands, common),
+        Op::WaitAny(names) => perform_wait_any(alloc, names, operands, asker, common),
+        Op::WaitAll { atom, awaited } => {
+            perform_wait_all(alloc, facts, atom, awaited, operands, asker, common)
+        }
+        _ => on_structures(alloc, facts, op, operands, asker, common),
+    }
+}

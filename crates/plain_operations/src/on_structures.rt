@@ -1,0 +1,42 @@
+//! Operations that make and read structures, errors and strings.
+ghost use Rattle.std.specs.Prelude.{IfOk};
+ghost use Rattle.plain_run.specs.Effects.{IsPerformed, Stays};
+ghost use Rattle.plain_run.specs.Operation.{operation_of};
+ghost use Rattle.plain_operations.specs.Bodies.{is_for_structures, part_of};
+
+use bal_base::Memory;
+use plain_run::{Asker, Common, Facts, Op, Performed, perform};
+use plain_structures::{
+    perform_get_char, perform_get_field, perform_get_item, perform_get_key, perform_get_optional,
+    perform_make_error, perform_make_mapping,
+};
+use std::alloc::Global;
+use value_model::Value;
+
+/// What an operation on structures comes to, or an operation of `plain_run`.
+pub fn on_structures(
+    alloc: Global,
+    facts: &Facts,
+    op: Op,
+    operands: &[Value],
+    asker: &Asker,
+    common: &mut Common,
+) -> Result<Performed, Memory>
+    ensures row { IfOk result (IsPerformed facts.now (operation_of op.entry) operands.now asker.now common.old common.new (is_for_structures (part_of op.entry))) }
+    ensures stays { IfOk result (Stays common.old common.new) }
+{
+    match op {
+        Op::MakeMapping {
+            atom,
+            immutable,
+            count,
+        } => perform_make_mapping(alloc, atom, immutable, count, operands, common),
+        Op::MakeError { count } => perform_make_error(alloc, count, operands, common),
+        Op::GetItem => perform_get_item(alloc, operands, common),
+        Op::GetKey => Ok(perform_get_key(operands, common)),
+        Op::GetChar => perform_get_char(alloc, operands, common),
+        Op::GetField(name) => Ok(perform_get_field(name, operands, common)),
+        Op::GetOptional(name) => Ok(perform_get_optional(name, operands, common)),
+        _ => perform(alloc, facts, op, operands, asker, common),
+    }
+}
