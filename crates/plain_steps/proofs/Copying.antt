@@ -1,0 +1,5 @@
+-- Frames again.
+use Rattle.std.proofs.lemmas.List.{map-append}
+use Rattle.plain_eval.proofs.Entering.{append-one}
+
+pub ruleset copying = (append-one, map-append)

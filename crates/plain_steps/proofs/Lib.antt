@@ -1,0 +1,10 @@
+pub mod Answered
+pub mod Beginning
+pub mod Calling
+pub mod Copying
+pub mod Endings
+pub mod Leaving
+pub mod Reaching
+pub mod Ringing
+pub mod Spawning
+pub mod Turning

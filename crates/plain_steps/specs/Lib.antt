@@ -1,0 +1,10 @@
+pub mod Answered
+pub mod Begins
+pub mod Ended
+pub mod Ends
+pub mod Going
+pub mod Picks
+pub mod Rings
+pub mod States
+pub mod Steps
+pub mod Whole

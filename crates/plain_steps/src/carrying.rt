@@ -1,0 +1,243 @@
+//! What the effect of an operation makes of a state.
+#![tactic(auto, using(crate::proofs::Calling::calling, crate::proofs::Spawning::spawning))]
+
+ghost use Rattle.std.specs.Prelude.{◌≡◌, ◌∷◌, ◌++◌, [], IfOk, None, OnOk, Some, map, option_map, option_to_list};
+ghost use Rattle.machine_model.specs.Machine as machine;
+ghost use Rattle.machine_model.specs.Machine.{State as StateOf, carried};
+ghost use Rattle.run_model.specs.Common as model;
+ghost use Rattle.run_model.specs.Effects as effects;
+ghost use Rattle.eval_model.specs.Tasks.{Doing};
+ghost use Rattle.plain_eval.specs.Frames.{doing_of};
+ghost use Rattle.plain_run.specs.Effects.{effect_of, spawned_of};
+ghost use Rattle.plain_run.specs.Held.{common_of, need_of, role_of};
+ghost use Rattle.plain_steps.specs.States.{call_of, calls_of, machine_of, others_of};
+ghost use Rattle.plain_steps.specs.Steps.{IsCarried, Stays, StopsSame, asked_of, came, if_all, next_of, resumed};
+ghost use Rattle.plain_steps.specs.declared.held.State.{State as StateHeld};
+
+use crate::begins::begin;
+use crate::calls::push;
+use crate::ends::{give, goes_on, stop, unwind};
+use crate::held::{Call, Program, State};
+use bal_base::{LimitKind, Memory};
+use plain_eval::{Frame, resume};
+use plain_run::{Effect, End, Need, Role, Spawned, block, end_worker};
+use std::alloc::Global;
+use value_model::Value;
+
+/// What a step of the running strand comes to.
+#[derive(Drop)]
+pub enum Next {
+    Moved,
+    /// The running strand stopped, since an action can't be done yet.
+    Blocked,
+    Ended,
+}
+
+/// What is answered for a step.
+#[derive(Drop)]
+pub enum Stepped {
+    /// The step came to this.
+    Did(Next),
+    /// The step needs a tick, and none is left.
+    NeedsTick,
+    /// The step would pass a limit.
+    Limit(LimitKind),
+    /// The step would begin a unit that isn't there.
+    NoUnit,
+    /// There is no step: the frame can do nothing, or its operation comes to nothing on its operands.
+    Stuck,
+    /// The operation has no body yet.
+    NotBuilt,
+}
+
+/// The call goes on with what the operation gave.
+fn gives<'a>(call: Call<'a>, given: Option<Value>, state: &mut State<'a>) -> Result<(), Memory>
+    ensures calls { OnOk result (calls_of state.new.calls.items ≡ resumed (call_of call.entry) (option_to_list given) ∷ calls_of state.old.calls.items) }
+    ensures common { OnOk result (common_of state.new.common ≡ common_of state.old.common) }
+    ensures others { OnOk result (others_of state.new ≡ others_of state.old) }
+{
+    let mut call = call;
+    resume(&mut call.frame, given)?;
+    push(&mut state.calls, call)
+}
+
+/// A panic with this error.
+fn fails<'a>(
+    alloc: Global,
+    program: &Program<'a>,
+    call: Call<'a>,
+    running: u64,
+    error: Value,
+    state: &mut State<'a>,
+) -> Result<Option<Next>, Memory>
+    ensures { IfOk result (λ n. (s : StateOf Doing) → s.common.running ≡ running → s.others ≡ others_of state.old → came n state.new ≡ machine.thrown (machine_of program.now) s (common_of state.old.common) error (call_of call.entry ∷ calls_of state.old.calls.items)) }
+{
+    push(&mut state.calls, call)?;
+    unwind(program, &error, state)?;
+    goes_on(alloc, program, running, End::Panicked(error), state)
+}
+
+/// The strand stops, since the operation can't be done yet: the call is as it was.
+fn waits<'a>(
+    alloc: Global,
+    call: Call<'a>,
+    before: Frame<'a>,
+    running: u64,
+    need: Need,
+    state: &mut State<'a>,
+) -> Result<Next, Memory>
+    ensures { IfOk result (λ n. (M : machine.Machine Doing) (s : StateOf Doing) → s.common.running ≡ running → s.others ≡ others_of state.old → s.common ≡ common_of state.old.common → Some (next_of n state.new) ≡ carried M s (asked_of call.entry before.entry) (doing_of call.entry.frame) (calls_of state.old.calls.items) (effects.Waits (need_of need))) }
+{
+    let call = Call {
+        unit: call.unit,
+        role: call.role,
+        frame: before,
+    };
+    push(&mut state.calls, call)?;
+    block(&mut state.common, need);
+    stop(alloc, running, state);
+    Ok(Next::Blocked)
+}
+
+/// A unit is called.
+fn enters<'a>(
+    alloc: Global,
+    program: &Program<'a>,
+    call: Call<'a>,
+    unit: u32,
+    args: &[Value],
+    state: &mut State<'a>,
+) -> Result<Option<Next>, Memory>
+    ensures { IfOk result (λ n. (s : StateOf Doing) → s.others ≡ others_of state.old → came n state.new ≡ option_map (λ g. machine.Moved (machine.put s (common_of state.old.common) (g ∷ call_of call.entry ∷ calls_of state.old.calls.items))) (machine.begun (machine_of program.now) unit args.now None)) }
+{
+    match begin(alloc, program, unit, args, None)? {
+        None => Ok(None),
+        Some(called) => {
+            push(&mut state.calls, call)?;
+            push(&mut state.calls, called)?;
+            Ok(Some(Next::Moved))
+        }
+    }
+}
+
+/// The call ends with this value.
+fn leaves<'a>(
+    alloc: Global,
+    program: &Program<'a>,
+    call: Call<'a>,
+    before: Frame<'a>,
+    running: u64,
+    v: Value,
+    state: &mut State<'a>,
+) -> Result<Option<Next>, Memory>
+    ensures { IfOk result (λ n. (s : StateOf Doing) → s.common.running ≡ running → s.others ≡ others_of state.old → s.common ≡ common_of state.old.common → came n state.new ≡ carried (machine_of program.now) s (asked_of call.entry before.entry) (doing_of call.entry.frame) (calls_of state.old.calls.items) (effects.Leaves v)) }
+{
+    end_worker(&mut state.common, call.role, End::Returned(v.share()));
+    give(program, v.share(), state)?;
+    goes_on(alloc, program, running, End::Returned(v), state)
+}
+
+/// A strand with this call stands behind the others.
+pub(crate) fn add_strand<'a>(
+    alloc: Global,
+    call: Call<'a>,
+    others: &mut Vec<Vec<Call<'a>>>,
+) -> Result<(), Memory>
+    ensures { OnOk result (map (λ cs. calls_of cs.items) others.new.items ≡ map (λ cs. calls_of cs.items) others.old.items ++ (call_of call.entry ∷ []) ∷ []) }
+{
+    let mut calls = Vec::new(alloc);
+    push(&mut calls, call)?;
+    others.push(calls)?;
+    Ok(())
+}
+
+/// The frames of strands that are made stand behind those of the others, where there are all their units.
+fn begin_all<'a>(
+    alloc: Global,
+    program: &Program<'a>,
+    spawned: &[Spawned],
+    others: &mut Vec<Vec<Call<'a>>>,
+) -> Result<bool, Memory>
+    ensures { IfOk result (λ all. option_map (λ more. map (λ cs. calls_of cs.items) others.old.items ++ more) (machine.all_begun (machine_of program.now) (map spawned_of spawned.now)) ≡ if_all all (map (λ cs. calls_of cs.items) others.new.items)) }
+{
+    match spawned {
+        [] => Ok(true),
+        [s, rest @ ..] => match begin(alloc, program, s.unit, s.args.as_slice(), s.role)? {
+            None => Ok(false),
+            Some(call) => {
+                add_strand(alloc, call, others)?;
+                begin_all(alloc, program, rest, others)
+            }
+        },
+    }
+}
+
+/// Strands were made; the call is this worker from now on, and is given this.
+fn spawns<'a>(
+    alloc: Global,
+    program: &Program<'a>,
+    call: Call<'a>,
+    spawned: &[Spawned],
+    role: Option<Role>,
+    given: Option<Value>,
+    state: &mut State<'a>,
+) -> Result<Option<Next>, Memory>
+    ensures { IfOk result (λ n. (s : StateOf Doing) (f : machine.Frame Doing) → f.unit ≡ call.entry.unit → s.others ≡ others_of state.old → came n state.new ≡ carried (machine_of program.now) s f (doing_of call.entry.frame) (calls_of state.old.calls.items) (effects.Spawns (map spawned_of spawned.now) (option_map role_of role) (option_to_list given) (common_of state.old.common))) }
+{
+    if !begin_all(alloc, program, spawned, &mut state.others)? {
+        return Ok(None);
+    }
+    let mut call = call;
+    call.role = role;
+    gives(call, given, state)?;
+    Ok(Some(Next::Moved))
+}
+
+/// The answer for what came.
+fn answered(next: Option<Next>) -> Stepped
+    ensures carries { (new : StateHeld) → IsCarried result new (came next new) }
+    ensures stays { (old new : model.Common) → StopsSame result old new }
+{
+    match next {
+        None => Stepped::NoUnit,
+        Some(next) => Stepped::Did(next),
+    }
+}
+
+/// What the effect of an operation makes of the state, in which this call asked for it.
+pub fn carry<'a>(
+    alloc: Global,
+    program: &Program<'a>,
+    call: Call<'a>,
+    before: Frame<'a>,
+    running: u64,
+    effect: Effect,
+    state: &mut State<'a>,
+) -> Result<Stepped, Memory>
+    ensures carries { IfOk result (λ d. (s : StateOf Doing) → s.common.running ≡ running → s.others ≡ others_of state.old → Stays effect s.common (common_of state.old.common) → IsCarried d state.new (carried (machine_of program.now) s (asked_of call.entry before.entry) (doing_of call.entry.frame) (calls_of state.old.calls.items) (effect_of effect state.old.common))) }
+    ensures stays { IfOk result (λ d. (c : model.Common) → Stays effect c (common_of state.old.common) → StopsSame d c (common_of state.new.common)) }
+{
+    match effect {
+        Effect::Gives(given) => {
+            gives(call, given, state)?;
+            Ok(Stepped::Did(Next::Moved))
+        }
+        Effect::Fails(error) => Ok(answered(fails(alloc, program, call, running, error, state)?)),
+        Effect::Waits(need) => Ok(Stepped::Did(waits(alloc, call, before, running, need, state)?)),
+        Effect::Enters { unit, args } => {
+            let next = enters(alloc, program, call, unit, args.as_slice(), state)?;
+            Ok(answered(next))
+        }
+        Effect::Leaves(v) => Ok(answered(leaves(alloc, program, call, before, running, v, state)?)),
+        Effect::Spawns {
+            spawned,
+            role,
+            given,
+        } => {
+            let made = spawned.as_slice();
+            Ok(answered(spawns(alloc, program, call, made, role, given, state)?))
+        }
+        Effect::NoTick => Ok(Stepped::NeedsTick),
+        Effect::Beyond(limit) => Ok(Stepped::Limit(limit)),
+    }
+}
