@@ -1,0 +1,119 @@
+//! Types and atoms as they are written.
+//!
+//! - `int`, `string`, `boolean`, `nil`, `error`, `(| S T)`, `(atom N)`
+//! - `(array T FILLER)`: lists of any number of these; `(record N T ..)`: mappings with these fields; `(futures T)`
+//!
+//! A filler is a constant, `nothing`, `list N` or `mapping N`.
+
+use crate::constants::{constant_of, text_of};
+use crate::misread::{Misread, Read, refuse};
+use crate::nodes::{Node, Parts};
+use bal_base::Row;
+use operations::Constant;
+use std::alloc::Global;
+use std::rc::Rc;
+use type_model::{AtomDef, BasicSet, ChoiceList, FieldDef, SemType, Ty};
+use typed_tree::SharedTy;
+use value_model::Filler;
+
+/// The type that the word names.
+pub fn type_of(alloc: Global, word: &str) -> Read<SemType> {
+    match word {
+        "int" => Ok(SemType::Basic(BasicSet::IntRange(i64::MIN, i64::MAX))),
+        "string" => Ok(SemType::Basic(BasicSet::StringAll)),
+        "boolean" => boolean(alloc),
+        "nil" => Ok(SemType::Basic(BasicSet::Nil)),
+        "error" => Ok(SemType::Basic(BasicSet::ErrorAll)),
+        _ => refuse(Misread::NotAForm),
+    }
+}
+
+fn boolean(alloc: Global) -> Read<SemType> {
+    let first = Box::new(alloc, SemType::Basic(BasicSet::Bool(true)))?;
+    let second = Box::new(alloc, SemType::Basic(BasicSet::Bool(false)))?;
+    Ok(SemType::Or(first, second))
+}
+
+/// A type with no constructor choices.
+fn plain(alloc: Global, sem: SemType) -> Ty {
+    Ty {
+        sem,
+        lists: ChoiceList::of(Vec::new(alloc)),
+        maps: ChoiceList::of(Vec::new(alloc)),
+    }
+}
+
+/// A type that nodes have.
+pub fn shared(alloc: Global, sem: SemType) -> Read<SharedTy> {
+    Ok(Rc::new(alloc, plain(alloc, sem))?)
+}
+
+/// The type or the atom that a form stands for, if it is one of these forms.
+pub fn type_form(alloc: Global, head: &str, parts: &mut Parts) -> Read<Option<Node>> {
+    match head {
+        "|" => {
+            let first = Box::new(alloc, parts.sem()?)?;
+            let second = Box::new(alloc, parts.sem()?)?;
+            Ok(Some(Node::Ty(SemType::Or(first, second))))
+        }
+        "atom" => Ok(Some(Node::Ty(SemType::Atom(parts.number()?)))),
+        "array" => array(alloc, parts),
+        "record" => record(alloc, parts),
+        "futures" => {
+            let result = parts.sem()?;
+            Ok(Some(Node::Atom(AtomDef::Future { result }, Vec::new(alloc))))
+        }
+        _ => Ok(None),
+    }
+}
+
+fn array(alloc: Global, parts: &mut Parts) -> Read<Option<Node>> {
+    let items = parts.sem()?;
+    let filler = filler(alloc, parts)?;
+    let def = AtomDef::List {
+        fixed: Row::of(Vec::new(alloc)),
+        rest: Some(plain(alloc, items)),
+    };
+    Ok(Some(Node::Atom(def, vec![in alloc; filler]?)))
+}
+
+fn record(alloc: Global, parts: &mut Parts) -> Read<Option<Node>> {
+    let mut fields = Vec::new(alloc);
+    for _ in 0..parts.left() {
+        if parts.left() == 0 {
+            break;
+        }
+        let name = parts.word()?;
+        let ty = parts.sem()?;
+        fields.push(FieldDef {
+            name: text_of(alloc, name.as_str())?,
+            ty: plain(alloc, ty),
+            optional: false,
+        })?;
+    }
+    let def = AtomDef::Mapping {
+        fields: Row::of(fields),
+        rest: None,
+    };
+    Ok(Some(Node::Atom(def, Vec::new(alloc))))
+}
+
+/// A filler.
+fn filler(alloc: Global, parts: &mut Parts) -> Read<Filler> {
+    let word = parts.word()?;
+    match word.as_str() {
+        "nothing" => Ok(Filler::Nothing),
+        "list" => Ok(Filler::List(parts.number()?)),
+        "mapping" => Ok(Filler::Mapping(parts.number()?)),
+        word => Ok(filling(constant_of(alloc, word)?)),
+    }
+}
+
+fn filling(constant: Constant) -> Filler {
+    match constant {
+        Constant::Nil => Filler::Nil,
+        Constant::Bool(b) => Filler::Bool(b),
+        Constant::Int(n) => Filler::Int(n),
+        Constant::Str(text) => Filler::Str(text),
+    }
+}
