@@ -1,5 +1,5 @@
 -- What a call of the library came to is what the operation comes to.
-use Rattle.std.proofs.Common.{◌≡◌, ◌≢◌, ◌∙◌, ℕ, Bool, true, false, List, [], ◌∷◌, Option, Some, None, Result, Ok, Err, refl, sym, subst, ap}
+use Rattle.std.proofs.Common.{◌≡◌, ◌≢◌, ◌∙◌, ℕ, Bool, List, [], ◌∷◌, Option, Some, None, Result, Ok, Err, refl, sym, subst, ap}
 use Rattle.std.specs.Prelude.{IfOk, get_or}
 use Rattle.bal_base.specs.declared.stop.Memory.{Memory}
 use Rattle.operations.specs.declared.library.LibraryCall.{LibraryCall}
@@ -7,10 +7,8 @@ use Rattle.operations.specs.declared.library.LibraryCall.TheVariants.{Println, P
 use Rattle.operations.specs.LibraryNumbers.{number_of}
 use Rattle.operations.specs.declared.operation.Operation.TheVariants as operation
 use Rattle.value_model.specs.declared.value.Value.{Value}
-use Rattle.value_model.specs.Stands.{OwnTypes}
-use Rattle.value_model.specs.World as model
 use Rattle.run_model.specs.Facts.{own_types}
-use Rattle.run_model.specs.Library.{LibraryAnswers, LibraryComes}
+use Rattle.run_model.specs.Library.{LibraryComes}
 use Rattle.run_model.specs.Performs.{atom_number}
 use Rattle.plain_run.specs.declared.effect.Performed.{Performed}
 use Rattle.plain_run.specs.declared.effect.Performed.TheVariants.{Done, Unfit, NotBuilt}
@@ -20,10 +18,10 @@ use Rattle.plain_run.specs.declared.held.Common.{Common}
 use Rattle.plain_run.specs.declared.held.World.{World}
 use Rattle.plain_run.specs.declared.world.Came.{Came}
 use Rattle.plain_run.specs.Came.{came_of}
-use Rattle.plain_run.specs.Effects.{IsPerformed, effect_of}
+use Rattle.plain_run.specs.Effects.{IsPerformed}
 use Rattle.plain_run.specs.Facts.{facts_of}
 use Rattle.plain_run.specs.Held.{with_world, world_of}
-use Rattle.plain_structures.specs.Rows.{IsAnswerFor, IsRowOf, RowStays}
+use Rattle.plain_structures.specs.Rows.{IsAnswerFor, RowStays}
 use Rattle.plain_structures.proofs.Doing.{row-stays}
 use Rattle.plain_library.specs.Bodies.{is_built, is_on_structures, part_of}
 use Rattle.plain_library.specs.Calls.{IsAnswered, IsCalled}

@@ -1,10 +1,9 @@
 -- The best of several strands.
-use Rattle.std.proofs.Common.{◌≡◌, ◌∙◌, Bool, true, false, List, [], ◌∷◌, Option, Some, None, refl, ap}
-use Rattle.std.specs.Prelude.{filter, fold}
+use Rattle.std.proofs.Common.{◌≡◌, List, [], ◌∷◌, Option, Some, None, refl}
 use Rattle.run_model.specs.Common.{Common}
 use Rattle.run_model.specs.Waits.{Target, chosen, earlier, later}
 use Rattle.plain_run.proofs.Looking.{get-past, get-there}
-use Rattle.plain_strands.specs.Choices.{best_of, better_of, succeeded}
+use Rattle.plain_strands.specs.Choices.{best_of, better_of}
 
 pub best-more : (better : Target → Target → Target) (best : Option Target) (t : Target) (ts : List Target) → best_of better (Some (better_of better best t)) ts ≡ best_of better best (t ∷ ts)
 best-more better (Some b) t ts = refl

@@ -1,6 +1,6 @@
 -- Results that are collected, and those that are given back.
 use Rattle.std.proofs.Common.{◌≡◌, ◌∙◌, ℕ, zero, suc, Bool, true, false, List, [], ◌∷◌, ◌++◌, Option, Some, None, get_or, map, refl, sym, ap}
-use Rattle.std.specs.Prelude.{not, slice_set, if◌then◌else◌}
+use Rattle.std.specs.Prelude.{not, if◌then◌else◌}
 use Rattle.std.proofs.lemmas.List.{append-nil}
 use Rattle.bal_base.specs.declared.text.Text.{Text}
 use Rattle.value_model.specs.declared.value.Value.{Value}

@@ -4,7 +4,7 @@ use Rattle.std.specs.Prelude.{IfOk}
 use Rattle.std.proofs.lemmas.List.{take_all}
 use Rattle.bal_base.specs.declared.text.Text.{Text}
 use Rattle.value_model.specs.declared.value.Value.{Value}
-use Rattle.run_model.specs.Common.{Common, End, Returned}
+use Rattle.run_model.specs.Common.{Common, Returned}
 use Rattle.run_model.specs.Effects.{Effect}
 use Rattle.run_model.specs.Strands.{end_of}
 use Rattle.run_model.specs.Waits.{collects, gives_results, is_taken, took}

@@ -1,6 +1,5 @@
 -- The mapping of a multiple wait, and the errors that stand for what is missing.
 use Rattle.std.proofs.Common.{◌≡◌, ◌∙◌, ◌+◌, ◌-◌, ◌^◌, ◌≤◌, drop, get_or, take, ℕ, zero, suc, Bool, true, false, nat_le, List, [], ◌∷◌, ◌++◌, Option, Some, None, length, map, refl, sym, ap, subst, arith}
-use Rattle.std.specs.Prelude.{zip}
 use Rattle.std.specs.List.{sum_by}
 use Rattle.std.proofs.Math.Numerals.{add-one}
 use Rattle.std.proofs.lemmas.List.{append-nil, append_assoc, length-append, length-map, map-append, take_all}
@@ -9,12 +8,12 @@ use Rattle.bal_base.specs.declared.text.Text.{Text}
 use Rattle.value_model.specs.declared.value.Value.{Value}
 use Rattle.value_model.specs.declared.value.Value.TheVariants.{Struct}
 use Rattle.value_model.specs.PanicName.{future_taken}
-use Rattle.value_model.specs.Heap.{Entries, ErrorObject, Heap, Structure as ModelStructure, cells}
-use Rattle.value_model.specs.World.{World, Came, Gave, PassesCells}
+use Rattle.value_model.specs.Heap.{Entries, ErrorObject, Structure as ModelStructure, cells}
+use Rattle.value_model.specs.World.{World, Gave, PassesCells}
 use Rattle.run_model.specs.Levels.{numbers_from}
 use Rattle.run_model.specs.Limits.{most_cells}
-use Rattle.run_model.specs.Rows.{gives, makes, new_structure, next_error, next_structure, with_heap, within}
-use Rattle.run_model.specs.Waits.{missing, numbered, with_results}
+use Rattle.run_model.specs.Rows.{makes, new_structure, next_error, next_structure, with_heap}
+use Rattle.run_model.specs.Waits.{missing, with_results}
 use Rattle.plain_run.specs.declared.held.Structure.{Structure}
 use Rattle.plain_run.specs.Held.{structure_of}
 use Rattle.plain_run.proofs.Made.{gave-past, gave-there}

@@ -1,5 +1,5 @@
 -- What changes in a list, and what passes through a channel.
-use Rattle.std.specs.Prelude.{◌+◌, ◌++◌, ℕ, List, [], ◌∷◌, Option, Some, None, drop, get_or, map, slice_set}
+use Rattle.std.specs.Prelude.{ℕ, List, [], ◌∷◌, Option, Some, None, drop, get_or, map, slice_set}
 use Rattle.value_model.specs.declared.value.Value.{Value}
 use Rattle.run_model.specs.Common as model
 use Rattle.run_model.specs.Messages.{one_received, one_sent}

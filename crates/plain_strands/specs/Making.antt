@@ -1,5 +1,5 @@
 -- Strands and activations that are made.
-use Rattle.std.specs.Prelude.{◌+◌, ◌++◌, ℕ, List, [], ◌∷◌}
+use Rattle.std.specs.Prelude.{◌++◌, [], ◌∷◌}
 use Rattle.run_model.specs.Common.{Activation, Common}
 
 -- one activation more

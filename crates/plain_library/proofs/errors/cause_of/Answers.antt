@@ -1,4 +1,4 @@
-use Rattle.std.proofs.Common.{◌≡◌, refl}
+use Rattle.std.proofs.Common.{◌≡◌}
 use Rattle.run_model.specs.Library.{cause_value}
 use Rattle.run_model.specs.Rows.{gives}
 use Rattle.plain_run.specs.Held.{error_of, world_of}

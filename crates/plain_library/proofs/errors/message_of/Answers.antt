@@ -1,4 +1,4 @@
-use Rattle.std.proofs.Common.{◌≡◌, refl}
+use Rattle.std.proofs.Common.{◌≡◌}
 use Rattle.value_model.specs.declared.value.Value.TheVariants.{Str}
 use Rattle.run_model.specs.Rows.{gives}
 use Rattle.plain_run.specs.Held.{error_of, world_of}

@@ -1,4 +1,4 @@
-use Rattle.std.proofs.Common.{rules, arith}
+use Rattle.std.proofs.Common.{rules}
 use Rattle.bal_base.proofs.Vectors.{length-small}
 use Rattle.plain_library.proofs.lists.length_at.Goals as goal
 

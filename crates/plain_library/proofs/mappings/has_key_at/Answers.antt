@@ -1,4 +1,3 @@
-use Rattle.std.proofs.Common.{refl}
 use Rattle.std.specs.Prelude.{is_some}
 use Rattle.value_model.specs.declared.value.Value.TheVariants.{Bool as Truth}
 use Rattle.value_model.specs.Heap.{entry_at}

@@ -4,7 +4,7 @@ use Rattle.text_forms.specs.Forms.{written}
 use Rattle.plain_run.proofs.Given.{if-ok}
 use Rattle.plain_run.specs.Came.{came_of}
 use Rattle.plain_run.specs.Held.{world_of}
-use Rattle.plain_library.proofs.Printing.{print-long, print-short}
+use Rattle.plain_library.proofs.Printing.{print-short}
 use Rattle.plain_library.proofs.output.prints.Goals as goal
 
 pub returns-clause-row : goal.returns-clause-row

@@ -4,7 +4,7 @@ use Rattle.std.specs.Prelude.{OnOk, slice_get}
 use Rattle.run_model.specs.Texts.{details_text, inner_text, quoted}
 use Rattle.plain_run.specs.Held.{heap_of}
 use Rattle.text_forms.specs.Forms.{Adds, written}
-use Rattle.text_forms.proofs.Adding.{adds-joined_more, adds-one_more}
+use Rattle.text_forms.proofs.Adding.{adds-joined_more}
 use Rattle.plain_library.proofs.Inside.{details-entries}
 use Rattle.plain_library.proofs.texts.+texts.Goals as goal
 

@@ -1,8 +1,5 @@
-use Rattle.std.proofs.Common.{◌∙◌, ap, flat_map, subst, take}
-use Rattle.std.proofs.lemmas.List.{take_all, take_more}
 use Rattle.run_model.specs.Texts.{text_of}
 use Rattle.plain_run.specs.Held.{heap_of}
-use Rattle.text_forms.proofs.Adding.{adds-one_more}
 use Rattle.plain_library.proofs.Inside.{adds-taken_more}
 use Rattle.plain_library.proofs.texts.add_values.Goals as goal
 

@@ -1,8 +1,6 @@
-use Rattle.std.proofs.Common.{[], ◌∷◌, Some, true, length, map, ap, sym, ◌∙◌, ◌+◌, arith}
-use Rattle.std.specs.Prelude.{nat_le}
+use Rattle.std.proofs.Common.{[], ◌∷◌, Some, true, length, ap, arith}
 use Rattle.std.proofs.lemmas.List.{length-append, length-map}
-use Rattle.value_model.specs.Heap.{Items, Structure, cells}
-use Rattle.run_model.specs.Limits.{most_cells}
+use Rattle.value_model.specs.Heap.{Items, Structure}
 use Rattle.run_model.specs.Rows.{makes, new_structure}
 use Rattle.plain_run.specs.Held.{structure_of, world_of}
 use Rattle.plain_run.proofs.Cells.{few-structures}

@@ -4,7 +4,7 @@ use Rattle.std.specs.List.{sum_by}
 use Rattle.std.proofs.lemmas.List.{length-map}
 use Rattle.value_model.specs.Heap.{cells}
 use Rattle.run_model.specs.Limits.{most_cells}
-use Rattle.plain_run.specs.Held.{heap_of, structure_of, world_of}
+use Rattle.plain_run.specs.Held.{structure_of, world_of}
 use Rattle.plain_strands.specs.Copied.{structures_copied}
 use Rattle.plain_strands.proofs.Sending.{copy-same, room-same, world-same}
 use Rattle.plain_strands.proofs.sends.copied.Goals as goal
