@@ -48,7 +48,7 @@ fn answered(came: Result<Option<Came>, Memory>) -> Result<Performed, Memory>
     }
 }
 
-/// What a call of the library comes to. `NotBuilt` comes exactly for those that have no body yet, which change nothing.
+/// What a call of the library comes to. `NotBuilt` comes only for those that have no body yet, which change nothing.
 pub fn perform_library(
     alloc: Global,
     call: LibraryCall,

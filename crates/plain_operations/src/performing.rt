@@ -13,7 +13,7 @@ use plain_tests::{perform_cast, perform_test};
 use std::alloc::Global;
 use value_model::Value;
 
-/// What an operation comes to on its operands, the first one first. `NotBuilt` comes exactly where there is no body yet,
+/// What an operation comes to on its operands, the first one first. `NotBuilt` comes only where there is no body yet,
 /// and changes nothing.
 pub fn perform(
     alloc: Global,

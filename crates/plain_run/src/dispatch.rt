@@ -18,7 +18,7 @@ use on_values::on_values;
 use std::alloc::Global;
 use value_model::Value;
 
-/// What an operation comes to on its operands, the first one first. `NotBuilt` comes exactly for those that have no body
+/// What an operation comes to on its operands, the first one first. `NotBuilt` comes only for those that have no body
 /// yet, which change nothing.
 pub fn perform(
     alloc: Global,

@@ -2,7 +2,7 @@
 #![tactic(auto, using(bal_tree::proofs::TypeLayers::type_layers))]
 
 ghost use Rattle.std.specs.Prelude.{◌≡◌, ◌++◌, ◌∷◌, [], IfOk, OnOk, fold, map};
-ghost use Rattle.descriptors.specs.Descriptors.{descriptor_of, descriptor_if, of_intersection, of_param, of_params, of_postfix, of_primary, of_field, in_a_row, fields_in_a_row};
+ghost use Rattle.descriptors.specs.Descriptors.{descriptor_of, descriptor_if, error_of, of_intersection, of_param, of_params, of_postfix, of_primary, of_field, in_a_row, fields_in_a_row};
 ghost use Rattle.type_builder.specs.AtomPlaces.{all_places, def_places as places_of_def, field_places, file_places as places_of_file, function_places as places_of_function, module_places as places_of_module, package_places as places_of_package, param_places, places, places_if, rest_places};
 
 use bal_base::{Memory, Place};
@@ -151,14 +151,7 @@ fn primary_places(out: &mut Vec<Place>, t: &PrimaryType) -> Result<(), Memory>
             type_places(out, result)?;
             atom(out, *at)
         }
-        PrimaryType::Error { detail: None, .. } => Ok(()),
-        PrimaryType::Error {
-            detail: Some(detail),
-            at,
-        } => {
-            type_places(out, detail)?;
-            atom(out, *at)
-        }
+        PrimaryType::Error { detail, at } => error_places(out, detail, *at),
         PrimaryType::Tuple { members, rest, at } => {
             type_list_places(out, members)?;
             places_in(out, rest)?;
@@ -183,6 +176,24 @@ fn primary_places(out: &mut Vec<Place>, t: &PrimaryType) -> Result<(), Memory>
             places_in(out, result)?;
             atom(out, *at)?;
             atom(out, *at)
+        }
+    }
+}
+
+/// Errors with such a detail ask for an atom, and all errors for none.
+#[cycle(types)]
+fn error_places(
+    out: &mut Vec<Place>,
+    detail: &Option<Box<TypeTree>>,
+    at: Place,
+) -> Result<(), Memory>
+    ensures { OnOk result (out.new.items ≡ places (error_of (descriptor_if detail.now) at) out.old.items) }
+{
+    match detail {
+        None => Ok(()),
+        Some(detail) => {
+            type_places(out, detail)?;
+            atom(out, at)
         }
     }
 }
