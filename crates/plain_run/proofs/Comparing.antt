@@ -1,5 +1,5 @@
 -- What is told of two values is what a comparison of them comes to.
-use Rattle.std.proofs.Common.{◌≡◌, ◌↔◌, Bool, true, IsTrue, [], ◌∷◌, Some, None, refl, sym, subst}
+use Rattle.std.proofs.Common.{◌≡◌, ◌↔◌, Bool, IsTrue, [], ◌∷◌, Some, None, refl, sym, subst}
 use Rattle.value_model.specs.declared.value.Value.{Value}
 use Rattle.value_model.specs.declared.value.Value.TheVariants.{Bool as Truth}
 use Rattle.operations.specs.declared.operation.Operation.TheVariants as operation
@@ -17,16 +17,16 @@ use Rattle.plain_run.specs.Held.{world_of}
 use Rattle.plain_run.specs.Values.{AreCompared, comparison_of}
 
 module _ (a b : Value) (facts : Facts) (asker : Asker) (c : Common) where
-  pub compared-done : (how : Comparison) (holds : Bool) (done : Performed) → AreCompared how a b (Some holds) → done ≡ Done (Gives (Some (Truth holds))) → IsPerformed facts (comparison_of how) (a ∷ b ∷ []) asker c c true done
-  compared-done how holds done h e = subst (IsPerformed facts (comparison_of how) (a ∷ b ∷ []) asker c c true) (sym e) (by how h)
+  pub compared-done : (how : Comparison) (holds : Bool) (done : Performed) → AreCompared how a b (Some holds) → done ≡ Done (Gives (Some (Truth holds))) → IsPerformed facts (comparison_of how) (a ∷ b ∷ []) asker c c ⊥ done
+  compared-done how holds done h e = subst (IsPerformed facts (comparison_of how) (a ∷ b ∷ []) asker c c ⊥) (sym e) (by how h)
     where
-      by : (o : Comparison) → AreCompared o a b (Some holds) → IsPerformed facts (comparison_of o) (a ∷ b ∷ []) asker c c true (Done (Gives (Some (Truth holds))))
+      by : (o : Comparison) → AreCompared o a b (Some holds) → IsPerformed facts (comparison_of o) (a ∷ b ∷ []) asker c c ⊥ (Done (Gives (Some (Truth holds))))
       by Less row = (gives (world_of c.world) (Truth holds), row (world_of c.world), refl)
       by LessEqual row = (gives (world_of c.world) (Truth holds), row (world_of c.world), refl)
 
-  pub compared-unfit : (how : Comparison) → AreCompared how a b None → IsPerformed facts (comparison_of how) (a ∷ b ∷ []) asker c c true Unfit
+  pub compared-unfit : (how : Comparison) → AreCompared how a b None → IsPerformed facts (comparison_of how) (a ∷ b ∷ []) asker c c ⊥ Unfit
   compared-unfit Less h = λ effect (came, row, e). h (world_of c.world) came row
   compared-unfit LessEqual h = λ effect (came, row, e). h (world_of c.world) came row
 
-  pub same-done : (same : Bool) (done : Performed) → IsTrue same ↔ (a ≡ b) → done ≡ Done (Gives (Some (Truth same))) → IsPerformed facts operation.Same (a ∷ b ∷ []) asker c c true done
-  same-done same done h e = subst (IsPerformed facts operation.Same (a ∷ b ∷ []) asker c c true) (sym e) (gives (world_of c.world) (Truth same), (same, h, refl), refl)
+  pub same-done : (same : Bool) (done : Performed) → IsTrue same ↔ (a ≡ b) → done ≡ Done (Gives (Some (Truth same))) → IsPerformed facts operation.Same (a ∷ b ∷ []) asker c c ⊥ done
+  same-done same done h e = subst (IsPerformed facts operation.Same (a ∷ b ∷ []) asker c c ⊥) (sym e) (gives (world_of c.world) (Truth same), (same, h, refl), refl)

@@ -1,8 +1,8 @@
-pub mod Arms
 pub mod Cells
 pub mod Comparing
 pub mod Doing
 pub mod Given
+pub mod Lists
 pub mod Looking
 pub mod Made
 pub mod Operands

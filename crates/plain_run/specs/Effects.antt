@@ -1,5 +1,5 @@
 -- What an operation comes to, as it is held.
-use Rattle.std.specs.Prelude.{⊤, ◌≡◌, ◌+ℤ◌, ◌-ℤ◌, ◌*ℤ◌, ℤ, Bool, List, [], ◌∷◌, Option, Some, None, map, option_map, option_to_list}
+use Rattle.std.specs.Prelude.{⊤, ◌≡◌, ◌+ℤ◌, ◌-ℤ◌, ◌*ℤ◌, ℤ, List, [], ◌∷◌, Option, Some, None, map, option_map, option_to_list}
 use Rattle.value_model.specs.declared.value.Value.{Value}
 use Rattle.value_model.specs.declared.value.Value.TheVariants.{Int}
 use Rattle.run_model.specs.Library.{LibraryAnswers}
@@ -15,7 +15,7 @@ use Rattle.plain_run.specs.declared.effect.Ints.TheVariants as ints
 use Rattle.plain_run.specs.declared.effect.Effect.{Effect}
 use Rattle.plain_run.specs.declared.effect.Effect.TheVariants.{Gives, Fails, Waits, Enters, Leaves, Spawns, NoTick, Beyond}
 use Rattle.plain_run.specs.declared.effect.Performed.{Performed}
-use Rattle.plain_run.specs.declared.effect.Performed.TheVariants.{Done, Unfit, NotBuilt}
+use Rattle.plain_run.specs.declared.effect.Performed.TheVariants.{Done, Unfit, Untold}
 use Rattle.plain_run.specs.declared.effect.Spawned.{Spawned}
 use Rattle.plain_run.specs.declared.facts.Facts.{Facts}
 use Rattle.plain_run.specs.declared.held.Common.{Common}
@@ -37,13 +37,14 @@ effect_of (Spawns spawned role given) c =
 effect_of NoTick c = model.NoTick
 effect_of (Beyond limit) c = model.Beyond limit
 
--- what was answered for an operation on these operands: an effect that it has, or that it has none, or that it has no body
-abbrev pub IsPerformed : Facts → Operation → List Value → Asker → Common → Common → Bool → Performed → Type 0
-IsPerformed facts operation vs asker old new built (Done effect) =
+-- what was answered for an operation on these operands: an effect that it has, or that it has none, or that it is not
+-- told, which has such a cause
+abbrev pub IsPerformed : Facts → Operation → List Value → Asker → Common → Common → Type 0 → Performed → Type 0
+IsPerformed facts operation vs asker old new cause (Done effect) =
     Performs (facts_of facts) LibraryAnswers operation vs (asker_of asker) (common_of old) (effect_of effect new)
-IsPerformed facts operation vs asker old new built Unfit =
+IsPerformed facts operation vs asker old new cause Unfit =
     (effect : model.Effect) → ¬ (Performs (facts_of facts) LibraryAnswers operation vs (asker_of asker) (common_of old) effect)
-IsPerformed facts operation vs asker old new built NotBuilt = built ≡ Bool.false
+IsPerformed facts operation vs asker old new cause Untold = cause
 
 -- what an effect that keeps the run as it was leaves
 abbrev pub EffectStays : Common → Common → Effect → Type 0
@@ -60,7 +61,7 @@ EffectStays old new (Beyond limit) = common_of new ≡ common_of old
 abbrev pub Stays : Common → Common → Performed → Type 0
 Stays old new (Done effect) = EffectStays old new effect
 Stays old new Unfit = common_of new ≡ common_of old
-Stays old new NotBuilt = common_of new ≡ common_of old
+Stays old new Untold = common_of new ≡ common_of old
 
 -- two ints, where the operands are such
 abbrev pub AreTwoInts : List Value → Option (ℤ × ℤ) → Type 0

@@ -22,7 +22,7 @@ pub fn perform_make_list(
     operands: &[Value],
     common: &mut Common,
 ) -> Result<Performed, Memory>
-    ensures row { IfOk result (λ done. (facts : FactsOf) (asker : AskerOf) → IsPerformed facts (operation.MakeList atom immutable count) operands.now asker common.old common.new true done) }
+    ensures row { IfOk result (λ done. (facts : FactsOf) (asker : AskerOf) → IsPerformed facts (operation.MakeList atom immutable count) operands.now asker common.old common.new ⊥ done) }
     ensures stays { IfOk result (Stays common.old common.new) }
 {
     let items = share_all(alloc, operands)?;
@@ -39,7 +39,7 @@ pub fn perform_make_function(
     operands: &[Value],
     common: &mut Common,
 ) -> Result<Performed, Memory>
-    ensures row { IfOk result (λ done. (facts : FactsOf) (asker : AskerOf) → IsPerformed facts (operation.MakeFunction unit count) operands.now asker common.old common.new true done) }
+    ensures row { IfOk result (λ done. (facts : FactsOf) (asker : AskerOf) → IsPerformed facts (operation.MakeFunction unit count) operands.now asker common.old common.new ⊥ done) }
     ensures stays { IfOk result (Stays common.old common.new) }
 {
     let captured = share_all(alloc, operands)?;

@@ -61,8 +61,8 @@ pub enum Performed {
     Done(Effect),
     /// It has none on these operands.
     Unfit,
-    /// No body is there yet.
-    NotBuilt,
+    /// That is not told, since a question of types passes the limits of such questions.
+    Untold,
 }
 
 /// An operation on two ints.
@@ -118,7 +118,7 @@ pub fn perform_ints(
     operands: &[Value],
     common: &mut Common,
 ) -> Result<Performed, Memory>
-    ensures row { IfOk result (λ done. (facts : FactsOf) (asker : AskerOf) → IsPerformed facts (operation_on op) operands.now asker common.old common.new true done) }
+    ensures row { IfOk result (λ done. (facts : FactsOf) (asker : AskerOf) → IsPerformed facts (operation_on op) operands.now asker common.old common.new ⊥ done) }
     ensures stays { IfOk result (Stays common.old common.new) }
 {
     match two_ints(operands) {

@@ -1,6 +1,6 @@
 //! What operations know of the program.
 
-use type_model::AtomDef;
+use type_model::TypeEnv;
 use value_model::FillerList;
 
 /// A named worker of a function.
@@ -29,7 +29,7 @@ pub struct UnitFacts {
 #[derive(Drop)]
 pub struct Facts<'a> {
     /// The definitions of the atoms, by number.
-    pub atoms: &'a [AtomDef],
+    pub atoms: &'a TypeEnv,
     pub units: Vec<UnitFacts>,
     /// The units that initialise module variables.
     pub initialisers: Vec<u32>,

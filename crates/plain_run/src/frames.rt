@@ -20,7 +20,7 @@ pub fn perform_load(
     operands: &[Value],
     common: &mut Common,
 ) -> Result<Performed, Memory>
-    ensures row { IfOk result (λ done. (facts : FactsOf) (asker : AskerOf) → IsPerformed facts (operation.Load slot) operands.now asker common.old common.new true done) }
+    ensures row { IfOk result (λ done. (facts : FactsOf) (asker : AskerOf) → IsPerformed facts (operation.Load slot) operands.now asker common.old common.new ⊥ done) }
     ensures stays { IfOk result (Stays common.old common.new) }
 {
     match operands {
@@ -34,7 +34,7 @@ pub fn perform_load(
 
 /// The frame ends.
 pub fn perform_return(operands: &[Value], common: &Common) -> Performed
-    ensures row { (facts : FactsOf) (asker : AskerOf) → IsPerformed facts operation.Return operands.now asker common.now common.now true result }
+    ensures row { (facts : FactsOf) (asker : AskerOf) → IsPerformed facts operation.Return operands.now asker common.now common.now ⊥ result }
     ensures stays { Stays common.now common.now result }
 {
     match operands {
@@ -45,7 +45,7 @@ pub fn perform_return(operands: &[Value], common: &Common) -> Performed
 
 /// A panic with an error.
 pub fn perform_panic(operands: &[Value], common: &Common) -> Performed
-    ensures row { (facts : FactsOf) (asker : AskerOf) → IsPerformed facts operation.Panic operands.now asker common.now common.now true result }
+    ensures row { (facts : FactsOf) (asker : AskerOf) → IsPerformed facts operation.Panic operands.now asker common.now common.now ⊥ result }
     ensures stays { Stays common.now common.now result }
 {
     match operands {
@@ -73,7 +73,7 @@ pub fn perform_call(
     operands: &[Value],
     common: &Common,
 ) -> Result<Performed, Memory>
-    ensures row { IfOk result (λ done. (facts : FactsOf) (asker : AskerOf) → IsPerformed facts (operation.Call unit count) operands.now asker common.now common.now true done) }
+    ensures row { IfOk result (λ done. (facts : FactsOf) (asker : AskerOf) → IsPerformed facts (operation.Call unit count) operands.now asker common.now common.now ⊥ done) }
     ensures stays { IfOk result (Stays common.now common.now) }
 {
     Ok(Performed::Done(Effect::Enters {
@@ -89,7 +89,7 @@ pub fn perform_tick(
     operands: &[Value],
     common: &mut Common,
 ) -> Result<Performed, Memory>
-    ensures row { IfOk result (λ done. (facts : FactsOf) (asker : AskerOf) → asker.depth ≡ depth → IsPerformed facts operation.Tick operands.now asker common.old common.new true done) }
+    ensures row { IfOk result (λ done. (facts : FactsOf) (asker : AskerOf) → asker.depth ≡ depth → IsPerformed facts operation.Tick operands.now asker common.old common.new ⊥ done) }
     ensures stays { IfOk result (Stays common.old common.new) }
 {
     if !operands.is_empty() {

@@ -4,7 +4,7 @@
 //! - [`Common`] and its parts: what a run holds. `specs/Held.antt` says what it stands for.
 //! - [`Facts`] and its parts: what is known of the program; `specs/Facts.antt`.
 //! - [`Performed`] and [`Effect`]: what is answered for an operation; `specs/Effects.antt`, `IsPerformed`.
-//! - [`perform`] of an [`Op`]: the table of operations. Those without a body yet are answered `NotBuilt`.
+//! - [`Op`]: operations, with references to what a tree holds; `specs/Operation.antt`.
 //! - [`perform_ints`], [`perform_negate`] and [`perform_not`]: ints and booleans.
 //! - [`perform_compare`] and [`perform_same`]: comparisons; [`perform_concat`]: strings.
 //! - [`perform_load`], [`perform_load_module`], [`perform_store_module`] and [`perform_tick`]: slots, module variables and ticks.
@@ -16,13 +16,10 @@
 //! - [`settle`], [`block`], [`end_strand`] and [`end_worker`]: who becomes ready, and how strands and workers stand.
 //!
 //! - [`Came`], [`lifted`], [`make_error`], [`panics`], [`gives_structure`] and their kin: what bodies of further operations are put
-//!   together of.
-//!
-//! `body_of` in `specs/Operation.antt` has a line for each operation.
+//!   together of; [`has_room_for`], [`left_beside`] and [`MOST_CELLS`]: the heap's room.
 #![tactic(auto)]
 
 mod constructors;
-mod dispatch;
 mod effect;
 mod facts;
 mod frames;
@@ -38,7 +35,6 @@ mod variables;
 mod world;
 
 pub use constructors::{perform_make_function, perform_make_list};
-pub use dispatch::perform;
 pub use effect::{Effect, Ints, Performed, Spawned, lifted, perform_ints};
 pub use facts::{Facts, UnitFacts, WorkerFacts};
 pub use frames::{
@@ -48,7 +44,7 @@ pub use held::{
     Activation, Asker, Channel, Common, End, ErrorObject, FunctionObject, Heap, Members, Need,
     Role, Status, Strand, Structure, ToRun, World,
 };
-pub use making::{gives_function, gives_structure, new_structure};
+pub use making::{gives_function, gives_structure, new_structure, size_of};
 pub use needs::{channel, has_ended, has_success, is_met, is_success, strand_end, worker_end};
 pub use op::{Op, TestedType};
 pub use strands::{block, end_strand, end_worker, settle};
@@ -57,4 +53,4 @@ pub use values::{
     Comparison, is_same, perform_compare, perform_negate, perform_not, perform_same, told,
 };
 pub use variables::{perform_load_module, perform_store_module};
-pub use world::{Came, has_room_for, make_error, panics};
+pub use world::{Came, MOST_CELLS, has_room_for, left_beside, make_error, panics};

@@ -11,7 +11,7 @@ use bal_base::Memory;
 use value_model::Value;
 
 /// How many members they are.
-fn size_of(members: &Members) -> u64
+pub fn size_of(members: &Members) -> u64
     ensures { result ≡ rows.size_of (members_of members.now) }
 {
     match members {

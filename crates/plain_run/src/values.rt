@@ -33,7 +33,7 @@ pub fn perform_negate(
     operands: &[Value],
     common: &mut Common,
 ) -> Result<Performed, Memory>
-    ensures row { IfOk result (λ done. (facts : FactsOf) (asker : AskerOf) → IsPerformed facts operation.Negate operands.now asker common.old common.new true done) }
+    ensures row { IfOk result (λ done. (facts : FactsOf) (asker : AskerOf) → IsPerformed facts operation.Negate operands.now asker common.old common.new ⊥ done) }
     ensures stays { IfOk result (Stays common.old common.new) }
 {
     match one_int(operands) {
@@ -47,7 +47,7 @@ pub fn perform_negate(
 
 /// `!a`
 pub fn perform_not(operands: &[Value], common: &Common) -> Performed
-    ensures row { (facts : FactsOf) (asker : AskerOf) → IsPerformed facts operation.Not operands.now asker common.now common.now true result }
+    ensures row { (facts : FactsOf) (asker : AskerOf) → IsPerformed facts operation.Not operands.now asker common.now common.now ⊥ result }
     ensures stays { Stays common.now common.now result }
 {
     match operands {
@@ -108,7 +108,7 @@ fn compared(how: Comparison, a: &Value, b: &Value) -> Option<bool>
 
 /// `a < b` and `a <= b`
 pub fn perform_compare(how: Comparison, operands: &[Value], common: &Common) -> Performed
-    ensures row { (facts : FactsOf) (asker : AskerOf) → IsPerformed facts (comparison_of how) operands.now asker common.now common.now true result }
+    ensures row { (facts : FactsOf) (asker : AskerOf) → IsPerformed facts (comparison_of how) operands.now asker common.now common.now ⊥ result }
     ensures stays { Stays common.now common.now result }
 {
     match operands {
@@ -140,7 +140,7 @@ pub fn is_same(a: &Value, b: &Value) -> bool
 
 /// `a === b`
 pub fn perform_same(operands: &[Value], common: &Common) -> Performed
-    ensures row { (facts : FactsOf) (asker : AskerOf) → IsPerformed facts operation.Same operands.now asker common.now common.now true result }
+    ensures row { (facts : FactsOf) (asker : AskerOf) → IsPerformed facts operation.Same operands.now asker common.now common.now ⊥ result }
     ensures stays { Stays common.now common.now result }
 {
     match operands {

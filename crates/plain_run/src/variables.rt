@@ -22,7 +22,7 @@ pub fn perform_load_module(
     operands: &[Value],
     common: &mut Common,
 ) -> Result<Performed, Memory>
-    ensures row { IfOk result (λ done. (facts : FactsOf) (asker : AskerOf) → IsPerformed facts (operation.LoadModule variable) operands.now asker common.old common.new true done) }
+    ensures row { IfOk result (λ done. (facts : FactsOf) (asker : AskerOf) → IsPerformed facts (operation.LoadModule variable) operands.now asker common.old common.new ⊥ done) }
     ensures stays { IfOk result (Stays common.old common.new) }
 {
     match operands {
@@ -32,7 +32,7 @@ pub fn perform_load_module(
 }
 
 fn load_variable(alloc: Global, variable: u32, common: &mut Common) -> Result<Performed, Memory>
-    ensures row { IfOk result (λ done. (facts : FactsOf) (asker : AskerOf) → IsPerformed facts (operation.LoadModule variable) [] asker common.old common.new true done) }
+    ensures row { IfOk result (λ done. (facts : FactsOf) (asker : AskerOf) → IsPerformed facts (operation.LoadModule variable) [] asker common.old common.new ⊥ done) }
     ensures stays { IfOk result (Stays common.old common.new) }
 {
     match common.variables.get(variable as usize) {
@@ -72,7 +72,7 @@ fn store_variable(
     v: &Value,
     common: &mut Common,
 ) -> Performed
-    ensures row { (asker : AskerOf) → asker.unit ≡ unit → IsPerformed facts.now (operation.StoreModule variable) (v.now ∷ []) asker common.old common.new true result }
+    ensures row { (asker : AskerOf) → asker.unit ≡ unit → IsPerformed facts.now (operation.StoreModule variable) (v.now ∷ []) asker common.old common.new ⊥ result }
     ensures stays { Stays common.old common.new result }
 {
     let place = variable as usize;
@@ -92,7 +92,7 @@ pub fn perform_store_module(
     operands: &[Value],
     common: &mut Common,
 ) -> Performed
-    ensures row { (asker : AskerOf) → asker.unit ≡ unit → IsPerformed facts.now (operation.StoreModule variable) operands.now asker common.old common.new true result }
+    ensures row { (asker : AskerOf) → asker.unit ≡ unit → IsPerformed facts.now (operation.StoreModule variable) operands.now asker common.old common.new ⊥ result }
     ensures stays { Stays common.old common.new result }
 {
     match operands {

@@ -23,8 +23,8 @@ pub enum Came {
     PassesCells,
 }
 
-/// What is left when one more than so much is taken.
-fn less(left: Option<u64>, most: u64) -> Option<u64>
+/// What is left of a room when one cell more than so many are taken, or that they aren't there.
+pub fn left_beside(left: Option<u64>, most: u64) -> Option<u64>
     ensures { (room taken : ℕ) → IsLeft room taken left → IsLeft room (taken + (most + 1)) result }
 {
     match left {
@@ -45,7 +45,7 @@ fn beside_structures(structures: &[Structure], start: Option<u64>) -> Option<u64
 {
     let mut left = start;
     for s in structures {
-        left = less(left, s.greatest);
+        left = left_beside(left, s.greatest);
     }
     left
 }
@@ -56,13 +56,13 @@ fn beside_functions(functions: &[FunctionObject], start: Option<u64>) -> Option<
 {
     let mut left = start;
     for f in functions {
-        left = less(left, f.captured.as_slice().len() as u64);
+        left = left_beside(left, f.captured.as_slice().len() as u64);
     }
     left
 }
 
 /// The most cells of a heap.
-const MOST_CELLS: u64 = 33_554_432;
+pub const MOST_CELLS: u64 = 33_554_432;
 
 /// Whether so many errors and so many cells more fit in what is left.
 fn fits(left: Option<u64>, errors: u64, more: u64) -> bool

@@ -1,4 +1,3 @@
-use Rattle.std.proofs.Common.{true}
 use Rattle.plain_run.proofs.Comparing.{compared-done, compared-unfit}
 use Rattle.plain_run.proofs.Operands.{on-two}
 use Rattle.plain_run.specs.declared.effect.Performed.TheVariants.{Unfit}
@@ -8,10 +7,10 @@ use Rattle.plain_run.proofs.values.perform_compare.Goals as goal
 
 pub returns-in-Some-clause-row : goal.returns-in-Some-clause-row
 returns-in-Some-clause-row c = λ facts asker.
-    on-two (λ vs. IsPerformed facts (comparison_of c.args.how) vs asker c.args.common.now c.args.common.now true c.told.result) c.args.operands.now c.a-item.result c.b-item.result c.in-len2.len_at_least c.in-len2.len_below c.a-item.is c.b-item.is
+    on-two (λ vs. IsPerformed facts (comparison_of c.args.how) vs asker c.args.common.now c.args.common.now ⊥ c.told.result) c.args.operands.now c.a-item.result c.b-item.result c.in-len2.len_at_least c.in-len2.len_below c.a-item.is c.b-item.is
     (compared-done c.a-item.result c.b-item.result facts asker c.args.common.now c.args.how c.in-Some.holds c.told.result c.in-Some.ensures c.told.ensures)
 
 pub returns-in-None-clause-row : goal.returns-in-None-clause-row
 returns-in-None-clause-row c = λ facts asker.
-    on-two (λ vs. IsPerformed facts (comparison_of c.args.how) vs asker c.args.common.now c.args.common.now true Unfit) c.args.operands.now c.a-item.result c.b-item.result c.in-len2.len_at_least c.in-len2.len_below c.a-item.is c.b-item.is
+    on-two (λ vs. IsPerformed facts (comparison_of c.args.how) vs asker c.args.common.now c.args.common.now ⊥ Unfit) c.args.operands.now c.a-item.result c.b-item.result c.in-len2.len_at_least c.in-len2.len_below c.a-item.is c.b-item.is
     (compared-unfit c.a-item.result c.b-item.result facts asker c.args.common.now c.args.how c.in-None.ensures)

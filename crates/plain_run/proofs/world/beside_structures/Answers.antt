@@ -5,8 +5,8 @@ use Rattle.plain_run.proofs.world.beside_structures.Goals as goal
 
 pub loop-s-preserved : goal.loop-s-preserved
 loop-s-preserved c = λ room taken h.
-    take-more (λ s. s.greatest + 1) c.args.structures.now c.loop-s.s-index c.s-item.result room taken c.less-left.result c.loop-s-test.true c.s-item.is
-    (c.less-left.ensures room (taken + sum_by (λ s. s.greatest + 1) (take c.loop-s.s-index c.args.structures.now)) (c.loop-s.invariant room taken h))
+    take-more (λ s. s.greatest + 1) c.args.structures.now c.loop-s.s-index c.s-item.result room taken c.left_beside-left.result c.loop-s-test.true c.s-item.is
+    (c.left_beside-left.ensures room (taken + sum_by (λ s. s.greatest + 1) (take c.loop-s.s-index c.args.structures.now)) (c.loop-s.invariant room taken h))
 
 pub returns : goal.returns
 returns c = λ room taken h. taken-all (λ s. s.greatest + 1) c.args.structures.now c.loop-s.s-index room taken c.loop-s.left c.loop-s-test.false (c.loop-s.invariant room taken h)
