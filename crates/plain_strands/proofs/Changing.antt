@@ -18,9 +18,4 @@ drop-none (x ∷ xs) e = absurd (nonzero (length xs) e)
     nonzero : (n : ℕ) → suc n ≡ 0 → ⊥
     nonzero n e = omega arith
 
--- what follows from what a call that may fail left
-pub on-ok : {A E : Type 0} (P Q : Type 0) (r : Result A E) → (P → Q) → OnOk r P → OnOk r Q
-on-ok P Q (Ok a) f h = f h
-on-ok P Q (Err e) f h = h
-
 pub ruleset changing = (get-there, get-past, changed-past, drop-none)

@@ -16,7 +16,7 @@ use Rattle.plain_run.specs.Held.{common_of}
 use Rattle.plain_strands.specs.Channels.{changed}
 use Rattle.plain_strands.specs.Results.{CommonStays, JustTook, collects_untaken, free_end, mapping_given, prefixed}
 use Rattle.plain_strands.specs.Targets.{with_taken}
-use Rattle.plain_strands.proofs.Making.{append-one}
+use Rattle.plain_run.proofs.Lists.{append-one}
 
 -- ---- a result that is given back
 

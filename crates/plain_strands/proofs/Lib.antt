@@ -1,13 +1,9 @@
-pub mod Calling
 pub mod Changing
 pub mod Choosing
 pub mod Collecting
-pub mod Copying
 pub mod Erring
 pub mod Gathering
-pub mod Making
 pub mod Naming
 pub mod Receiving
 pub mod Resulting
-pub mod Sending
 pub mod Waiting

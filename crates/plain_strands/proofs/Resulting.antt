@@ -18,8 +18,8 @@ use Rattle.plain_run.specs.declared.held.Structure.{Structure}
 use Rattle.plain_run.specs.Held.{structure_of}
 use Rattle.plain_run.proofs.Made.{gave-past, gave-there}
 use Rattle.plain_strands.specs.Results.{detail_of, details, error_from, errors_from, mapping_given, mapping_of, one_missing}
-use Rattle.plain_strands.proofs.Making.{append-one}
-use Rattle.plain_strands.proofs.Sending.{sum-held}
+use Rattle.plain_run.proofs.Lists.{append-one}
+use Rattle.plain_copies.proofs.Sums.{sum-held}
 
 -- ---- so many numbers
 

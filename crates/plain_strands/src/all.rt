@@ -131,14 +131,14 @@ pub fn perform_wait_all(
     asker: &Asker,
     common: &mut Common,
 ) -> Result<Performed, Memory>
-    ensures row { IfOk result (λ done. IsPerformed facts.now (operation.WaitAll atom names.now) operands.now asker.now common.old common.new true done) }
+    ensures row { IfOk result (λ done. IsPerformed facts.now (operation.WaitAll atom names.now) operands.now asker.now common.old common.new ⊥ done) }
     ensures stays { IfOk result (Stays common.old common.new) }
 {
     let mut found = Vec::new(alloc);
     if !targets(common, asker.role, names.as_slice(), operands, &mut found)? {
         return Ok(Performed::Unfit);
     }
-    match facts.atoms.get(atom as usize) {
+    match facts.atoms.defs().get(atom as usize) {
         None => Ok(Performed::Unfit),
         Some(def) => {
             let fields = field_names(alloc, def)?;

@@ -145,7 +145,7 @@ pub fn perform_wait_any(
     asker: &Asker,
     common: &mut Common,
 ) -> Result<Performed, Memory>
-    ensures row { IfOk result (λ done. (facts : FactsOf) → IsPerformed facts (operation.WaitAny names.now) operands.now asker.now common.old common.new true done) }
+    ensures row { IfOk result (λ done. (facts : FactsOf) → IsPerformed facts (operation.WaitAny names.now) operands.now asker.now common.old common.new ⊥ done) }
     ensures stays { IfOk result (Stays common.old common.new) }
 {
     let mut found = Vec::new(alloc);

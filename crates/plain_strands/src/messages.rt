@@ -48,7 +48,7 @@ fn flushes(common: &Common, role: Role, to: u64) -> Effect
 
 /// A flush of what was sent to a worker.
 pub fn perform_flush(worker: u32, operands: &[Value], asker: &Asker, common: &Common) -> Performed
-    ensures row { (facts : FactsOf) → IsPerformed facts (operation.Flush worker) operands.now asker.now common.now common.now true result }
+    ensures row { (facts : FactsOf) → IsPerformed facts (operation.Flush worker) operands.now asker.now common.now common.now ⊥ result }
     ensures stays { Stays common.now common.now result }
 {
     match operands {
@@ -62,7 +62,7 @@ pub fn perform_flush(worker: u32, operands: &[Value], asker: &Asker, common: &Co
 
 /// The second half of a send: what was sent is received.
 pub fn perform_done(worker: u32, operands: &[Value], asker: &Asker, common: &Common) -> Performed
-    ensures row { (facts : FactsOf) → IsPerformed facts (operation.Done worker) operands.now asker.now common.now common.now true result }
+    ensures row { (facts : FactsOf) → IsPerformed facts (operation.Done worker) operands.now asker.now common.now common.now ⊥ result }
     ensures stays { Stays common.now common.now result }
 {
     match operands {
@@ -165,7 +165,7 @@ pub fn perform_receive(
     asker: &Asker,
     common: &mut Common,
 ) -> Result<Performed, Memory>
-    ensures row { IfOk result (λ done. (facts : FactsOf) → IsPerformed facts (operation.Receive worker) operands.now asker.now common.old common.new true done) }
+    ensures row { IfOk result (λ done. (facts : FactsOf) → IsPerformed facts (operation.Receive worker) operands.now asker.now common.old common.new ⊥ done) }
     ensures stays { IfOk result (Stays common.old common.new) }
 {
     match operands {

@@ -8,12 +8,12 @@ ghost use Rattle.run_model.specs.Limits.{most_cells};
 ghost use Rattle.run_model.specs.Waits as model;
 ghost use Rattle.plain_run.specs.Came.{WorldStays, came_of};
 ghost use Rattle.plain_run.specs.Held.{error_of, heap_of, structure_of, world_of};
-ghost use Rattle.plain_strands.specs.Copied.{IsSum};
+ghost use Rattle.plain_copies.specs.Copied.{IsSum};
 ghost use Rattle.plain_strands.specs.Results.{detail_of, details, error_from, errors_from, mapping_given, mapping_of, one_missing};
 
 use crate::errors::future_taken;
-use crate::sends::{cells_of, make_all};
 use bal_base::{Memory, Text};
+use plain_copies::{cells_of, make_all};
 use plain_run::{Came, ErrorObject, Heap, Members, Structure, World, has_room_for, new_structure};
 use std::alloc::Global;
 use type_model::{AtomDef, FieldDef};

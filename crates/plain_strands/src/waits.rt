@@ -127,7 +127,7 @@ fn waits_worker(
     role: Role,
     worker: u32,
 ) -> Result<Performed, Memory>
-    ensures row { IfOk result (λ done. (facts : FactsOf) (asker : AskerOf) → asker.role ≡ Some role → IsPerformed facts (operation.WaitWorker worker) [] asker common.old common.new true done) }
+    ensures row { IfOk result (λ done. (facts : FactsOf) (asker : AskerOf) → asker.role ≡ Some role → IsPerformed facts (operation.WaitWorker worker) [] asker common.old common.new ⊥ done) }
     ensures stays { IfOk result (Stays common.old common.new) }
 {
     match worker_target(common, role, worker as u64) {
@@ -144,7 +144,7 @@ pub fn perform_wait_worker(
     asker: &Asker,
     common: &mut Common,
 ) -> Result<Performed, Memory>
-    ensures row { IfOk result (λ done. (facts : FactsOf) → IsPerformed facts (operation.WaitWorker worker) operands.now asker.now common.old common.new true done) }
+    ensures row { IfOk result (λ done. (facts : FactsOf) → IsPerformed facts (operation.WaitWorker worker) operands.now asker.now common.old common.new ⊥ done) }
     ensures stays { IfOk result (Stays common.old common.new) }
 {
     match operands {
@@ -162,7 +162,7 @@ pub fn perform_wait_future(
     operands: &[Value],
     common: &mut Common,
 ) -> Result<Performed, Memory>
-    ensures row { IfOk result (λ done. (facts : FactsOf) (asker : AskerOf) → IsPerformed facts operation.WaitFuture operands.now asker common.old common.new true done) }
+    ensures row { IfOk result (λ done. (facts : FactsOf) (asker : AskerOf) → IsPerformed facts operation.WaitFuture operands.now asker common.old common.new ⊥ done) }
     ensures stays { IfOk result (Stays common.old common.new) }
 {
     match operands {

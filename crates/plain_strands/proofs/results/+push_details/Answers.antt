@@ -1,6 +1,6 @@
 use Rattle.std.proofs.Common.{map}
 use Rattle.plain_run.specs.Held.{structure_of}
-use Rattle.plain_strands.proofs.Changing.{on-ok}
+use Rattle.plain_run.proofs.Given.{on-ok}
 use Rattle.plain_strands.proofs.Resulting.{details-step}
 use Rattle.plain_strands.proofs.results.+push_details.Goals as goal
 

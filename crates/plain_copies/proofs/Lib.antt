@@ -1,0 +1,4 @@
+pub mod Copying
+pub mod Giving
+pub mod Resting
+pub mod Sums
