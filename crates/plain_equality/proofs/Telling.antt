@@ -14,5 +14,5 @@ use Rattle.plain_run.specs.declared.effect.Performed.TheVariants.{Done}
 use Rattle.plain_run.specs.Effects.{IsPerformed}
 use Rattle.plain_run.specs.Held.{heap_of, world_of}
 
-pub equal-done : (a b : Value) (facts : Facts) (asker : Asker) (c : Common) (equal : Bool) (done : Performed) → IsTrue equal ↔ AreEqual (heap_of c.world.heap) a b → done ≡ Done (Gives (Some (Truth equal))) → IsPerformed facts operation.Equal (a ∷ b ∷ []) asker c c true done
-equal-done a b facts asker c equal done h e = subst (IsPerformed facts operation.Equal (a ∷ b ∷ []) asker c c true) (sym e) (gives (world_of c.world) (Truth equal), (equal, h, refl), refl)
+pub equal-done : (a b : Value) (facts : Facts) (asker : Asker) (c : Common) (equal : Bool) (done : Performed) → IsTrue equal ↔ AreEqual (heap_of c.world.heap) a b → done ≡ Done (Gives (Some (Truth equal))) → IsPerformed facts operation.Equal (a ∷ b ∷ []) asker c c ⊥ done
+equal-done a b facts asker c equal done h e = subst (IsPerformed facts operation.Equal (a ∷ b ∷ []) asker c c ⊥) (sym e) (gives (world_of c.world) (Truth equal), (equal, h, refl), refl)

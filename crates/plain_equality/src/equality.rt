@@ -58,7 +58,7 @@ pub fn perform_equal(
     operands: &[Value],
     common: &Common,
 ) -> Result<Performed, Memory>
-    ensures row { IfOk result (λ done. (facts : FactsOf) (asker : AskerOf) → IsPerformed facts operation.Equal operands.now asker common.now common.now true done) }
+    ensures row { IfOk result (λ done. (facts : FactsOf) (asker : AskerOf) → IsPerformed facts operation.Equal operands.now asker common.now common.now ⊥ done) }
     ensures stays { IfOk result (Stays common.now common.now) }
 {
     match operands {

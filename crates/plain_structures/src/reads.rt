@@ -127,7 +127,7 @@ pub fn perform_get_item(
     operands: &[Value],
     common: &mut Common,
 ) -> Result<Performed, Memory>
-    ensures row { IfOk result (λ done. (facts : FactsOf) (asker : AskerOf) → IsPerformed facts operation.GetItem operands.now asker common.old common.new true done) }
+    ensures row { IfOk result (λ done. (facts : FactsOf) (asker : AskerOf) → IsPerformed facts operation.GetItem operands.now asker common.old common.new ⊥ done) }
     ensures stays { IfOk result (Stays common.old common.new) }
 {
     match structure_and_int(operands) {
@@ -141,7 +141,7 @@ pub fn perform_get_item(
 
 /// `m[k]` of mappings
 pub fn perform_get_key(operands: &[Value], common: &Common) -> Performed
-    ensures row { (facts : FactsOf) (asker : AskerOf) → IsPerformed facts operation.GetKey operands.now asker common.now common.now true result }
+    ensures row { (facts : FactsOf) (asker : AskerOf) → IsPerformed facts operation.GetKey operands.now asker common.now common.now ⊥ result }
     ensures stays { Stays common.now common.now result }
 {
     match structure_and_text(operands) {
@@ -152,7 +152,7 @@ pub fn perform_get_key(operands: &[Value], common: &Common) -> Performed
 
 /// `m.f`
 pub fn perform_get_field(name: &Text, operands: &[Value], common: &Common) -> Performed
-    ensures row { (facts : FactsOf) (asker : AskerOf) → IsPerformed facts (operation.GetField name.now) operands.now asker common.now common.now true result }
+    ensures row { (facts : FactsOf) (asker : AskerOf) → IsPerformed facts (operation.GetField name.now) operands.now asker common.now common.now ⊥ result }
     ensures stays { Stays common.now common.now result }
 {
     match structure(operands) {
@@ -163,7 +163,7 @@ pub fn perform_get_field(name: &Text, operands: &[Value], common: &Common) -> Pe
 
 /// `m?.f`
 pub fn perform_get_optional(name: &Text, operands: &[Value], common: &Common) -> Performed
-    ensures row { (facts : FactsOf) (asker : AskerOf) → IsPerformed facts (operation.GetOptional name.now) operands.now asker common.now common.now true result }
+    ensures row { (facts : FactsOf) (asker : AskerOf) → IsPerformed facts (operation.GetOptional name.now) operands.now asker common.now common.now ⊥ result }
     ensures stays { Stays common.now common.now result }
 {
     match operands {
