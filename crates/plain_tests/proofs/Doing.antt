@@ -25,16 +25,14 @@ use Rattle.plain_run.specs.Facts.{facts_of}
 use Rattle.plain_run.specs.Held.{common_of, heap_of, with_world, world_of}
 use Rattle.plain_tests.specs.Tells.{IsCast, Tells}
 
-module _ (v : Value) (t : SemType) (built holds : Bool) (facts : Facts) (asker : Asker) where
-  pub test-done : (c : Common) (done : Performed) → Tells v t (Some holds) → done ≡ Done (Gives (Some (Truth holds))) → IsPerformed facts (operation.Test t) (v ∷ []) asker c c built done
+module _ (v : Value) (t : SemType) (cause : Type 0) (holds : Bool) (facts : Facts) (asker : Asker) where
+  pub test-done : (c : Common) (done : Performed) → Tells facts c.world.heap v t (Some holds) → done ≡ Done (Gives (Some (Truth holds))) → IsPerformed facts (operation.Test t) (v ∷ []) asker c c cause done
   test-done c done tells e =
-      subst (IsPerformed facts (operation.Test t) (v ∷ []) asker c c built) (sym e)
-      (gives (world_of c.world) (Truth holds), (holds, tells (own_types (facts_of facts)) (heap_of c.world.heap), refl), refl)
+      subst (IsPerformed facts (operation.Test t) (v ∷ []) asker c c cause) (sym e)
+      (gives (world_of c.world) (Truth holds), (holds, tells, refl), refl)
 
-  pub cast-done : (old : Common) (w : World) (came : Came) (effect : Effect) → Tells v t (Some holds) → IsCast old.world v holds w came → effect_of effect (with_world old w) ≡ lifted (common_of old) (came_of came w) → IsPerformed facts (operation.Cast t) (v ∷ []) asker old (with_world old w) built (Done effect)
-  cast-done old w came effect tells is e =
-      let b = tells (own_types (facts_of facts)) (heap_of old.world.heap) in
-      (came_of came w, row holds b is, e)
+  pub cast-done : (old : Common) (w : World) (came : Came) (effect : Effect) → Tells facts old.world.heap v t (Some holds) → IsCast old.world v holds w came → effect_of effect (with_world old w) ≡ lifted (common_of old) (came_of came w) → IsPerformed facts (operation.Cast t) (v ∷ []) asker old (with_world old w) cause (Done effect)
+  cast-done old w came effect tells is e = (came_of came w, row holds tells is, e)
     where
       row : (holds : Bool) → IsTrue holds ↔ Belongs (own_types (facts_of facts)) (heap_of old.world.heap) v t → IsCast old.world v holds w came → Casts (own_types (facts_of facts)) t v (world_of old.world) (came_of came w)
       row true b is = inl (b.0 refl, is)

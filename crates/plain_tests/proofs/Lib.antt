@@ -1,3 +1,12 @@
 pub mod Doing
-pub mod Errors
+pub mod EntryKeys
+pub mod FewLevels
+pub mod Finding
+pub mod HeldShapes
+pub mod KeyLists
+pub mod Keying
 pub mod OneShape
+pub mod OwnTypes
+pub mod Steps
+pub mod Telling
+pub mod Units

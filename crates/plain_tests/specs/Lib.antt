@@ -1,1 +1,3 @@
+pub mod Own
+pub mod Shapes
 pub mod Tells

@@ -2,17 +2,16 @@
 ghost use Rattle.std.specs.Prelude.{◌≡◌, IfOk};
 ghost use Rattle.operations.specs.declared.operation.Operation.TheVariants as operation;
 ghost use Rattle.typed_tree.specs.SharedTypes.{sem_of};
-ghost use Rattle.plain_run.specs.declared.facts.Facts.{Facts as FactsOf};
 ghost use Rattle.plain_run.specs.declared.held.Asker.{Asker as AskerOf};
 ghost use Rattle.plain_run.specs.Came.{WorldStays, came_of};
 ghost use Rattle.plain_run.specs.Effects.{IsPerformed, Stays};
 ghost use Rattle.plain_run.specs.Operation as operations;
-ghost use Rattle.plain_tests.specs.Tells.{IsCast, Tells, are_told};
+ghost use Rattle.plain_tests.specs.Tells.{AreBeyond, IsCast, Tells};
 
-use crate::simple::belongs;
+use crate::belonging::belongs;
 use bal_base::Memory;
 use operations::Constant;
-use plain_run::{Came, Common, Performed, TestedType, World, lifted, panics, told};
+use plain_run::{Came, Common, Facts, Heap, Performed, TestedType, World, lifted, panics, told};
 use std::alloc::Global;
 use type_model::{BasicSet, SemType};
 use typed_tree::SharedTy;
@@ -30,29 +29,41 @@ fn singleton(c: &Constant) -> SemType
     }
 }
 
-/// Whether the value belongs to the tested type, where that can be told.
-fn belongs_to(v: &Value, t: TestedType) -> Option<bool>
-    ensures { Tells v.now (operations.type_of t.entry) result }
+/// Whether the value belongs to the tested type, where that is told.
+fn belongs_to(
+    alloc: Global,
+    facts: &Facts,
+    heap: &Heap,
+    v: &Value,
+    t: TestedType,
+) -> Result<Option<bool>, Memory>
+    ensures { IfOk result (Tells facts.now heap.now v.now (operations.type_of t.entry)) }
 {
     match t {
-        TestedType::Tree(ty) => belongs(v, &ty.sem),
-        TestedType::Nil => belongs(v, &SemType::Basic(BasicSet::Nil)),
-        TestedType::Error => belongs(v, &SemType::Basic(BasicSet::ErrorAll)),
-        TestedType::Single(c) => belongs(v, &singleton(c)),
+        TestedType::Tree(ty) => belongs(alloc, facts, heap, v, &ty.sem),
+        TestedType::Nil => belongs(alloc, facts, heap, v, &SemType::Basic(BasicSet::Nil)),
+        TestedType::Error => belongs(alloc, facts, heap, v, &SemType::Basic(BasicSet::ErrorAll)),
+        TestedType::Single(c) => belongs(alloc, facts, heap, v, &singleton(c)),
     }
 }
 
-/// `v is T`
-pub fn perform_test(t: TestedType, operands: &[Value], common: &Common) -> Performed
-    ensures row { (facts : FactsOf) (asker : AskerOf) → IsPerformed facts (operation.Test (operations.type_of t.entry)) operands.now asker common.now common.now (are_told operands.now (operations.type_of t.entry)) result }
-    ensures stays { Stays common.now common.now result }
+/// `v is T`. `Untold` has a cause of its own, `IsBeyond`.
+pub fn perform_test(
+    alloc: Global,
+    facts: &Facts,
+    t: TestedType,
+    operands: &[Value],
+    common: &Common,
+) -> Result<Performed, Memory>
+    ensures row { IfOk result (λ done. (asker : AskerOf) → IsPerformed facts.now (operation.Test (operations.type_of t.entry)) operands.now asker common.now common.now (AreBeyond facts.now common.now.world.heap operands.now (operations.type_of t.entry)) done) }
+    ensures stays { IfOk result (Stays common.now common.now) }
 {
     match operands {
-        [v] => match belongs_to(v, t) {
-            Some(holds) => told(holds),
-            None => Performed::NotBuilt,
+        [v] => match belongs_to(alloc, facts, &common.world.heap, v, t)? {
+            Some(holds) => Ok(told(holds)),
+            None => Ok(Performed::Untold),
         },
-        _ => Performed::Unfit,
+        _ => Ok(Performed::Unfit),
     }
 }
 
@@ -67,23 +78,24 @@ fn casts(alloc: Global, world: &mut World, v: &Value, holds: bool) -> Result<Cam
     panics(alloc, world, PanicName::TypeCastError)
 }
 
-/// `<T>v`
+/// `<T>v`. `Untold` has a cause of its own, `IsBeyond`.
 pub fn perform_cast(
     alloc: Global,
+    facts: &Facts,
     t: &SharedTy,
     operands: &[Value],
     common: &mut Common,
 ) -> Result<Performed, Memory>
-    ensures row { IfOk result (λ done. (facts : FactsOf) (asker : AskerOf) → IsPerformed facts (operation.Cast (sem_of t.now)) operands.now asker common.old common.new (are_told operands.now (sem_of t.now)) done) }
+    ensures row { IfOk result (λ done. (asker : AskerOf) → IsPerformed facts.now (operation.Cast (sem_of t.now)) operands.now asker common.old common.new (AreBeyond facts.now common.old.world.heap operands.now (sem_of t.now)) done) }
     ensures stays { IfOk result (Stays common.old common.new) }
 {
     match operands {
-        [v] => match belongs(v, &t.sem) {
+        [v] => match belongs(alloc, facts, &common.world.heap, v, &t.sem)? {
             Some(holds) => {
                 let came = casts(alloc, &mut common.world, v, holds)?;
                 Ok(Performed::Done(lifted(came)))
             }
-            None => Ok(Performed::NotBuilt),
+            None => Ok(Performed::Untold),
         },
         _ => Ok(Performed::Unfit),
     }
