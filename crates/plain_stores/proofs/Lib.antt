@@ -1,0 +1,12 @@
+pub mod Cells
+pub mod Changed
+pub mod Fitted
+pub mod Gapped
+pub mod Levels
+pub mod Performed
+pub mod Pushed
+pub mod Pushing
+pub mod Stored
+pub mod Tested
+pub mod Tried
+pub mod Values

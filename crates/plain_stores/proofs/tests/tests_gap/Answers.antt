@@ -1,0 +1,13 @@
+use Rattle.std.proofs.Common.{◌≡◌, ◌-◌, ◌<◌, false, rules}
+use Rattle.std.specs.List.{list_all}
+use Rattle.run_model.specs.Fillers.{fillers_from}
+use Rattle.run_model.specs.Limits.{most_items}
+use Rattle.plain_stores.specs.Fillers.{is_there}
+use Rattle.plain_stores.proofs.Tested.{gap-missing}
+use Rattle.plain_stores.proofs.tests.tests_gap.Goals as goal
+
+pub returns-then-not-are_there : goal.returns-then-not-are_there
+returns-then-not-are_there c =
+    let few : c.args.place < most_items = search rules in
+    let missing : list_all is_there (fillers_from c.args.fillers.now c.args.size (c.args.place - c.args.size)) ≡ false = search rules in
+    λ w final. gap-missing w c.args.fillers.now c.args.size c.args.place final few missing

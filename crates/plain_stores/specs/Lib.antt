@@ -1,0 +1,5 @@
+pub mod Changes
+pub mod Fillers
+pub mod Operands
+pub mod Questions
+pub mod Tests
