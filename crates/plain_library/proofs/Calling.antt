@@ -1,5 +1,5 @@
 -- What a call of the library came to is what the operation comes to.
-use Rattle.std.proofs.Common.{◌≡◌, ◌≢◌, ◌∙◌, ℕ, Bool, List, [], ◌∷◌, Option, Some, None, Result, Ok, Err, refl, sym, subst, ap}
+use Rattle.std.proofs.Common.{◌≡◌, ◌∙◌, ℕ, List, [], ◌∷◌, Option, Some, None, Result, Ok, Err, refl, sym, subst, ap}
 use Rattle.std.specs.Prelude.{IfOk, get_or}
 use Rattle.bal_base.specs.declared.stop.Memory.{Memory}
 use Rattle.operations.specs.declared.library.LibraryCall.{LibraryCall}
@@ -11,20 +11,19 @@ use Rattle.run_model.specs.Facts.{own_types}
 use Rattle.run_model.specs.Library.{LibraryComes}
 use Rattle.run_model.specs.Performs.{atom_number}
 use Rattle.plain_run.specs.declared.effect.Performed.{Performed}
-use Rattle.plain_run.specs.declared.effect.Performed.TheVariants.{Done, Unfit, NotBuilt}
 use Rattle.plain_run.specs.declared.facts.Facts.{Facts}
 use Rattle.plain_run.specs.declared.held.Asker.{Asker}
 use Rattle.plain_run.specs.declared.held.Common.{Common}
 use Rattle.plain_run.specs.declared.held.World.{World}
 use Rattle.plain_run.specs.declared.world.Came.{Came}
-use Rattle.plain_run.specs.Came.{came_of}
 use Rattle.plain_run.specs.Effects.{IsPerformed}
 use Rattle.plain_run.specs.Facts.{facts_of}
 use Rattle.plain_run.specs.Held.{with_world, world_of}
-use Rattle.plain_structures.specs.Rows.{IsAnswerFor, RowStays}
-use Rattle.plain_structures.proofs.Doing.{row-stays}
-use Rattle.plain_library.specs.Bodies.{is_built, is_on_structures, part_of}
-use Rattle.plain_library.specs.Calls.{IsAnswered, IsCalled}
+use Rattle.plain_structures.specs.declared.answer.Tried.{Tried}
+use Rattle.plain_structures.specs.Rows.{IsAnswerOf, RowStays, TriedStays}
+use Rattle.plain_structures.proofs.Doing.{tried-done, tried-stays}
+use Rattle.plain_library.specs.Calls.{IsCalled, IsLibrary, IsMade, all_tried}
+use Rattle.plain_library.specs.Causes.{IsCallBeyond}
 
 -- ---- calls by their numbers
 
@@ -39,54 +38,58 @@ call-of _ = refl
 one-call : (a b : LibraryCall) → number_of a ≡ number_of b → a ≡ b
 one-call a b h = sym (call-of a) ∙ (ap (λ m. get_or all_calls m Println) h ∙ call-of b)
 
--- where the world is what it was, all that came stays
-pub rows-stay : (w : World) (came : Result (Option Came) Memory) → IfOk came (RowStays w w)
-rows-stay w (Ok came) = row-stays w came
-rows-stay w (Err e) = tt
+-- ---- the operation is the call
 
--- ---- an arm of the library's table
+pub library-done : (facts : Facts) (call : LibraryCall) (atom : Option ℕ) (count : ℕ) (vs : List Value) (asker : Asker) (old : Common) (w : World) (tried : Tried) (done : Performed) → IsLibrary facts call (atom_number atom) vs old.world w tried → IsAnswerOf tried (with_world old w) done → IsPerformed facts (operation.Library call atom count) vs asker old (with_world old w) (IsCallBeyond facts call old.world vs) done
+library-done facts call atom count vs asker old w tried done row answer =
+    let own = own_types (facts_of facts) in
+    tried-done facts asker (operation.Library call atom count) vs old (λ v came. LibraryComes own call (atom_number atom) vs v came) (IsCallBeyond facts call old.world vs)
+    (λ effect (came, row, is). (came, (call, refl, row), is))
+    (λ effect (came, (q, number, comes), is). (came, subst (λ x. LibraryComes own x (atom_number atom) vs (world_of old.world) came) (one-call q call number) comes, is))
+    w tried done row answer
 
-module _ (call p : LibraryCall) (atom : Option ℕ) (count : ℕ) (vs : List Value) (old : Common) (w : World) (built : Bool) where
-  -- what is answered, whatever is known of the program and of the frame that asks
-  abbrev Answers : LibraryCall → Performed → Type 0
-  Answers x done = (facts : Facts) (asker : Asker) → IsPerformed facts (operation.Library x atom count) vs asker old (with_world old w) built done
+-- ---- a call by its body
 
-  called : (came : Option Came) (done : Performed) → IsCalled p (atom_number atom) vs old.world w came → IsAnswerFor came (with_world old w) done → Answers p done
-  called (Some came) (Done effect) row e = λ facts asker. (came_of came w, (p, refl, row (own_types (facts_of facts))), e)
-  called (Some came) Unfit row e = absurd e
-  called (Some came) NotBuilt row e = absurd e
-  called None (Done effect) row e = absurd e
-  called None Unfit row e = λ facts asker effect (came, (q, number, comes), is).
-      row (own_types (facts_of facts)) came (subst (λ x. LibraryComes (own_types (facts_of facts)) x (atom_number atom) vs (world_of old.world) came) (one-call q p number) comes)
-  called None NotBuilt row e = absurd e
-
-  -- it takes no memory
-  pub call-read : (n : ℕ) (came : Option Came) (done : Performed) → call ≡ p → n ≡ atom_number atom → IsCalled p n vs old.world w came → IsAnswerFor came (with_world old w) done → Answers call done
-  call-read n came done same is row e = subst (λ x. Answers x done) (sym same) (called came done (subst (λ a. IsCalled p a vs old.world w came) is row) e)
+module _ (facts : Facts) (p : LibraryCall) (n : ℕ) (vs : List Value) (old new : World) where
+  made : (came : Result (Option Came) Memory) → IfOk came (IsMade p n vs old new) → IfOk (all_tried came) (IsLibrary facts p n vs old new)
+  made (Ok (Some came)) row = row (own_types (facts_of facts))
+  made (Ok None) row = row (own_types (facts_of facts))
+  made (Err e) row = tt
 
   -- it makes a list of this atom
-  pub call-made : (n : ℕ) (came : Result (Option Came) Memory) (done : Result Performed Memory) → call ≡ p → n ≡ atom_number atom → IfOk came (IsCalled p n vs old.world w) → IsAnswered came (with_world old w) done → IfOk done (Answers call)
-  call-made n (Ok came) (Ok done) same is row e = call-read n came done same is row e
-  call-made n (Ok came) (Err f) same is row e = absurd e
-  call-made n (Err x) (Ok done) same is row e = absurd e
-  call-made n (Err x) (Err f) same is row e = tt
+  pub list-call : (call : LibraryCall) (came : Result (Option Came) Memory) (done : Result Tried Memory) → call ≡ p → done ≡ all_tried came → IfOk came (IsMade p n vs old new) → IfOk done (IsLibrary facts call n vs old new)
+  list-call call came done is same row =
+      subst (λ x. IfOk done (IsLibrary facts x n vs old new)) (sym is) (subst (λ r. IfOk r (IsLibrary facts p n vs old new)) (sym same) (made came row))
 
-  pub call-any : (came : Result (Option Came) Memory) (done : Result Performed Memory) → call ≡ p → IfOk came (λ x. (a : ℕ) → IsCalled p a vs old.world w x) → IsAnswered came (with_world old w) done → IfOk done (Answers call)
-  call-any (Ok came) (Ok done) same row e = call-read (atom_number atom) came done same refl (row (atom_number atom)) e
-  call-any (Ok came) (Err f) same row e = absurd e
-  call-any (Err x) (Ok done) same row e = absurd e
-  call-any (Err x) (Err f) same row e = tt
+  at-atom : (came : Result (Option Came) Memory) → IfOk came (IsCalled p vs old new) → IfOk came (IsMade p n vs old new)
+  at-atom (Ok came) row = row n
+  at-atom (Err e) row = tt
 
--- ---- calls that are told from others
+  -- whatever atom it names
+  pub any-call : (call : LibraryCall) (came : Result (Option Came) Memory) (done : Result Tried Memory) → call ≡ p → done ≡ all_tried came → IfOk came (IsCalled p vs old new) → IfOk done (IsLibrary facts call n vs old new)
+  any-call call came done is same row = list-call call came done is same (at-atom came row)
 
-pub same-part : (call : LibraryCall) → call ≢ Println → call ≢ Print → call ≢ Abs → call ≢ ToString → call ≢ StringLength → call ≢ StartsWith → call ≢ ToUpperAscii → call ≢ ToLowerAscii → call ≢ ToCodePointInts → is_on_structures (part_of call) ≡ is_built (part_of call)
-same-part Println a b c d e f g h i = absurd (a refl)
-same-part Print a b c d e f g h i = absurd (b refl)
-same-part Abs a b c d e f g h i = absurd (c refl)
-same-part ToString a b c d e f g h i = absurd (d refl)
-same-part StringLength a b c d e f g h i = absurd (e refl)
-same-part StartsWith a b c d e f g h i = absurd (f refl)
-same-part ToUpperAscii a b c d e f g h i = absurd (g refl)
-same-part ToLowerAscii a b c d e f g h i = absurd (h refl)
-same-part ToCodePointInts a b c d e f g h i = absurd (i refl)
-same-part _ a b c d e f g h i = refl
+  -- it asks questions of types
+  pub asking-call : (call : LibraryCall) (done : Result Tried Memory) → call ≡ p → IfOk done (λ t. (a : ℕ) → IsLibrary facts p a vs old new t) → IfOk done (IsLibrary facts call n vs old new)
+  asking-call call done is row = subst (λ x. IfOk done (IsLibrary facts x n vs old new)) (sym is) (by done row)
+    where
+      by : (r : Result Tried Memory) → IfOk r (λ t. (a : ℕ) → IsLibrary facts p a vs old new t) → IfOk r (IsLibrary facts p n vs old new)
+      by (Ok t) row = row n
+      by (Err e) row = tt
+
+-- ---- what stays
+
+pub called-stays : (old new : World) (came : Result (Option Came) Memory) (done : Result Tried Memory) → done ≡ all_tried came → IfOk came (RowStays old new) → IfOk done (TriedStays old new)
+called-stays old new came done same row = subst (λ r. IfOk r (TriedStays old new)) (sym same) (by came row)
+  where
+    by : (r : Result (Option Came) Memory) → IfOk r (RowStays old new) → IfOk (all_tried r) (TriedStays old new)
+    by (Ok (Some came)) row = row
+    by (Ok None) row = row
+    by (Err e) row = tt
+
+-- where the world is what it was
+pub all-stay : (w : World) (done : Result Tried Memory) → IfOk done (TriedStays w w)
+all-stay w (Ok t) = tried-stays w t
+all-stay w (Err e) = tt
+
+pub ruleset staying = (called-stays, all-stay)

@@ -1,17 +1,19 @@
 -- What is given of lists, mappings and errors.
-use Rattle.std.proofs.Common.{◌≡◌, ℕ, List, Option, Some, None, IsSomeAnd, sym, subst}
+use Rattle.std.proofs.Common.{◌≡◌, ℕ, ℤ, List, Option, Some, None, IsSomeAnd, inl, inr, length, sym, subst}
 use Rattle.std.specs.Prelude.{option_map, slice_get}
 use Rattle.std.proofs.lemmas.Option.{slice_get-map}
 use Rattle.bal_base.specs.declared.text.Text.{Text}
+use Rattle.operations.specs.declared.library.LibraryCall.TheVariants.{Slice}
 use Rattle.value_model.specs.declared.value.Value.{Value}
+use Rattle.value_model.specs.declared.value.Value.TheVariants.{Struct}
+use Rattle.value_model.specs.PanicName.{number_parsing_error}
+use Rattle.value_model.specs.Stands.{OwnTypes}
 use Rattle.value_model.specs.Heap.{ErrorObject as ModelError}
-use Rattle.operations.specs.declared.library.LibraryCall.{LibraryCall}
 use Rattle.value_model.specs.World.{Came, World}
-use Rattle.run_model.specs.Library.{ErrorAt}
-use Rattle.run_model.specs.Rows.{GivesList, ListAt, MappingAt}
-use Rattle.plain_run.specs.declared.held.World.{World as PlainWorld}
-use Rattle.plain_run.specs.declared.world.Came.{Came as PlainCame}
-use Rattle.plain_library.specs.Calls.{IsCalled}
+use Rattle.run_model.specs.Library.{ErrorAt, LibraryComes, ParsesInt, Slices}
+use Rattle.run_model.specs.Rows.{GivesList, ListAt, MappingAt, gives_error}
+use Rattle.plain_library.specs.Ints.{IsIntOf}
+use Rattle.plain_library.specs.Parts.{GivesPart, IsPartAt, IsPartOf, bounded, end_or}
 use Rattle.plain_structures.specs.Lookups.{entries_at, items_at}
 use Rattle.plain_structures.proofs.Finding.{from-list, from-mapping, none-of, some-of, to-list, to-mapping}
 
@@ -40,6 +42,33 @@ module _ (w : World) (n : ℕ) where
     pub no-mapping-of-values : None ≡ option_map f (entries_at w.heap n) → (came : Came) → ¬ (MappingAt w n (λ s es. GivesList w atom (f es) came))
     no-mapping-of-values e came row = none-of f (entries_at w.heap n) (OfEntries came) e (from-mapping w n (OfEntries came) row)
 
+-- ---- a part of a list
+
+module _ (w : World) (n atom : ℕ) (i : ℤ) (end : Option ℤ) (came : Came) where
+  abbrev OfPart : List Value → Type 0
+  OfPart vs = Slices w atom vs i (end_or end (length vs)) came
+
+  part-comes : (vs : List Value) (part : Option (List Value)) → IsPartOf vs i (end_or end (length vs)) part → GivesPart w atom part came → OfPart vs
+  part-comes vs (Some xs) is row = inl (is.0, subst (λ l. GivesList w atom l came) is.1 row)
+  part-comes vs None is row = inr (is, row)
+
+  pub part-given : (part : Option (List Value)) → IsPartAt (items_at w.heap n) i end (Some part) → GivesPart w atom part came → ListAt w n (λ s vs. Slices w atom vs i (end_or end (length vs)) came)
+  part-given part is row = to-list w n OfPart (by (items_at w.heap n) is)
+    where
+      by : (o : Option (List Value)) → IsPartAt o i end (Some part) → IsSomeAnd o OfPart
+      by (Some vs) is = part-comes vs part is row
+      by None is = absurd is
+
+pub slice-comes : (own : OwnTypes) (w : World) (n atom : ℕ) (i : ℤ) (end : Option ℤ) (came : Came) → ListAt w n (λ s vs. Slices w atom vs i (end_or end (length vs)) came) → LibraryComes own Slice atom (bounded (Struct n) i end) w came
+slice-comes own w n atom i (Some j) came row = row
+slice-comes own w n atom i None came row = row
+
+-- ---- ints
+
+pub unparsed : (w : World) (o : Option ℤ) (came : Came) → IsIntOf o None → came ≡ gives_error w number_parsing_error → ParsesInt w o came
+unparsed w (Some z) came is e = inr (is, e)
+unparsed w None came is e = e
+
 -- ---- errors
 
 module _ (w : World) (n : ℕ) (P : ModelError → Type 0) where
@@ -50,7 +79,3 @@ module _ (w : World) (n : ℕ) (P : ModelError → Type 0) where
   error-past e h = subst (λ o. IsSomeAnd o P) (sym e) h
 
 pub ruleset held_errors = (slice_get-map)
-
--- what a call comes to on operands that are these
-pub called-on : (call : LibraryCall) (atom : ℕ) (vs ws : List Value) (w : PlainWorld) (came : Option PlainCame) → IsCalled call atom ws w w came → vs ≡ ws → IsCalled call atom vs w w came
-called-on call atom vs ws w came h is = subst (λ l. IsCalled call atom l w w came) (sym is) h

@@ -1,5 +1,7 @@
+pub mod Blanks
 pub mod Calling
 pub mod Given
-pub mod Inside
 pub mod Letters
+pub mod Numerals
 pub mod Printing
+pub mod Reading

@@ -1,3 +1,5 @@
-pub mod Bodies
 pub mod Calls
+pub mod Causes
+pub mod Input
+pub mod Ints
 pub mod Parts

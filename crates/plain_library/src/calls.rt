@@ -2,28 +2,28 @@
 ghost use Rattle.std.specs.Prelude.{◌≡◌, IfOk};
 ghost use Rattle.operations.specs.declared.operation.Operation.TheVariants as operation;
 ghost use Rattle.run_model.specs.Performs.{atom_number as atom_number_of};
-ghost use Rattle.plain_run.specs.declared.facts.Facts.{Facts as FactsOf};
 ghost use Rattle.plain_run.specs.declared.held.Asker.{Asker as AskerOf};
-ghost use Rattle.plain_run.specs.declared.held.Common.{Common as CommonOf};
-ghost use Rattle.plain_run.specs.declared.held.World.{World as WorldOf};
 ghost use Rattle.plain_run.specs.Effects.{IsPerformed, Stays};
-ghost use Rattle.plain_run.specs.Held.{with_world};
-ghost use Rattle.plain_structures.specs.Rows.{RowStays};
-ghost use Rattle.plain_library.specs.Calls.{IsAnswered};
-ghost use Rattle.plain_library.specs.Bodies.{is_built, is_on_structures, part_of};
+ghost use Rattle.plain_structures.specs.Rows.{TriedStays};
+ghost use Rattle.plain_library.specs.Calls.{IsLibrary, all_tried};
+ghost use Rattle.plain_library.specs.Causes.{IsCallBeyond};
 
+use crate::copies::{clone, clone_read_only};
 use crate::errors::{cause, detail, message};
-use crate::lists::{list_length, reverse};
+use crate::input::readln;
+use crate::lists::{list_length, reverse, slice};
 use crate::mappings::{get, has_key, keys, mapping_length};
 use crate::output::{print, println};
 use crate::strings::{
-    starts_with, string_length, to_code_point_ints, to_lower_ascii, to_upper_ascii,
+    starts_with, string_length, substring, to_code_point_ints, to_lower_ascii, to_upper_ascii, trim,
 };
-use crate::values::{abs, to_string};
+use crate::values::{abs, from_string, to_string};
 use bal_base::Memory;
 use operations::LibraryCall;
-use plain_run::{Came, Common, Performed};
-use plain_structures::performed;
+use plain_removals::{pop, remove_item, remove_key};
+use plain_run::{Came, Common, Facts, Performed, World};
+use plain_stores::push;
+use plain_structures::{Tried, answered};
 use std::alloc::Global;
 use value_model::Value;
 
@@ -37,68 +37,77 @@ fn atom_number(atom: Option<u32>) -> u32
     }
 }
 
-/// What came, as what is answered for an operation.
-fn answered(came: Result<Option<Came>, Memory>) -> Result<Performed, Memory>
-    ensures row { (c : CommonOf) → IsAnswered came c result }
-    ensures stays { (old : CommonOf) (w : WorldOf) → IfOk came (RowStays old.world w) → IfOk result (Stays old (with_world old w)) }
+/// What came, as what was tried.
+fn told(came: Result<Option<Came>, Memory>) -> Result<Tried, Memory>
+    ensures { result ≡ all_tried came }
 {
     match came {
-        Ok(came) => Ok(performed(came)),
+        Ok(Some(came)) => Ok(Tried::Came(came)),
+        Ok(None) => Ok(Tried::Unfit),
         Err(Memory) => Err(Memory),
     }
 }
 
-/// What a call of the library comes to. `NotBuilt` comes only for those that have no body yet, which change nothing.
-pub fn perform_library(
+/// What a call comes to, where this is the atom of the list that it makes.
+#[tactic(auto, using(crate::proofs::Calling::staying))]
+fn called(
     alloc: Global,
+    facts: &Facts,
     call: LibraryCall,
-    atom: Option<u32>,
-    count: u64,
+    atom: u32,
     operands: &[Value],
-    common: &mut Common,
-) -> Result<Performed, Memory>
-    ensures row { IfOk result (λ done. (facts : FactsOf) (asker : AskerOf) → IsPerformed facts (operation.Library call atom count) operands.now asker common.old common.new (is_built (part_of call)) done) }
-    ensures stays { IfOk result (Stays common.old common.new) }
+    world: &mut World,
+) -> Result<Tried, Memory>
+    ensures row { IfOk result (IsLibrary facts.now call atom operands.now world.old world.new) }
+    ensures stays { IfOk result (TriedStays world.old world.new) }
 {
     match call {
-        LibraryCall::Println => answered(println(alloc, operands, &mut common.world)),
-        LibraryCall::Print => answered(print(alloc, operands, &mut common.world)),
-        LibraryCall::Abs => answered(abs(alloc, operands, &mut common.world)),
-        LibraryCall::ToString => answered(to_string(alloc, operands, &mut common.world)),
-        LibraryCall::StringLength => answered(string_length(alloc, operands, &common.world)),
-        LibraryCall::StartsWith => answered(starts_with(alloc, operands, &common.world)),
-        LibraryCall::ToUpperAscii => answered(to_upper_ascii(alloc, operands, &common.world)),
-        LibraryCall::ToLowerAscii => answered(to_lower_ascii(alloc, operands, &common.world)),
-        LibraryCall::ToCodePointInts => {
-            answered(to_code_point_ints(alloc, atom_number(atom), operands, &mut common.world))
-        }
-        _ => on_structures(alloc, call, atom, count, operands, common),
+        LibraryCall::Println => told(println(alloc, operands, world)),
+        LibraryCall::Print => told(print(alloc, operands, world)),
+        LibraryCall::Readln => told(readln(alloc, operands, world)),
+        LibraryCall::FromString => told(from_string(alloc, operands, world)),
+        LibraryCall::Abs => told(abs(alloc, operands, world)),
+        LibraryCall::ToString => told(to_string(alloc, operands, world)),
+        LibraryCall::Clone => told(clone(alloc, operands, world)),
+        LibraryCall::CloneReadOnly => told(clone_read_only(alloc, operands, world)),
+        LibraryCall::StringLength => told(string_length(alloc, operands, world)),
+        LibraryCall::StartsWith => told(starts_with(alloc, operands, world)),
+        LibraryCall::Trim => told(trim(alloc, operands, world)),
+        LibraryCall::Substring => told(substring(alloc, operands, world)),
+        LibraryCall::ToUpperAscii => told(to_upper_ascii(alloc, operands, world)),
+        LibraryCall::ToLowerAscii => told(to_lower_ascii(alloc, operands, world)),
+        LibraryCall::ToCodePointInts => told(to_code_point_ints(alloc, atom, operands, world)),
+        LibraryCall::ListLength => told(list_length(operands, world)),
+        LibraryCall::Push => push(alloc, facts, operands, world),
+        LibraryCall::Pop => pop(alloc, facts, operands, world),
+        LibraryCall::RemoveItem => remove_item(alloc, facts, operands, world),
+        LibraryCall::Slice => told(slice(alloc, atom, operands, world)),
+        LibraryCall::Reverse => told(reverse(alloc, atom, operands, world)),
+        LibraryCall::MappingLength => told(mapping_length(operands, world)),
+        LibraryCall::Keys => told(keys(alloc, atom, operands, world)),
+        LibraryCall::HasKey => told(has_key(operands, world)),
+        LibraryCall::Get => told(get(alloc, operands, world)),
+        LibraryCall::RemoveKey => remove_key(alloc, facts, operands, world),
+        LibraryCall::Message => told(message(operands, world)),
+        LibraryCall::Cause => told(cause(operands, world)),
+        LibraryCall::Detail => told(detail(operands, world)),
     }
 }
 
-/// What a call on lists, mappings or errors comes to.
-fn on_structures(
+/// What a call of the library comes to. `Untold` comes only where a question of types that the call asks passes its limits.
+pub fn perform_library(
     alloc: Global,
+    facts: &Facts,
     call: LibraryCall,
     atom: Option<u32>,
     count: u64,
     operands: &[Value],
     common: &mut Common,
 ) -> Result<Performed, Memory>
-    ensures row { IfOk result (λ done. (facts : FactsOf) (asker : AskerOf) → IsPerformed facts (operation.Library call atom count) operands.now asker common.old common.new (is_on_structures (part_of call)) done) }
+    ensures row { IfOk result (λ done. (asker : AskerOf) → IsPerformed facts.now (operation.Library call atom count) operands.now asker common.old common.new (IsCallBeyond facts.now call common.old.world operands.now) done) }
     ensures stays { IfOk result (Stays common.old common.new) }
 {
     let number = atom_number(atom);
-    match call {
-        LibraryCall::ListLength => answered(list_length(number, operands, &common.world)),
-        LibraryCall::Reverse => answered(reverse(alloc, number, operands, &mut common.world)),
-        LibraryCall::MappingLength => answered(mapping_length(number, operands, &common.world)),
-        LibraryCall::Keys => answered(keys(alloc, number, operands, &mut common.world)),
-        LibraryCall::HasKey => answered(has_key(number, operands, &common.world)),
-        LibraryCall::Get => answered(get(alloc, number, operands, &mut common.world)),
-        LibraryCall::Message => answered(message(number, operands, &common.world)),
-        LibraryCall::Cause => answered(cause(number, operands, &common.world)),
-        LibraryCall::Detail => answered(detail(number, operands, &common.world)),
-        _ => Ok(Performed::NotBuilt),
-    }
+    let tried = called(alloc, facts, call, number, operands, &mut common.world)?;
+    Ok(answered(tried))
 }

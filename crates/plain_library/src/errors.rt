@@ -19,8 +19,8 @@ fn error_at(heap: &Heap, n: u32) -> Option<&ErrorObject>
 }
 
 /// The message of the error with this number.
-fn message_of(atom: u32, world: &World, n: u32) -> Result<Option<Came>, Memory>
-    ensures { IfOk result (IsCalled call.Message atom (Error n ∷ []) world.now world.now) }
+fn message_of(world: &World, n: u32) -> Result<Option<Came>, Memory>
+    ensures { IfOk result (IsCalled call.Message (Error n ∷ []) world.now world.now) }
 {
     match error_at(&world.heap, n) {
         None => Ok(None),
@@ -29,11 +29,11 @@ fn message_of(atom: u32, world: &World, n: u32) -> Result<Option<Came>, Memory>
 }
 
 /// `e.message()`
-pub fn message(atom: u32, operands: &[Value], world: &World) -> Result<Option<Came>, Memory>
-    ensures { IfOk result (IsCalled call.Message atom operands.now world.now world.now) }
+pub fn message(operands: &[Value], world: &World) -> Result<Option<Came>, Memory>
+    ensures { IfOk result (IsCalled call.Message operands.now world.now world.now) }
 {
     match operands {
-        [Value::Error(n)] => message_of(atom, world, *n),
+        [Value::Error(n)] => message_of(world, *n),
         _ => Ok(None),
     }
 }
@@ -49,8 +49,8 @@ fn cause_value(cause: Option<u32>) -> Value
 }
 
 /// The cause of the error with this number.
-fn cause_of(atom: u32, world: &World, n: u32) -> Result<Option<Came>, Memory>
-    ensures { IfOk result (IsCalled call.Cause atom (Error n ∷ []) world.now world.now) }
+fn cause_of(world: &World, n: u32) -> Result<Option<Came>, Memory>
+    ensures { IfOk result (IsCalled call.Cause (Error n ∷ []) world.now world.now) }
 {
     match error_at(&world.heap, n) {
         None => Ok(None),
@@ -59,18 +59,18 @@ fn cause_of(atom: u32, world: &World, n: u32) -> Result<Option<Came>, Memory>
 }
 
 /// `e.cause()`
-pub fn cause(atom: u32, operands: &[Value], world: &World) -> Result<Option<Came>, Memory>
-    ensures { IfOk result (IsCalled call.Cause atom operands.now world.now world.now) }
+pub fn cause(operands: &[Value], world: &World) -> Result<Option<Came>, Memory>
+    ensures { IfOk result (IsCalled call.Cause operands.now world.now world.now) }
 {
     match operands {
-        [Value::Error(n)] => cause_of(atom, world, *n),
+        [Value::Error(n)] => cause_of(world, *n),
         _ => Ok(None),
     }
 }
 
 /// The detail of the error with this number.
-fn detail_of(atom: u32, world: &World, n: u32) -> Result<Option<Came>, Memory>
-    ensures { IfOk result (IsCalled call.Detail atom (Error n ∷ []) world.now world.now) }
+fn detail_of(world: &World, n: u32) -> Result<Option<Came>, Memory>
+    ensures { IfOk result (IsCalled call.Detail (Error n ∷ []) world.now world.now) }
 {
     match error_at(&world.heap, n) {
         None => Ok(None),
@@ -79,11 +79,11 @@ fn detail_of(atom: u32, world: &World, n: u32) -> Result<Option<Came>, Memory>
 }
 
 /// `e.detail()`
-pub fn detail(atom: u32, operands: &[Value], world: &World) -> Result<Option<Came>, Memory>
-    ensures { IfOk result (IsCalled call.Detail atom operands.now world.now world.now) }
+pub fn detail(operands: &[Value], world: &World) -> Result<Option<Came>, Memory>
+    ensures { IfOk result (IsCalled call.Detail operands.now world.now world.now) }
 {
     match operands {
-        [Value::Error(n)] => detail_of(atom, world, *n),
+        [Value::Error(n)] => detail_of(world, *n),
         _ => Ok(None),
     }
 }

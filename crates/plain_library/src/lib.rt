@@ -1,18 +1,18 @@
 //! What calls of the library come to, as plain programs over what a run holds.
 //!
-//! - [`perform_library`] of a call: the library's table. Those without a body yet are answered `NotBuilt`; `specs/Bodies.antt`
-//!   has a line for each call.
-//! - [`text_of`] and [`texts_of`]: texts of values, as they are printed.
+//! - [`perform_library`] of a call: the library's table. It is `Untold` only where a question of types passes its limits;
+//!   `specs/Causes.antt` has a line for each call.
 #![tactic(auto)]
 
 mod calls;
+mod copies;
 mod errors;
+mod input;
 mod lists;
 mod mappings;
 mod output;
+mod parts;
 mod strings;
-mod texts;
 mod values;
 
 pub use calls::perform_library;
-pub use texts::{text_of, texts_of};

@@ -7,8 +7,10 @@ ghost use Rattle.plain_run.specs.Came.{WorldStays, came_of};
 ghost use Rattle.plain_run.specs.Held.{heap_of, world_of};
 ghost use Rattle.plain_structures.specs.Lookups as lookups;
 ghost use Rattle.plain_structures.specs.Rows.{RowStays};
-ghost use Rattle.plain_library.specs.Calls.{IsCalled};
+ghost use Rattle.plain_library.specs.Calls.{IsCalled, IsMade};
+ghost use Rattle.plain_library.specs.Parts as parts;
 
+use crate::parts::{end_or, part};
 use bal_base::Memory;
 use plain_run::{Came, Heap, Members, World, gives_structure, new_structure, panics, share_all};
 use plain_structures::items_at;
@@ -47,8 +49,8 @@ fn length_at(heap: &Heap, n: u32) -> Option<usize>
 }
 
 /// The length of the list with this number.
-fn length_of(atom: u32, world: &World, n: u32) -> Result<Option<Came>, Memory>
-    ensures { IfOk result (IsCalled call.ListLength atom (Struct n ∷ []) world.now world.now) }
+fn length_of(world: &World, n: u32) -> Result<Option<Came>, Memory>
+    ensures { IfOk result (IsCalled call.ListLength (Struct n ∷ []) world.now world.now) }
 {
     match length_at(&world.heap, n) {
         None => Ok(None),
@@ -57,11 +59,11 @@ fn length_of(atom: u32, world: &World, n: u32) -> Result<Option<Came>, Memory>
 }
 
 /// `l.length()`
-pub fn list_length(atom: u32, operands: &[Value], world: &World) -> Result<Option<Came>, Memory>
-    ensures { IfOk result (IsCalled call.ListLength atom operands.now world.now world.now) }
+pub fn list_length(operands: &[Value], world: &World) -> Result<Option<Came>, Memory>
+    ensures { IfOk result (IsCalled call.ListLength operands.now world.now world.now) }
 {
     match operands {
-        [Value::Struct(n)] => length_of(atom, world, *n),
+        [Value::Struct(n)] => length_of(world, *n),
         _ => Ok(None),
     }
 }
@@ -82,7 +84,7 @@ fn reversed(alloc: Global, heap: &Heap, n: u32) -> Result<Option<Vec<Value>>, Me
 
 /// The list with this number in the other order.
 fn reverse_of(alloc: Global, atom: u32, world: &mut World, n: u32) -> Result<Option<Came>, Memory>
-    ensures row { IfOk result (IsCalled call.Reverse atom (Struct n ∷ []) world.old world.new) }
+    ensures row { IfOk result (IsMade call.Reverse atom (Struct n ∷ []) world.old world.new) }
     ensures stays { IfOk result (RowStays world.old world.new) }
 {
     let all = reversed(alloc, &world.heap, n)?;
@@ -102,11 +104,105 @@ pub fn reverse(
     operands: &[Value],
     world: &mut World,
 ) -> Result<Option<Came>, Memory>
-    ensures row { IfOk result (IsCalled call.Reverse atom operands.now world.old world.new) }
+    ensures row { IfOk result (IsMade call.Reverse atom operands.now world.old world.new) }
     ensures stays { IfOk result (RowStays world.old world.new) }
 {
     match operands {
         [Value::Struct(n)] => reverse_of(alloc, atom, world, *n),
+        _ => Ok(None),
+    }
+}
+
+/// The items between two places, where these are places of the list.
+fn shared_part(
+    alloc: Global,
+    items: &[Value],
+    start: i64,
+    end: Option<i64>,
+) -> Result<Option<Vec<Value>>, Memory>
+    ensures { IfOk result (λ all. parts.IsPartOf items.now start (parts.end_or end (length items.now)) (option_map (λ v. v.items) all)) }
+{
+    match part(items, start, end_or(end, items.len())) {
+        None => Ok(None),
+        Some(part) => {
+            let all = share_all(alloc, part)?;
+            Ok(Some(all))
+        }
+    }
+}
+
+/// The same of the list with this number, where it is one.
+fn part_at(
+    alloc: Global,
+    heap: &Heap,
+    n: u32,
+    start: i64,
+    end: Option<i64>,
+) -> Result<Option<Option<Vec<Value>>>, Memory>
+    ensures { IfOk result (λ all. parts.IsPartAt (lookups.items_at (heap_of heap.now) n) start end (option_map (option_map (λ v. v.items)) all)) }
+{
+    match items_at(heap, n) {
+        None => Ok(None),
+        Some(items) => {
+            let all = shared_part(alloc, items.as_slice(), start, end)?;
+            Ok(Some(all))
+        }
+    }
+}
+
+/// A new list of a part of another one, or a panic where there is no such part.
+fn gives_part(
+    alloc: Global,
+    atom: u32,
+    world: &mut World,
+    all: Option<Vec<Value>>,
+) -> Result<Came, Memory>
+    ensures row { IfOk result (λ came. parts.GivesPart (world_of world.old) atom (option_map (λ v. v.items) all) (came_of came world.new)) }
+    ensures stays { IfOk result (WorldStays world.old world.new) }
+{
+    match all {
+        None => panics(alloc, world, PanicName::IndexOutOfRange),
+        Some(items) => gives_list(alloc, world, atom, items),
+    }
+}
+
+/// A part of the list with this number.
+fn slice_of(
+    alloc: Global,
+    atom: u32,
+    world: &mut World,
+    n: u32,
+    start: i64,
+    end: Option<i64>,
+) -> Result<Option<Came>, Memory>
+    ensures row { IfOk result (IsMade call.Slice atom (parts.bounded (Struct n) start end) world.old world.new) }
+    ensures stays { IfOk result (RowStays world.old world.new) }
+{
+    let all = part_at(alloc, &world.heap, n, start, end)?;
+    match all {
+        None => Ok(None),
+        Some(all) => {
+            let came = gives_part(alloc, atom, world, all)?;
+            Ok(Some(came))
+        }
+    }
+}
+
+/// `l.slice(i)` and `l.slice(i, j)`
+pub fn slice(
+    alloc: Global,
+    atom: u32,
+    operands: &[Value],
+    world: &mut World,
+) -> Result<Option<Came>, Memory>
+    ensures row { IfOk result (IsMade call.Slice atom operands.now world.old world.new) }
+    ensures stays { IfOk result (RowStays world.old world.new) }
+{
+    match operands {
+        [Value::Struct(n), Value::Int(i)] => slice_of(alloc, atom, world, *n, *i, None),
+        [Value::Struct(n), Value::Int(i), Value::Int(j)] => {
+            slice_of(alloc, atom, world, *n, *i, Some(*j))
+        }
         _ => Ok(None),
     }
 }

@@ -6,7 +6,7 @@ ghost use Rattle.value_model.specs.Heap.{entry_at};
 ghost use Rattle.plain_run.specs.Held.{heap_of};
 ghost use Rattle.plain_structures.specs.Lookups as lookups;
 ghost use Rattle.plain_structures.specs.Rows.{RowStays};
-ghost use Rattle.plain_library.specs.Calls.{IsCalled};
+ghost use Rattle.plain_library.specs.Calls.{IsCalled, IsMade};
 
 use crate::lists::gives_list;
 use bal_base::{Memory, Text};
@@ -27,8 +27,8 @@ fn length_at(heap: &Heap, n: u32) -> Option<usize>
 }
 
 /// The length of the mapping with this number.
-fn length_of(atom: u32, world: &World, n: u32) -> Result<Option<Came>, Memory>
-    ensures { IfOk result (IsCalled call.MappingLength atom (Struct n ∷ []) world.now world.now) }
+fn length_of(world: &World, n: u32) -> Result<Option<Came>, Memory>
+    ensures { IfOk result (IsCalled call.MappingLength (Struct n ∷ []) world.now world.now) }
 {
     match length_at(&world.heap, n) {
         None => Ok(None),
@@ -37,11 +37,11 @@ fn length_of(atom: u32, world: &World, n: u32) -> Result<Option<Came>, Memory>
 }
 
 /// `m.length()`
-pub fn mapping_length(atom: u32, operands: &[Value], world: &World) -> Result<Option<Came>, Memory>
-    ensures { IfOk result (IsCalled call.MappingLength atom operands.now world.now world.now) }
+pub fn mapping_length(operands: &[Value], world: &World) -> Result<Option<Came>, Memory>
+    ensures { IfOk result (IsCalled call.MappingLength operands.now world.now world.now) }
 {
     match operands {
-        [Value::Struct(n)] => length_of(atom, world, *n),
+        [Value::Struct(n)] => length_of(world, *n),
         _ => Ok(None),
     }
 }
@@ -72,7 +72,7 @@ fn keys_at(alloc: Global, heap: &Heap, n: u32) -> Result<Option<Vec<Value>>, Mem
 
 /// The keys of the mapping with this number, as a list.
 fn key_list(alloc: Global, atom: u32, world: &mut World, n: u32) -> Result<Option<Came>, Memory>
-    ensures row { IfOk result (IsCalled call.Keys atom (Struct n ∷ []) world.old world.new) }
+    ensures row { IfOk result (IsMade call.Keys atom (Struct n ∷ []) world.old world.new) }
     ensures stays { IfOk result (RowStays world.old world.new) }
 {
     let all = keys_at(alloc, &world.heap, n)?;
@@ -92,7 +92,7 @@ pub fn keys(
     operands: &[Value],
     world: &mut World,
 ) -> Result<Option<Came>, Memory>
-    ensures row { IfOk result (IsCalled call.Keys atom operands.now world.old world.new) }
+    ensures row { IfOk result (IsMade call.Keys atom operands.now world.old world.new) }
     ensures stays { IfOk result (RowStays world.old world.new) }
 {
     match operands {
@@ -112,8 +112,8 @@ fn value_at(heap: &Heap, n: u32, key: &Text) -> Option<Option<Value>>
 }
 
 /// Whether the mapping with this number has the key.
-fn has_key_at(atom: u32, world: &World, n: u32, key: &Text) -> Result<Option<Came>, Memory>
-    ensures { IfOk result (IsCalled call.HasKey atom (Struct n ∷ Str key.now ∷ []) world.now world.now) }
+fn has_key_at(world: &World, n: u32, key: &Text) -> Result<Option<Came>, Memory>
+    ensures { IfOk result (IsCalled call.HasKey (Struct n ∷ Str key.now ∷ []) world.now world.now) }
 {
     match value_at(&world.heap, n, key) {
         None => Ok(None),
@@ -122,24 +122,18 @@ fn has_key_at(atom: u32, world: &World, n: u32, key: &Text) -> Result<Option<Cam
 }
 
 /// `m.hasKey(k)`
-pub fn has_key(atom: u32, operands: &[Value], world: &World) -> Result<Option<Came>, Memory>
-    ensures { IfOk result (IsCalled call.HasKey atom operands.now world.now world.now) }
+pub fn has_key(operands: &[Value], world: &World) -> Result<Option<Came>, Memory>
+    ensures { IfOk result (IsCalled call.HasKey operands.now world.now world.now) }
 {
     match operands {
-        [Value::Struct(n), Value::Str(key)] => has_key_at(atom, world, *n, key),
+        [Value::Struct(n), Value::Str(key)] => has_key_at(world, *n, key),
         _ => Ok(None),
     }
 }
 
 /// The value at a key of the mapping with this number.
-fn get_at(
-    alloc: Global,
-    atom: u32,
-    world: &mut World,
-    n: u32,
-    key: &Text,
-) -> Result<Option<Came>, Memory>
-    ensures row { IfOk result (IsCalled call.Get atom (Struct n ∷ Str key.now ∷ []) world.old world.new) }
+fn get_at(alloc: Global, world: &mut World, n: u32, key: &Text) -> Result<Option<Came>, Memory>
+    ensures row { IfOk result (IsCalled call.Get (Struct n ∷ Str key.now ∷ []) world.old world.new) }
     ensures stays { IfOk result (RowStays world.old world.new) }
 {
     match value_at(&world.heap, n, key) {
@@ -152,17 +146,12 @@ fn get_at(
 }
 
 /// `m.get(k)`
-pub fn get(
-    alloc: Global,
-    atom: u32,
-    operands: &[Value],
-    world: &mut World,
-) -> Result<Option<Came>, Memory>
-    ensures row { IfOk result (IsCalled call.Get atom operands.now world.old world.new) }
+pub fn get(alloc: Global, operands: &[Value], world: &mut World) -> Result<Option<Came>, Memory>
+    ensures row { IfOk result (IsCalled call.Get operands.now world.old world.new) }
     ensures stays { IfOk result (RowStays world.old world.new) }
 {
     match operands {
-        [Value::Struct(n), Value::Str(key)] => get_at(alloc, atom, world, *n, key),
+        [Value::Struct(n), Value::Str(key)] => get_at(alloc, world, *n, key),
         _ => Ok(None),
     }
 }

@@ -13,9 +13,9 @@ ghost use Rattle.plain_run.specs.Held.{world_of};
 ghost use Rattle.plain_structures.specs.Rows.{RowStays};
 ghost use Rattle.plain_library.specs.Calls.{IsCalled};
 
-use crate::texts::texts_of;
 use bal_base::Memory;
 use plain_run::{Came, World, panics};
+use plain_texts::texts_of;
 use std::alloc::Global;
 use text_forms::add_word;
 use value_model::{PanicName, Value};
@@ -24,7 +24,7 @@ use value_model::{PanicName, Value};
 const MOST_CODE_POINTS: usize = 16_777_216;
 
 /// Whether a string may not be as long.
-fn is_long(text: &String) -> bool
+pub fn is_long(text: &String) -> bool
     ensures { result ≡ nat_lt most_code_points (length (written text.now)) }
 {
     text.as_str().chars().count() > MOST_CODE_POINTS
@@ -55,7 +55,7 @@ fn prints(alloc: Global, world: &mut World, values: &[Value], end: &str) -> Resu
 
 /// `io:println(v, w)`
 pub fn println(alloc: Global, operands: &[Value], world: &mut World) -> Result<Option<Came>, Memory>
-    ensures row { IfOk result (λ came. (atom : ℕ) → IsCalled call.Println atom operands.now world.old world.new came) }
+    ensures row { IfOk result (IsCalled call.Println operands.now world.old world.new) }
     ensures stays { IfOk result (RowStays world.old world.new) }
 {
     let came = prints(alloc, world, operands, "\n")?;
@@ -64,7 +64,7 @@ pub fn println(alloc: Global, operands: &[Value], world: &mut World) -> Result<O
 
 /// `io:print(v, w)`
 pub fn print(alloc: Global, operands: &[Value], world: &mut World) -> Result<Option<Came>, Memory>
-    ensures row { IfOk result (λ came. (atom : ℕ) → IsCalled call.Print atom operands.now world.old world.new came) }
+    ensures row { IfOk result (IsCalled call.Print operands.now world.old world.new) }
     ensures stays { IfOk result (RowStays world.old world.new) }
 {
     let came = prints(alloc, world, operands, "")?;

@@ -8,9 +8,9 @@ use Rattle.plain_library.proofs.lists.length_of.Goals as goal
 pub returns-in-None : goal.returns-in-None
 returns-in-None c =
     let w = world_of c.args.world.now in
-    λ own. no-list-row w c.args.n (λ vs. length vs) (λ k. gives w (Int (pos k))) c.in-None.ensures.length
+    λ atom own. no-list-row w c.args.n (λ vs. length vs) (λ k. gives w (Int (pos k))) c.in-None.ensures.length
 
 pub returns-in-Some : goal.returns-in-Some
 returns-in-Some c =
     let w = world_of c.args.world.now in
-    λ own. list-row w c.args.n (λ vs. length vs) (λ k. gives w (Int (pos k))) c.in-Some.length _ c.in-Some.ensures.length (search rules)
+    λ atom own. list-row w c.args.n (λ vs. length vs) (λ k. gives w (Int (pos k))) c.in-Some.length _ c.in-Some.ensures.length (search rules)

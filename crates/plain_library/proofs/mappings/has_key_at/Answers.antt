@@ -9,9 +9,9 @@ use Rattle.plain_library.proofs.mappings.has_key_at.Goals as goal
 pub returns-in-None : goal.returns-in-None
 returns-in-None c =
     let w = world_of c.args.world.now in
-    λ own. no-mapping-row w c.args.n (λ es. entry_at es c.args.key.now) (λ o. gives w (Truth (is_some o))) c.in-None.ensures
+    λ atom own. no-mapping-row w c.args.n (λ es. entry_at es c.args.key.now) (λ o. gives w (Truth (is_some o))) c.in-None.ensures
 
 pub returns-in-Some : goal.returns-in-Some
 returns-in-Some c =
     let w = world_of c.args.world.now in
-    λ own. mapping-row w c.args.n (λ es. entry_at es c.args.key.now) (λ o. gives w (Truth (is_some o))) c.in-Some.v (gives w (Truth c.is_some.result)) c.in-Some.ensures (λ i. gives w (Truth (c.is_some.ensures i)))
+    λ atom own. mapping-row w c.args.n (λ es. entry_at es c.args.key.now) (λ o. gives w (Truth (is_some o))) c.in-Some.v (gives w (Truth c.is_some.result)) c.in-Some.ensures (λ i. gives w (Truth (c.is_some.ensures i)))
