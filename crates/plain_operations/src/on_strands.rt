@@ -2,15 +2,15 @@
 ghost use Rattle.std.specs.Prelude.{IfOk};
 ghost use Rattle.plain_run.specs.Effects.{IsPerformed, Stays};
 ghost use Rattle.plain_run.specs.Operation.{operation_of};
-ghost use Rattle.plain_operations.specs.Bodies.{is_for_strands, part_of};
+ghost use Rattle.plain_operations.specs.Parts.{IsBeforeStrands, part_of};
 
 use crate::on_structures::on_structures;
 use bal_base::Memory;
+use plain_calls::{perform_call_value, perform_start, perform_start_value, perform_workers};
 use plain_run::{Asker, Common, Facts, Op, Performed};
 use plain_strands::{
-    perform_call_value, perform_done, perform_flush, perform_post, perform_receive, perform_send,
-    perform_start, perform_start_value, perform_wait_all, perform_wait_any, perform_wait_future,
-    perform_wait_worker, perform_workers,
+    perform_done, perform_flush, perform_post, perform_receive, perform_send, perform_wait_all,
+    perform_wait_any, perform_wait_future, perform_wait_worker,
 };
 use std::alloc::Global;
 use value_model::Value;
@@ -24,7 +24,7 @@ pub fn on_strands(
     asker: &Asker,
     common: &mut Common,
 ) -> Result<Performed, Memory>
-    ensures row { IfOk result (IsPerformed facts.now (operation_of op.entry) operands.now asker.now common.old common.new (is_for_strands (part_of op.entry))) }
+    ensures row { IfOk result (IsPerformed facts.now (operation_of op.entry) operands.now asker.now common.old common.new (IsBeforeStrands (part_of op.entry))) }
     ensures stays { IfOk result (Stays common.old common.new) }
 {
     match op {

@@ -2,19 +2,20 @@
 ghost use Rattle.std.specs.Prelude.{IfOk};
 ghost use Rattle.plain_run.specs.Effects.{IsPerformed, Stays};
 ghost use Rattle.plain_run.specs.Operation.{operation_of};
-ghost use Rattle.plain_operations.specs.Bodies.{has_body, part_of};
+ghost use Rattle.plain_operations.specs.Parts.{IsUntold};
 
 use crate::on_strands::on_strands;
 use bal_base::Memory;
 use plain_equality::perform_equal;
 use plain_library::perform_library;
 use plain_run::{Asker, Common, Facts, Op, Performed};
+use plain_stores::{perform_set_item, perform_set_key};
 use plain_tests::{perform_cast, perform_test};
 use std::alloc::Global;
 use value_model::Value;
 
-/// What an operation comes to on its operands, the first one first. `NotBuilt` comes only where there is no body yet,
-/// and changes nothing.
+/// What an operation comes to on its operands, the first one first. `Untold` comes only where a question of types that it
+/// asks passes the limits of such questions, and changes nothing.
 pub fn perform(
     alloc: Global,
     facts: &Facts,
@@ -23,16 +24,18 @@ pub fn perform(
     asker: &Asker,
     common: &mut Common,
 ) -> Result<Performed, Memory>
-    ensures row { IfOk result (IsPerformed facts.now (operation_of op.entry) operands.now asker.now common.old common.new (has_body (part_of op.entry) operands.now)) }
+    ensures row { IfOk result (IsPerformed facts.now (operation_of op.entry) operands.now asker.now common.old common.new (IsUntold facts.now operands.now common.old op.entry)) }
     ensures stays { IfOk result (Stays common.old common.new) }
 {
     match op {
         Op::Library { call, atom, count } => {
-            perform_library(alloc, call, atom, count, operands, common)
+            perform_library(alloc, facts, call, atom, count, operands, common)
         }
         Op::Equal => perform_equal(alloc, operands, common),
-        Op::Test(t) => Ok(perform_test(t, operands, common)),
-        Op::Cast(t) => perform_cast(alloc, t, operands, common),
+        Op::Test(t) => perform_test(alloc, facts, t, operands, common),
+        Op::Cast(t) => perform_cast(alloc, facts, t, operands, common),
+        Op::SetItem => perform_set_item(alloc, facts, operands, common),
+        Op::SetKey => perform_set_key(alloc, facts, operands, common),
         _ => on_strands(alloc, facts, op, operands, asker, common),
     }
 }
