@@ -3,10 +3,7 @@ use Rattle.std.proofs.Common.{◌≡◌, ◌≤◌, ◌-◌, ℕ, List, [], ◌�
 use Rattle.std.proofs.lemmas.List.{append-nil, length-drop}
 use Rattle.value_model.specs.declared.value.Value.{Value}
 use Rattle.machine_model.specs.Machine.{first_slots}
-
-pub append-one : {A : Type 0} (xs : List A) (x : A) (ys : List A) → (xs ++ x ∷ []) ++ ys ≡ xs ++ x ∷ ys
-append-one [] x ys = refl
-append-one (y ∷ xs) x ys = ap (λ zs. y ∷ zs) (append-one xs x ys)
+use Rattle.plain_run.proofs.Lists.{append-one}
 
 -- no slot is left
 pub no-more : (count : ℕ) (args : List Value) → count ≤ length args → map Some args ≡ first_slots count args

@@ -1,5 +1,5 @@
 -- What was answered for a step, from what its parts answered.
-use Rattle.std.proofs.Common.{◌≡◌, ◌+◌, ℕ, suc, List, [], ◌∷◌, Result, Ok, Err, Bool, false, length, arith, refl, sym, ap, subst, ◌∙◌}
+use Rattle.std.proofs.Common.{◌≡◌, ◌+◌, ℕ, suc, List, [], ◌∷◌, Result, Ok, Err, length, arith, refl, sym, ap, subst, ◌∙◌}
 use Rattle.std.specs.Prelude.{IfOk, option_map}
 use Rattle.operations.specs.declared.operation.Operation.{Operation}
 use Rattle.value_model.specs.declared.value.Value.{Value}
@@ -12,7 +12,7 @@ use Rattle.machine_model.specs.Runs.{does_in}
 use Rattle.eval_model.specs.Tasks.{Doing}
 use Rattle.plain_run.specs.Facts.{facts_of}
 use Rattle.plain_run.specs.Held.{asker_of, common_of, role_of}
-use Rattle.plain_operations.specs.Bodies.{has_body, part_of}
+use Rattle.plain_operations.specs.Parts.{IsUntold}
 use Rattle.plain_run.specs.Operation.{operation_of}
 use Rattle.plain_run.specs.Effects.{EffectStays, IsPerformed, effect_of}
 use Rattle.plain_run.specs.declared.effect.Performed.TheVariants as effects_done
@@ -22,7 +22,7 @@ use Rattle.plain_run.specs.declared.held.Common.{Common as HeldCommon}
 use Rattle.plain_run.specs.declared.op.Op.{Op}
 use Rattle.plain_steps.specs.declared.carrying.Next.TheVariants.{Moved}
 use Rattle.plain_steps.specs.declared.carrying.Stepped.{Stepped}
-use Rattle.plain_steps.specs.declared.carrying.Stepped.TheVariants.{Did, NeedsTick, Limit, NoUnit, Stuck, NotBuilt}
+use Rattle.plain_steps.specs.declared.carrying.Stepped.TheVariants.{Did, NeedsTick, Limit, NoUnit, Stuck, Untold}
 use Rattle.plain_steps.specs.declared.held.Program.{Program}
 use Rattle.plain_steps.specs.declared.held.State.{State}
 use Rattle.plain_steps.specs.States.{calls_of, machine_of, others_of, state_of}
@@ -50,8 +50,8 @@ unfit p f s new op vs k e none = λ next h. by next (subst (λ x. Takes LibraryA
     by : (next : machine.Next Doing) → Takes LibraryAnswers (machine_of p) (over f s) f (calls_of s.calls.items) (Does op vs k) next → ⊥
     by next (effect, performs, c) = none effect performs
 
-pub not-built : (p : Program) (f : Frame Doing) (s new : State) (op : Op) (vs : List Value) (k : Doing) → (machine_of p).look f.unit f.control ≡ Does (operation_of op) vs k → has_body (part_of op) vs ≡ false → IsStepped p (over f s) NotBuilt new
-not-built p f s new op vs k e b = (op, vs, ap does_in e, b)
+pub untold : (p : Program) (f : Frame Doing) (s new : State) (op : Op) (vs : List Value) (k : Doing) → (machine_of p).look f.unit f.control ≡ Does (operation_of op) vs k → IsUntold p.facts vs s.common op → IsStepped p (over f s) Untold new
+untold p f s new op vs k e cause = (op, vs, s.common, ap does_in e, refl, cause)
 
 pub done : (p : Program) (f : Frame Doing) (s new : State) (op : Operation) (vs : List Value) (k : Doing) (effect : Effect) (d : Stepped) → (machine_of p).look f.unit f.control ≡ Does op vs k → Performs (facts_of p.facts) LibraryAnswers op vs (asker f (calls_of s.calls.items)) (common_of s.common) effect → IsCarried d new (carried (machine_of p) (over f s) f k (calls_of s.calls.items) effect) → StopsSame d (common_of s.common) (common_of new.common) → IsStepped p (over f s) d new
 done p f s new op vs k effect (Did n) e performs c same = takes p f s (Does op vs k) (next_of n new) e (effect, performs, sym c)
@@ -60,7 +60,7 @@ done p f s new op vs k effect (Limit kind) e performs c same = (takes p f s (Doe
 done p f s new op vs k effect NoUnit e performs c same =
     record { f = f; fs = calls_of s.calls.items; op = op; vs = vs; k = k; effect = effect; frames = refl; asks = e; performs = performs; none = c }
 done p f s new op vs k effect Stuck e performs c same = absurd c
-done p f s new op vs k effect NotBuilt e performs c same = absurd c
+done p f s new op vs k effect Untold e performs c same = absurd c
 
 -- what an operation left as it was, in the words of states
 pub stays-so : (effect : HeldEffect) (old new : HeldCommon) → EffectStays old new effect → Stays effect (common_of old) (common_of new)
@@ -85,18 +85,18 @@ asks-so f fs n e = λ i. record { unit = f.unit; role = f.role; depth = deep (le
     deep : (m k : ℕ) → k ≡ m → suc m ≡ k + 1
     deep m k e = omega arith
 
-module _ (p : Program) (call : Call) (before : HeldFrame) (s : State) (op : Op) (vs : List Value) (depth : ℕ) (deep : depth ≡ length s.calls.items + 1) (mid : HeldCommon) (built : Bool) where
+module _ (p : Program) (call : Call) (before : HeldFrame) (s : State) (op : Op) (vs : List Value) (depth : ℕ) (deep : depth ≡ length s.calls.items + 1) (mid : HeldCommon) (cause : Type 0) where
   asked-so : asker (asked_of call before) (calls_of s.calls.items) ≡ asker_of (record { unit = call.unit; role = call.role; depth = depth })
   asked-so =
       asks-so (asked_of call before) (calls_of s.calls.items) (length s.calls.items) (sym (calls-length s.calls.items))
       ∙ (λ i. record { unit = call.unit; role = option_map role_of call.role; depth = sym deep i })
 
   -- what was done is an effect of the operation for the frame that asks
-  pub performed-by : (effect : HeldEffect) → IsPerformed p.facts (operation_of op) vs (record { unit = call.unit; role = call.role; depth = depth }) s.common mid built (effects_done.Done effect) → Performs (facts_of p.facts) LibraryAnswers (operation_of op) vs (asker (asked_of call before) (calls_of s.calls.items)) (common_of s.common) (effect_of effect mid)
+  pub performed-by : (effect : HeldEffect) → IsPerformed p.facts (operation_of op) vs (record { unit = call.unit; role = call.role; depth = depth }) s.common mid cause (effects_done.Done effect) → Performs (facts_of p.facts) LibraryAnswers (operation_of op) vs (asker (asked_of call before) (calls_of s.calls.items)) (common_of s.common) (effect_of effect mid)
   performed-by effect h = subst (λ a. Performs (facts_of p.facts) LibraryAnswers (operation_of op) vs a (common_of s.common) (effect_of effect mid)) (sym asked-so) h
 
   -- and there is none where it said so
-  pub unfit-by : IsPerformed p.facts (operation_of op) vs (record { unit = call.unit; role = call.role; depth = depth }) s.common mid built effects_done.Unfit → (effect : Effect) → ¬ (Performs (facts_of p.facts) LibraryAnswers (operation_of op) vs (asker (asked_of call before) (calls_of s.calls.items)) (common_of s.common) effect)
+  pub unfit-by : IsPerformed p.facts (operation_of op) vs (record { unit = call.unit; role = call.role; depth = depth }) s.common mid cause effects_done.Unfit → (effect : Effect) → ¬ (Performs (facts_of p.facts) LibraryAnswers (operation_of op) vs (asker (asked_of call before) (calls_of s.calls.items)) (common_of s.common) effect)
   unfit-by none effect h = none effect (subst (λ a. Performs (facts_of p.facts) LibraryAnswers (operation_of op) vs a (common_of s.common) effect) asked-so h)
 
 -- ---- the last call of the running strand

@@ -8,14 +8,11 @@ use Rattle.run_model.specs.Common.{Common}
 use Rattle.machine_model.specs.Machine.{State, begun}
 use Rattle.machine_model.specs.Runs.{begins_with, first_common, start, units_to_run}
 use Rattle.eval_model.specs.Tasks.{Doing}
-use Rattle.plain_eval.proofs.Entering.{append-one}
+use Rattle.plain_run.proofs.Lists.{append-one, replicate-more}
 use Rattle.plain_run.specs.declared.held.ToRun.{ToRun}
 use Rattle.plain_steps.specs.Begins.{first_state, to_run_of, with_units}
 use Rattle.plain_steps.specs.States.{machine_of}
 use Rattle.plain_steps.specs.declared.held.Program.{Program}
-
-pub replicate-more : {A : Type 0} (n : ℕ) (x : A) → replicate n x ++ x ∷ [] ≡ replicate (n + 1) x
-replicate-more n x = replicate-append-replicate n 1 x
 
 module _ (p : Program) (words : List Text) (input : List ℕ) (ticks : ℕ) (us rest : List (ℕ × List Value)) (e : us ≡ units_to_run (machine_of p)) where
   pub starts-first : (u : ToRun) (c : Common) (r : Option (State Doing)) → us ≡ to_run_of u ∷ rest → c ≡ with_units (first_common (machine_of p).launch words input ticks) rest → r ≡ option_map (first_state c) (begun (machine_of p) u.unit u.args.items None) → r ≡ start (machine_of p) words input ticks

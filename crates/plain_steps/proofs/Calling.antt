@@ -2,7 +2,7 @@
 use Rattle.std.proofs.Common.{◌≡◌, ◌<◌, ℕ, suc, List, [], ◌∷◌, ◌++◌, Some, None, get_or, length, map, reverse, arith, refl, sym, ap, ◌∙◌}
 use Rattle.std.proofs.lemmas.List.{append_assoc, length-map, length-reverse, map-append, reverse-append}
 use Rattle.std.proofs.lemmas.Option.{slice_get-map, slice_get_read}
-use Rattle.plain_eval.proofs.Entering.{append-one}
+use Rattle.plain_run.proofs.Lists.{append-one}
 use Rattle.plain_run.proofs.Looking.{get-past, get-there}
 use Rattle.plain_run.proofs.Settling.{set-past, set-there}
 use Rattle.plain_steps.specs.declared.held.Call.{Call}

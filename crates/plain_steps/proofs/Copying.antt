@@ -1,5 +1,5 @@
 -- Frames again.
 use Rattle.std.proofs.lemmas.List.{map-append}
-use Rattle.plain_eval.proofs.Entering.{append-one}
+use Rattle.plain_run.proofs.Lists.{append-one}
 
 pub ruleset copying = (append-one, map-append)

@@ -7,7 +7,7 @@ use Rattle.run_model.specs.Common.{Common}
 use Rattle.run_model.specs.Library.{LibraryAnswers}
 use Rattle.machine_model.specs.Machine.{Machine, State}
 use Rattle.machine_model.specs.Runs.{Phase, Picking, Reaches, Runs, Stop, after_move, after_block, after_end, after_pick, blocks, ends, moves, needs_tick, over, passes, picks, start, starts}
-use Rattle.plain_eval.proofs.Entering.{append-one}
+use Rattle.plain_run.proofs.Lists.{append-one}
 use Rattle.plain_steps.specs.Ended.{IsOutcome}
 use Rattle.plain_steps.specs.Going.{HasCome, IsHalted, IsStopped, stop_of}
 use Rattle.plain_steps.specs.States.{machine_of, state_of}

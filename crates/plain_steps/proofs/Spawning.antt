@@ -3,7 +3,7 @@ use Rattle.std.proofs.Common.{◌≡◌, ◌≤◌, ◌-◌, Bool, List, [], ◌
 use Rattle.std.specs.Prelude.{option_map}
 use Rattle.std.specs.List.{slice_range}
 use Rattle.std.proofs.lemmas.List.{take_all}
-use Rattle.plain_eval.proofs.Entering.{append-one}
+use Rattle.plain_run.proofs.Lists.{append-one}
 use Rattle.machine_model.specs.Machine.{Frame, Machine, all_begun, begun, with_begun}
 use Rattle.eval_model.specs.Tasks.{Doing}
 use Rattle.plain_run.specs.Effects.{spawned_of}

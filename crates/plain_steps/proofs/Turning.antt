@@ -15,7 +15,7 @@ use Rattle.plain_steps.specs.Picks.{IsPicked}
 use Rattle.plain_steps.specs.States.{machine_of, state_of}
 use Rattle.plain_steps.specs.declared.carrying.Next.TheVariants.{Moved, Blocked, Ended}
 use Rattle.plain_steps.specs.declared.carrying.Stepped.{Stepped}
-use Rattle.plain_steps.specs.declared.carrying.Stepped.TheVariants.{Did, NeedsTick, Limit, NoUnit, Stuck, NotBuilt}
+use Rattle.plain_steps.specs.declared.carrying.Stepped.TheVariants.{Did, NeedsTick, Limit, NoUnit, Stuck, Untold}
 use Rattle.plain_steps.specs.declared.held.Program.{Program}
 use Rattle.plain_steps.specs.declared.picks.Picked.TheVariants as picked
 use Rattle.plain_steps.specs.declared.running.Halt.TheVariants as halt
@@ -58,7 +58,7 @@ module _ (p : Program) (words : List Text) (input : List ℕ) (ticks : ℕ) (ord
   stepped-by most n used s new (Limit limit) le r u h come = (n, le, (s, at-place n used new.used s u come, h.0, h.1))
   stepped-by most n used s new NoUnit le r u h come = (n, le, (s, at-place n used new.used s u come, h))
   stepped-by most n used s new Stuck le r u h come = (n, le, (s, at-place n used new.used s u come, h))
-  stepped-by most n used s new NotBuilt le r u (op, vs, e, b) come = (n, le, (s, at-place n used new.used s u come, op, vs, e, b))
+  stepped-by most n used s new Untold le r u (op, vs, c, e, is, b) come = (n, le, (s, at-place n used new.used s u come, op, vs, c, e, is, b))
 
   pub stepped-on : (most n : ℕ) (old new : Run) (d : Stepped) → n ≤ most → old.running ≡ true → new.running ≡ runs_on d → new.used ≡ old.used → IsStepped p (state_of old.state) d new.state → HasCome p words input ticks order n old → IsTurned p words input ticks order most (suc n) new (stopped_at d)
   stepped-on most n old new d le running r u h come =

@@ -1,5 +1,5 @@
 -- What is answered for a step.
-use Rattle.std.specs.Prelude.{◌≡◌, ◌∷◌, List, Some, None, false}
+use Rattle.std.specs.Prelude.{◌≡◌, ◌∷◌, List, Some, None}
 use Rattle.operations.specs.declared.operation.Operation.{Operation}
 use Rattle.value_model.specs.declared.value.Value.{Value}
 use Rattle.run_model.specs.Effects.{Effect}
@@ -10,11 +10,12 @@ use Rattle.machine_model.specs.Machine.{Does, Frame, Machine, Step, asker, carri
 use Rattle.machine_model.specs.Runs.{next_operation}
 use Rattle.eval_model.specs.Tasks.{Doing}
 use Rattle.plain_run.specs.Held.{common_of}
-use Rattle.plain_operations.specs.Bodies.{has_body, part_of}
+use Rattle.plain_run.specs.declared.held.Common.{Common}
+use Rattle.plain_operations.specs.Parts.{IsUntold}
 use Rattle.plain_run.specs.Operation.{operation_of}
 use Rattle.plain_run.specs.declared.op.Op.{Op}
 use Rattle.plain_steps.specs.declared.carrying.Stepped.{Stepped}
-use Rattle.plain_steps.specs.declared.carrying.Stepped.TheVariants.{Did, NeedsTick, Limit, NoUnit, Stuck, NotBuilt}
+use Rattle.plain_steps.specs.declared.carrying.Stepped.TheVariants.{Did, NeedsTick, Limit, NoUnit, Stuck, Untold}
 use Rattle.plain_steps.specs.declared.held.Program.{Program}
 use Rattle.plain_steps.specs.declared.held.State.{State}
 use Rattle.plain_steps.specs.States.{machine_of, others_of, calls_of}
@@ -43,5 +44,6 @@ IsStepped p s NeedsTick new = Step LibraryAnswers (machine_of p) s machine.Needs
 IsStepped p s (Limit kind) new = Step LibraryAnswers (machine_of p) s (machine.Limit kind) × (common_of new.common ≡ s.common)
 IsStepped p s NoUnit new = MissesUnit (machine_of p) s
 IsStepped p s Stuck new = (next : machine.Next Doing) → ¬ (Step LibraryAnswers (machine_of p) s next)
-IsStepped p s NotBuilt new =
-    (op : Op) × (vs : List Value) × (next_operation (machine_of p) s.frames ≡ Some (operation_of op, vs)) × (has_body (part_of op) vs ≡ false)
+IsStepped p s Untold new =
+    (op : Op) × (vs : List Value) × (c : Common) × (next_operation (machine_of p) s.frames ≡ Some (operation_of op, vs)) × (common_of c ≡ s.common)
+    × IsUntold p.facts vs c op

@@ -9,14 +9,16 @@ use Rattle.machine_model.specs.Machine.{Step}
 use Rattle.machine_model.specs.Runs as runs
 use Rattle.machine_model.specs.Runs.{Phase, Picking, Reaches, next_operation}
 use Rattle.eval_model.specs.Tasks.{Doing}
-use Rattle.plain_operations.specs.Bodies.{has_body, part_of}
+use Rattle.plain_operations.specs.Parts.{IsUntold}
+use Rattle.plain_run.specs.Held.{common_of}
 use Rattle.plain_run.specs.Operation.{operation_of}
+use Rattle.plain_run.specs.declared.held.Common.{Common as HeldCommon}
 use Rattle.plain_run.specs.declared.op.Op.{Op}
 use Rattle.plain_steps.specs.Answered.{MissesUnit}
 use Rattle.plain_steps.specs.States.{machine_of, state_of}
 use Rattle.plain_steps.specs.declared.carrying.Next.TheVariants.{Moved, Blocked, Ended}
 use Rattle.plain_steps.specs.declared.carrying.Stepped.{Stepped}
-use Rattle.plain_steps.specs.declared.carrying.Stepped.TheVariants.{Did, NeedsTick, Limit, NoUnit, Stuck, NotBuilt}
+use Rattle.plain_steps.specs.declared.carrying.Stepped.TheVariants.{Did, NeedsTick, Limit, NoUnit, Stuck, Untold}
 use Rattle.plain_steps.specs.declared.held.Program.{Program}
 use Rattle.plain_steps.specs.declared.running.Halt.{Halt}
 use Rattle.plain_steps.specs.declared.running.Halt.TheVariants as halt
@@ -46,7 +48,7 @@ runs_on NeedsTick = true
 runs_on (Limit limit) = true
 runs_on NoUnit = true
 runs_on Stuck = true
-runs_on NotBuilt = true
+runs_on Untold = true
 
 -- why it stops there, if it does
 abbrev pub stopped_at : Stepped → Option Stopped
@@ -55,7 +57,7 @@ stopped_at NeedsTick = Some (Halts halt.TicksSpent)
 stopped_at (Limit limit) = Some (Halts (halt.PastLimit limit))
 stopped_at NoUnit = Some (Breaks short.NoUnit)
 stopped_at Stuck = Some (Breaks short.Stuck)
-stopped_at NotBuilt = Some (Breaks short.NotBuilt)
+stopped_at Untold = Some (Breaks short.Untold)
 
 abbrev pub are_there : List ℕ → Bool
 are_there [] = false
@@ -107,9 +109,9 @@ module _ (p : Program) (words : List Text) (input : List ℕ) (ticks : ℕ) (ord
   IsCutShort most n used short.NoUnit = (s : machine.State Doing) × Comes runs.Running n used s × MissesUnit (machine_of p) s
   IsCutShort most n used short.Stuck =
       (s : machine.State Doing) × Comes runs.Running n used s × ((next : machine.Next Doing) → ¬ (Step LibraryAnswers (machine_of p) s next))
-  IsCutShort most n used short.NotBuilt =
-      (s : machine.State Doing) × Comes runs.Running n used s × (op : Op) × (vs : List Value)
-      × (next_operation (machine_of p) s.frames ≡ Some (operation_of op, vs)) × (has_body (part_of op) vs ≡ false)
+  IsCutShort most n used short.Untold =
+      (s : machine.State Doing) × Comes runs.Running n used s × (op : Op) × (vs : List Value) × (c : HeldCommon)
+      × (next_operation (machine_of p) s.frames ≡ Some (operation_of op, vs)) × (common_of c ≡ s.common) × IsUntold p.facts vs c op
   -- all the steps were made, and it isn't over
   IsCutShort most n used short.PastSteps =
       (phase : Phase) × (s : machine.State Doing) × Comes phase n used s × (n ≡ most) × (¬ (IsOver phase s.common))

@@ -15,7 +15,7 @@ use Rattle.plain_steps.specs.declared.held.Call.{Call}
 use Rattle.plain_steps.specs.declared.carrying.Next.{Next}
 use Rattle.plain_steps.specs.declared.carrying.Next.TheVariants as next
 use Rattle.plain_steps.specs.declared.carrying.Stepped.{Stepped}
-use Rattle.plain_steps.specs.declared.carrying.Stepped.TheVariants.{Did, NeedsTick, Limit, NoUnit, Stuck, NotBuilt}
+use Rattle.plain_steps.specs.declared.carrying.Stepped.TheVariants.{Did, NeedsTick, Limit, NoUnit, Stuck, Untold}
 use Rattle.plain_steps.specs.declared.held.State.{State}
 use Rattle.plain_steps.specs.States.{state_of}
 
@@ -49,7 +49,7 @@ IsCarried NeedsTick new c = c ≡ Some machine.NeedsTick
 IsCarried (Limit kind) new c = c ≡ Some (machine.Limit kind)
 IsCarried NoUnit new c = c ≡ None
 IsCarried Stuck new c = ⊥
-IsCarried NotBuilt new c = ⊥
+IsCarried Untold new c = ⊥
 
 -- what an operation left as it was, where its effect doesn't say: `EffectStays` of what is held
 abbrev pub Stays : Effect → model.Common → model.Common → Type 0
@@ -69,4 +69,4 @@ StopsSame NeedsTick old new = new ≡ old
 StopsSame (Limit kind) old new = new ≡ old
 StopsSame NoUnit old new = ⊤
 StopsSame Stuck old new = ⊤
-StopsSame NotBuilt old new = ⊤
+StopsSame Untold old new = ⊤

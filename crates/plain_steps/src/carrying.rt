@@ -46,8 +46,8 @@ pub enum Stepped {
     NoUnit,
     /// There is no step: the frame can do nothing, or its operation comes to nothing on its operands.
     Stuck,
-    /// The operation has no body yet.
-    NotBuilt,
+    /// What the operation comes to is not told, since a question of types passes the limits of such questions.
+    Untold,
 }
 
 /// The call goes on with what the operation gave.

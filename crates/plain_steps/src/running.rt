@@ -37,8 +37,8 @@ pub enum Short {
     NoUnit,
     /// The next step is none.
     Stuck,
-    /// The next operation has no body yet.
-    NotBuilt,
+    /// What the next operation comes to is not told.
+    Untold,
     /// All the steps that it may make were made.
     PastSteps,
 }
@@ -69,7 +69,7 @@ fn runs_on(stepped: &Stepped) -> bool
     match stepped {
         Stepped::Did(next) => matches!(next, Next::Moved),
         Stepped::NeedsTick | Stepped::Limit(_) => true,
-        Stepped::NoUnit | Stepped::Stuck | Stepped::NotBuilt => true,
+        Stepped::NoUnit | Stepped::Stuck | Stepped::Untold => true,
     }
 }
 
@@ -83,7 +83,7 @@ fn stopped_at(stepped: Stepped) -> Option<Stopped>
         Stepped::Limit(limit) => Some(Stopped::Halts(Halt::PastLimit(limit))),
         Stepped::NoUnit => Some(Stopped::Breaks(Short::NoUnit)),
         Stepped::Stuck => Some(Stopped::Breaks(Short::Stuck)),
-        Stepped::NotBuilt => Some(Stopped::Breaks(Short::NotBuilt)),
+        Stepped::Untold => Some(Stopped::Breaks(Short::Untold)),
     }
 }
 

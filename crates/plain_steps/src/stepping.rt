@@ -91,7 +91,7 @@ fn does<'a>(
         &mut state.common,
     )? {
         Performed::Unfit => Ok(Stepped::Stuck),
-        Performed::NotBuilt => Ok(Stepped::NotBuilt),
+        Performed::Untold => Ok(Stepped::Untold),
         Performed::Done(effect) => carry(alloc, program, call, before, running, effect, state),
     }
 }
