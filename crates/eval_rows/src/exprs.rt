@@ -4,7 +4,8 @@
 //! - `(OPERATOR E ..)`: `neg ! * / % + ++ - < <= > >= == != === !==`, of which `++` puts strings together
 //! - `(&& E E)`, `(|| E E)`, `(? E E E)`, `(?: OWN E E T)`, `(check OWN E T)`, `(checkpanic OWN E T)`, `(trap E)`,
 //!   `(narrowed N T)`, `(is T E)`, `(cast T E)`: each type is that of the whole, or the one that is asked for
-//! - `(list ATOM E ..)`, `(mapping ATOM E ..)`, `(error MESSAGE CAUSE E ..)`, `(function-name UNIT)`
+//! - `(list ATOM E ..)`, `(mapping ATOM E ..)`, and immutable ones: `(frozen-list ATOM E ..)`, `(frozen-mapping ATOM E ..)`
+//! - `(error MESSAGE CAUSE E ..)`, `(function-name UNIT)`
 //! - `(item E E)`, `(key E E)`, `(char E E)`, `(field NAME E)`, `(field? NAME E)`
 //! - `(call UNIT E ..)`, `(call-value E ..)`, `(start UNIT E ..)`, `(start-value E ..)`
 //! - `(println E ..)` and the other calls of the library; `(making ATOM CALL E ..)` where it makes a list
@@ -72,14 +73,15 @@ pub fn expr_form(alloc: Global, head: &str, parts: &mut Parts) -> Read<Option<Ty
 
 /// Forms that make structures, or a later one.
 fn structure_form(alloc: Global, head: &str, parts: &mut Parts) -> Read<Option<TypedExpr>> {
-    let immutable = false;
     match head {
-        "list" => {
+        "list" | "frozen-list" => {
             let atom = parts.number()?;
+            let immutable = head == "frozen-list";
             strict_with(alloc, StrictForm::List { atom, immutable }, parts)
         }
-        "mapping" => {
+        "mapping" | "frozen-mapping" => {
             let atom = parts.number()?;
+            let immutable = head == "frozen-mapping";
             strict_with(alloc, StrictForm::Mapping { atom, immutable }, parts)
         }
         _ => reading_form(alloc, head, parts),

@@ -16,6 +16,8 @@ pub enum Misread {
     NotANumber,
     #[error("a form doesn't stand in a function")]
     Outside,
+    #[error("its atoms name others, or have a field twice")]
+    Atoms,
 }
 
 /// What is read, or why it isn't.

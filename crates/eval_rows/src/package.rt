@@ -3,12 +3,12 @@
 use crate::forms::unit_with;
 use crate::misread::{Misread, Read, refuse};
 use crate::nodes::{Draft, HERE, Node};
-use bal_base::Row;
+use bal_base::{Row, Stop};
 use plain_eval::{Body, Unit};
 use plain_run::{Facts, UnitFacts, WorkerFacts};
 use plain_steps::{Launch, Program};
 use std::alloc::Global;
-use type_model::AtomDef;
+use type_model::{AtomDef, TypeEnv};
 use typed_tree::{Initial, TypedBody, TypedUnit, TypedWorker};
 use value_model::FillerList;
 
@@ -36,7 +36,7 @@ pub struct Numbered {
     /// Of the module variables.
     initialiser: TypedUnit,
     initials: Vec<Initial>,
-    atoms: Vec<AtomDef>,
+    atoms: TypeEnv,
     fillers: Vec<FillerList>,
 }
 
@@ -90,9 +90,24 @@ impl Package {
             functions,
             initialiser,
             initials,
-            atoms,
+            atoms: env_of(alloc, atoms)?,
             fillers,
         })
+    }
+}
+
+/// The environment of these atoms.
+fn env_of(alloc: Global, atoms: Vec<AtomDef>) -> Read<TypeEnv> {
+    if !AtomDef::are_below(atoms.as_slice(), atoms.len())
+        || !AtomDef::have_distinct_fields(atoms.as_slice())
+    {
+        return refuse(Misread::Atoms);
+    }
+    let mut env = TypeEnv::new(alloc);
+    match env.add(atoms) {
+        Ok(_) => Ok(env),
+        Err(Stop::Memory) => Err(Stop::Memory),
+        Err(Stop::Fault(_)) => refuse(Misread::Atoms),
     }
 }
 
@@ -167,7 +182,7 @@ fn facts(alloc: Global, package: &Numbered) -> Read<Facts<'_>> {
         initialisers.push(package.initialiser.number)?;
     }
     Ok(Facts {
-        atoms: package.atoms.as_slice(),
+        atoms: &package.atoms,
         units,
         initialisers,
         fillers: package.fillers.as_slice(),

@@ -1,4 +1,5 @@
-//! Rows of lines: `row TITLE`, then forms, `picks N ..` and `ticks N` where they are wanted, and at its end `=> WANTED`.
+//! Rows of lines: `row TITLE`, then forms, `picks N ..`, `ticks N` and `input LINE` where they are wanted, and at its end
+//! `=> WANTED`. Each `input LINE` adds a line to what the program reads.
 
 use crate::misread::{Misread, Read, refuse};
 use crate::package::program;
@@ -33,6 +34,7 @@ pub struct Rows {
     reader: Reader,
     picks: Vec<u64>,
     ticks: u64,
+    input: Vec<u8>,
 }
 
 impl Rows {
@@ -44,6 +46,7 @@ impl Rows {
             reader: Reader::new(alloc),
             picks: Vec::new(alloc),
             ticks: 1000,
+            input: Vec::new(alloc),
         }
     }
 
@@ -79,6 +82,11 @@ impl Rows {
             self.ticks = number(ticks)?;
             return Ok(());
         }
+        if let Some(line) = line.strip_prefix("input ") {
+            self.input.extend_from_slice(line.as_bytes())?;
+            self.input.push(b'\n')?;
+            return Ok(());
+        }
         self.reader.line(line)
     }
 
@@ -96,7 +104,7 @@ impl Rows {
             self.alloc,
             &program,
             &[],
-            &[],
+            self.input.as_slice(),
             order,
             self.ticks,
             MOST_STEPS,

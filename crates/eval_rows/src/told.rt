@@ -22,7 +22,7 @@ fn why_of(why: Short) -> &'static str {
         Short::TooManyPicks => "too many picks",
         Short::NoUnit => "no unit",
         Short::Stuck => "stuck",
-        Short::NotBuilt => "not built",
+        Short::Untold => "not told",
         Short::PastSteps => "past steps",
     }
 }

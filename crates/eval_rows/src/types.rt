@@ -1,7 +1,8 @@
 //! Types and atoms as they are written.
 //!
-//! - `int`, `string`, `boolean`, `nil`, `error`, `(| S T)`, `(atom N)`
-//! - `(array T FILLER)`: lists of any number of these; `(record N T ..)`: mappings with these fields; `(futures T)`
+//! - `int`, `string`, `boolean`, `nil`, `error`, `readonly`, `(| S T)`, `(atom N)`
+//! - `(array T FILLER)`: lists of any number of these; `(tuple T FILLER ..)`: lists of just these; `(record N T ..)`:
+//!   mappings with these fields; `(map T)`: mappings of these; `(arrow ARGS T)`, `(errors T)`, `(futures T)`
 //!
 //! A filler is a constant, `nothing`, `list N` or `mapping N`.
 
@@ -24,6 +25,7 @@ pub fn type_of(alloc: Global, word: &str) -> Read<SemType> {
         "boolean" => boolean(alloc),
         "nil" => Ok(SemType::Basic(BasicSet::Nil)),
         "error" => Ok(SemType::Basic(BasicSet::ErrorAll)),
+        "readonly" => Ok(SemType::Basic(BasicSet::Readonly)),
         _ => refuse(Misread::NotAForm),
     }
 }
@@ -58,13 +60,33 @@ pub fn type_form(alloc: Global, head: &str, parts: &mut Parts) -> Read<Option<No
         }
         "atom" => Ok(Some(Node::Ty(SemType::Atom(parts.number()?)))),
         "array" => array(alloc, parts),
+        "tuple" => tuple(alloc, parts),
         "record" => record(alloc, parts),
+        "map" => {
+            let members = parts.sem()?;
+            mapping(alloc, Vec::new(alloc), Some(plain(alloc, members)))
+        }
+        "arrow" => {
+            let args = parts.sem()?;
+            let result = parts.sem()?;
+            let isolated = false;
+            without_places(alloc, AtomDef::Arrow { args, result, isolated })
+        }
+        "errors" => {
+            let detail = parts.sem()?;
+            without_places(alloc, AtomDef::Error { detail })
+        }
         "futures" => {
             let result = parts.sem()?;
-            Ok(Some(Node::Atom(AtomDef::Future { result }, Vec::new(alloc))))
+            without_places(alloc, AtomDef::Future { result })
         }
         _ => Ok(None),
     }
+}
+
+/// An atom that has no fillers.
+fn without_places(alloc: Global, def: AtomDef) -> Read<Option<Node>> {
+    Ok(Some(Node::Atom(def, Vec::new(alloc))))
 }
 
 fn array(alloc: Global, parts: &mut Parts) -> Read<Option<Node>> {
@@ -75,6 +97,24 @@ fn array(alloc: Global, parts: &mut Parts) -> Read<Option<Node>> {
         rest: Some(plain(alloc, items)),
     };
     Ok(Some(Node::Atom(def, vec![in alloc; filler]?)))
+}
+
+fn tuple(alloc: Global, parts: &mut Parts) -> Read<Option<Node>> {
+    let mut fixed = Vec::new(alloc);
+    let mut fillers = Vec::new(alloc);
+    for _ in 0..parts.left() {
+        if parts.left() == 0 {
+            break;
+        }
+        let item = parts.sem()?;
+        fixed.push(plain(alloc, item))?;
+        fillers.push(filler(alloc, parts)?)?;
+    }
+    let def = AtomDef::List {
+        fixed: Row::of(fixed),
+        rest: None,
+    };
+    Ok(Some(Node::Atom(def, fillers)))
 }
 
 fn record(alloc: Global, parts: &mut Parts) -> Read<Option<Node>> {
@@ -91,11 +131,15 @@ fn record(alloc: Global, parts: &mut Parts) -> Read<Option<Node>> {
             optional: false,
         })?;
     }
+    mapping(alloc, fields, None)
+}
+
+fn mapping(alloc: Global, fields: Vec<FieldDef>, rest: Option<Ty>) -> Read<Option<Node>> {
     let def = AtomDef::Mapping {
         fields: Row::of(fields),
-        rest: None,
+        rest,
     };
-    Ok(Some(Node::Atom(def, Vec::new(alloc))))
+    without_places(alloc, def)
 }
 
 /// A filler.
