@@ -70,7 +70,14 @@ pub fn type_form(alloc: Global, head: &str, parts: &mut Parts) -> Read<Option<No
             let args = parts.sem()?;
             let result = parts.sem()?;
             let isolated = false;
-            without_places(alloc, AtomDef::Arrow { args, result, isolated })
+            without_places(
+                alloc,
+                AtomDef::Arrow {
+                    args,
+                    result,
+                    isolated,
+                },
+            )
         }
         "errors" => {
             let detail = parts.sem()?;
