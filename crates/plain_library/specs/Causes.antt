@@ -1,4 +1,4 @@
--- When it is not told what a call of the library comes to: a question of types that it asks passes the limits of such questions.
+-- When it is not told what a call of the library comes to: a question of types that it asks is not decided.
 use Rattle.std.specs.Prelude.{List}
 use Rattle.operations.specs.declared.library.LibraryCall.{LibraryCall}
 use Rattle.operations.specs.declared.library.LibraryCall.TheVariants.{Println, Print, Readln, FromString, Abs, ToString, Clone, CloneReadOnly, StringLength, StartsWith, Trim, Substring, ToUpperAscii, ToLowerAscii, ToCodePointInts, ListLength, Push, Pop, RemoveItem, Slice, Reverse, MappingLength, Keys, HasKey, Get, RemoveKey, Message, Cause, Detail}

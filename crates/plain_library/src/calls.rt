@@ -94,7 +94,7 @@ fn called(
     }
 }
 
-/// What a call of the library comes to. `Untold` comes only where a question of types that the call asks passes its limits.
+/// What a call of the library comes to. `Untold` comes only where a question of types that the call asks isn't decided.
 pub fn perform_library(
     alloc: Global,
     facts: &Facts,

@@ -12,13 +12,12 @@ ghost use Rattle.plain_library.specs.Parts as parts;
 
 use crate::parts::{end_or, part};
 use bal_base::Memory;
-use plain_run::{Came, Heap, Members, World, gives_structure, new_structure, panics, share_all};
+use plain_run::{
+    Came, Heap, MOST_ITEMS, Members, World, gives_structure, new_structure, panics, share_all,
+};
 use plain_structures::items_at;
 use std::alloc::Global;
 use value_model::{PanicName, Value};
-
-/// The most items of a list.
-const MOST_ITEMS: usize = 4_194_304;
 
 /// A new list, or a panic where it is too long.
 pub fn gives_list(

@@ -14,14 +14,11 @@ ghost use Rattle.plain_structures.specs.Rows.{RowStays};
 ghost use Rattle.plain_library.specs.Calls.{IsCalled};
 
 use bal_base::Memory;
-use plain_run::{Came, World, panics};
+use plain_run::{Came, MOST_CODE_POINTS, World, panics};
 use plain_texts::texts_of;
 use std::alloc::Global;
 use text_forms::add_word;
 use value_model::{PanicName, Value};
-
-/// The most code points of a string.
-const MOST_CODE_POINTS: usize = 16_777_216;
 
 /// Whether a string may not be as long.
 pub fn is_long(text: &String) -> bool

@@ -109,7 +109,7 @@ IsBeforeStrands OfTypes = ⊤
 
 -- ---- what is not told
 
--- a question of types that the operation asks passes the limits of such questions
+-- a question of types that the operation asks is not decided
 module _ (facts : Facts) (vs : List Value) (old : Common) where
   abbrev pub IsUntold : Op → Type 0
   IsUntold (op.Const c) = ⊥

@@ -15,7 +15,7 @@ use std::alloc::Global;
 use value_model::Value;
 
 /// What an operation comes to on its operands, the first one first. `Untold` comes only where a question of types that it
-/// asks passes the limits of such questions, and changes nothing.
+/// asks isn't decided: it passes a limit of the decider, or names an atom that isn't there. Then nothing is changed.
 pub fn perform(
     alloc: Global,
     facts: &Facts,

@@ -61,7 +61,7 @@ pub enum Performed {
     Done(Effect),
     /// It has none on these operands.
     Unfit,
-    /// That is not told, since a question of types passes the limits of such questions.
+    /// That is not told, since a question of types isn't decided.
     Untold,
 }
 

@@ -44,11 +44,11 @@ pub use held::{
     Activation, Asker, Channel, Common, End, ErrorObject, FunctionObject, Heap, Members, Need,
     Role, Status, Strand, Structure, ToRun, World,
 };
-pub use making::{gives_function, gives_structure, new_structure, size_of};
+pub use making::{MOST_ITEMS, gives_function, gives_structure, new_structure, size_of};
 pub use needs::{channel, has_ended, has_success, is_met, is_success, strand_end, worker_end};
 pub use op::{Op, TestedType};
 pub use strands::{block, end_strand, end_worker, settle};
-pub use strings::{gives_text, perform_concat};
+pub use strings::{MOST_CODE_POINTS, gives_text, perform_concat};
 pub use values::{
     Comparison, is_same, perform_compare, perform_negate, perform_not, perform_same, told,
 };

@@ -10,6 +10,9 @@ use crate::world::{Came, has_room_for};
 use bal_base::Memory;
 use value_model::Value;
 
+/// The most items of a list.
+pub const MOST_ITEMS: usize = 4_194_304;
+
 /// How many members they are.
 pub fn size_of(members: &Members) -> u64
     ensures { result ≡ rows.size_of (members_of members.now) }

@@ -17,7 +17,7 @@ use std::alloc::Global;
 use value_model::{PanicName, Value};
 
 /// The most code points of a string.
-const MOST_CODE_POINTS: usize = 16_777_216;
+pub const MOST_CODE_POINTS: usize = 16_777_216;
 
 /// How many code points a text has.
 pub fn code_points(text: &Text) -> usize

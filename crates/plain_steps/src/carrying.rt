@@ -46,7 +46,7 @@ pub enum Stepped {
     NoUnit,
     /// There is no step: the frame can do nothing, or its operation comes to nothing on its operands.
     Stuck,
-    /// What the operation comes to is not told, since a question of types passes the limits of such questions.
+    /// What the operation comes to is not told, since a question of types isn't decided.
     Untold,
 }
 

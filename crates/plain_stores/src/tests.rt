@@ -13,14 +13,11 @@ ghost use Rattle.plain_stores.specs.Tests as said;
 use crate::gaps::{are_there, fillers_of};
 use crate::places::{entry_type, place_type};
 use bal_base::{Memory, Text};
-use plain_run::{Facts, Heap, Members, Structure, World};
+use plain_run::{Facts, Heap, MOST_ITEMS, Members, Structure, World};
 use plain_tests::belongs_if;
 use std::alloc::Global;
 use type_model::Ty;
 use value_model::{Filler, PanicName, Value};
-
-/// The most items of a list.
-const MOST_ITEMS: usize = 4_194_304;
 
 /// What the tests of a store say.
 #[derive(Drop)]

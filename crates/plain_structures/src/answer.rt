@@ -25,7 +25,7 @@ pub enum Tried {
     Came(Came),
     /// The row says nothing of these operands.
     Unfit,
-    /// It is not told, since a question passes the limits of such questions.
+    /// It is not told, since a question isn't decided.
     Untold,
 }
 

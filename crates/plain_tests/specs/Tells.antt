@@ -59,15 +59,15 @@ module _ (own : OwnTypes) (h : ModelHeap) where
 
 -- ---- what is told
 
--- It is asked whether all shapes of the first type are in the second. That is not told where the second names an atom that
--- is not defined, and where the question passes a limit.
-abbrev pub IsUntold : List AtomDef → SemType → SemType → Type 0
-IsUntold atoms s t = (¬ IsDefined atoms t) ⊎ ((limit : TypeLimit) × Passes atoms (Without s t) limit)
+-- It is asked whether all shapes of the first type are in the second. That is not decided where the second names an atom
+-- that is not defined, and where the question passes a limit.
+abbrev pub IsUndecided : List AtomDef → SemType → SemType → Type 0
+IsUndecided atoms s t = (¬ IsDefined atoms t) ⊎ ((limit : TypeLimit) × Passes atoms (Without s t) limit)
 
 module _ (facts : Facts) (h : Heap) where
   -- that is not told of the value's own type
   abbrev pub IsBeyond : Value → SemType → Type 0
-  IsBeyond v t = (s : SemType) × IsOwnType (own_types (facts_of facts)) (heap_of h) v s × IsUntold facts.atoms.now s t
+  IsBeyond v t = (s : SemType) × IsOwnType (own_types (facts_of facts)) (heap_of h) v s × IsUndecided facts.atoms.now s t
 
   -- whether the value belongs to the type, or that it is not told
   abbrev pub Tells : Value → SemType → Option Bool → Type 0
