@@ -8,7 +8,7 @@ use crate::shape::Shape;
 use crate::text::Name;
 
 /// A limit of a run that a step would pass.
-#[derive(Clone, Copy, Debug, PartialEq, Eq)]
+#[derive(Clone, Copy)]
 pub enum LimitKind {
     /// The cells of the heap.
     Cells,
@@ -17,7 +17,7 @@ pub enum LimitKind {
 }
 
 /// What a refused program did wrong.
-#[derive(Clone, Copy, Debug, PartialEq, Eq)]
+#[derive(Clone, Copy, PartialEq, Eq)]
 pub enum FaultCode {
     /// A file's bytes are not UTF-8.
     NotUtf8,
@@ -155,7 +155,7 @@ impl FaultCode {
 }
 
 /// An event of a worker: a send, a receive, a flush, a wait or its end.
-#[derive(Clone, Copy, Debug, PartialEq, Eq)]
+#[derive(Clone, Copy)]
 pub struct Event {
     /// The worker's number in its function, 0 for the default worker.
     pub worker: u32,
@@ -166,7 +166,7 @@ pub struct Event {
 }
 
 /// What a refusal shows beside its code and place.
-#[derive(Debug, Drop)]
+#[derive(Drop)]
 pub enum Kept {
     /// Nothing more.
     Nothing,
@@ -183,7 +183,7 @@ pub enum Kept {
 }
 
 /// Why a source program is refused.
-#[derive(Debug, Drop)]
+#[derive(Drop)]
 pub struct Fault {
     /// What is wrong.
     pub code: FaultCode,
@@ -194,7 +194,7 @@ pub struct Fault {
 }
 
 /// A fault with its place as people read it.
-#[derive(Debug, Drop)]
+#[derive(Drop)]
 pub struct Refusal {
     /// The fault.
     pub fault: Fault,

@@ -3,7 +3,7 @@ ghost use Rattle.std.specs.Prelude.{◌≡◌, ◌<◌, chars, length, take, IsC
 ghost use Rattle.bal_base.specs.Place.{line_after, column_after};
 
 /// A place in a source file.
-#[derive(Clone, Copy, Debug, PartialEq, Eq, PartialOrd, Ord, Hash)]
+#[derive(Clone, Copy)]
 pub struct Place {
     /// The file's number among those of the package, from 0.
     pub file: u32,
@@ -40,6 +40,3 @@ fn after(before: &str) -> (u32, u32)
     }
     (line, column)
 }
-
-#[cfg(test)]
-mod tests;

@@ -7,7 +7,7 @@ use std::marker::Model;
 
 /// A list that is made from a vector and gives its members, and takes no memory for either. Contracts
 /// see it as the list of its members.
-#[derive(Debug, Drop)]
+#[derive(Drop)]
 pub struct Row<T> {
     items: Vec<T>,
 }

@@ -6,7 +6,7 @@ ghost use Rattle.bal_base.specs.Shapes.{shapes_list, fields_list, graph_list};
 use crate::text::Text;
 
 #[cycle(shape)]
-#[derive(Debug, Drop)]
+#[derive(Drop)]
 pub enum Shape {
     Nil,
     Bool(bool),
@@ -20,26 +20,26 @@ pub enum Shape {
 }
 
 #[cycle(shape)]
-#[derive(Debug, Drop)]
+#[derive(Drop)]
 pub struct Shapes {
     items: Vec<Shape>,
 }
 
 #[cycle(shape)]
-#[derive(Debug, Drop)]
+#[derive(Drop)]
 pub struct Fields {
     items: Vec<(Text, Shape)>,
 }
 
 #[cycle(shape)]
-#[derive(Debug, Drop)]
+#[derive(Drop)]
 pub struct Graph {
     items: Vec<Case>,
 }
 
 /// What a function answers to a list of arguments: `None` is a failure.
 #[cycle(shape)]
-#[derive(Debug, Drop)]
+#[derive(Drop)]
 pub struct Case {
     pub args: Shapes,
     pub result: Option<Shape>,
@@ -88,6 +88,4 @@ impl Graph {
 }
 
 mod copy;
-#[cfg(test)]
-mod tests;
 mod valid;

@@ -28,7 +28,7 @@ impl<T: Drop> From<AllocFailed<T>> for Memory {
 pub struct Failed;
 
 /// Why a call stopped: for want of memory, or for a fault of its own kind.
-#[derive(Clone, Copy, Debug, PartialEq, Eq, Drop)]
+#[derive(Clone, Copy, PartialEq, Eq, Drop)]
 pub enum Stop<F> {
     /// Memory ran out.
     Memory,

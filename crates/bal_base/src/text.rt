@@ -13,7 +13,6 @@ use crate::stop::Memory;
 use shared_string::SharedString;
 use std::alloc::{AllocError, Global};
 use std::cmp::Ordering;
-use std::fmt;
 use std::hash::{Hash, Hasher};
 use std::marker::Model;
 
@@ -70,12 +69,6 @@ impl Text {
         ensures { chars (string_bytes result.now) ≡ self.now }
     {
         self.shared.as_string()
-    }
-}
-
-impl fmt::Debug for Text {
-    fn fmt<W: fmt::Write>(&self, f: &mut fmt::Formatter<W>) -> fmt::Result {
-        write!(f, "{:?}", self.as_str())
     }
 }
 
@@ -139,7 +132,7 @@ impl Hash for Text {
 }
 
 /// An identifier, a dotted name or a file name, seen as its list of code points.
-#[derive(Clone, Debug, PartialEq, Eq, PartialOrd, Ord, Hash, Drop)]
+#[derive(Clone, PartialEq, Eq, PartialOrd, Ord, Hash, Drop)]
 pub struct Name {
     text: Text,
 }
@@ -193,6 +186,3 @@ impl Name {
         }
     }
 }
-
-#[cfg(test)]
-mod tests;

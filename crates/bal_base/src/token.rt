@@ -3,7 +3,7 @@
 use crate::text::{Name, Text};
 
 /// A word, literal or sign of a source file, with its slice.
-#[derive(Debug, Drop)]
+#[derive(Drop)]
 pub struct Token {
     /// What it is.
     pub kind: TokenKind,
@@ -14,7 +14,7 @@ pub struct Token {
 }
 
 /// What a token is.
-#[derive(Clone, Debug, PartialEq, Eq, Drop)]
+#[derive(Clone, PartialEq, Eq, Drop)]
 pub enum TokenKind {
     /// A word that is no keyword.
     Word(Name),

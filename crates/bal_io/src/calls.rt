@@ -6,7 +6,7 @@ ghost use Rattle.bal_io.specs.Faults.{Rises};
 use std::marker::Model;
 
 /// The numbers of the calls that fail, counted from 0.
-#[derive(Debug, Drop)]
+#[derive(Drop)]
 pub(crate) enum Fails {
     /// Those of a list.
     Listed(Vec<u64>),
@@ -27,7 +27,7 @@ impl Fails {
 }
 
 /// Which calls fail, how many calls were made, and how many failed.
-#[derive(Debug, Drop)]
+#[derive(Drop)]
 pub(crate) struct Calls {
     fails: Fails,
     made: u64,

@@ -122,6 +122,3 @@ fn read_front<F: Read + Drop>(file: F, alloc: Global, max: u64) -> Result<Vec<u8
     bytes.truncate(most as usize);
     Ok(bytes)
 }
-
-#[cfg(test)]
-mod tests;

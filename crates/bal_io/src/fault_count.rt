@@ -8,7 +8,7 @@ use std::io::{Error, ErrorKind};
 use std::marker::Model;
 
 /// A count of failed calls, which stays at its last value.
-#[derive(Debug, Drop)]
+#[derive(Drop)]
 pub(crate) struct FaultCount {
     count: u64,
 }

@@ -29,6 +29,3 @@ pub use mem_source::MemSource;
 pub use outside::{Folder, Line, Sink, Source};
 pub use std_sink::StdSink;
 pub use std_source::StdSource;
-
-#[cfg(test)]
-mod tests;

@@ -109,6 +109,3 @@ fn at<R: Files>(rt: &R, path: &str) -> Result<Option<Metadata>, Stop<Failed>> {
         Err(error) => Err(stop_of(error)),
     }
 }
-
-#[cfg(test)]
-mod tests;

@@ -12,7 +12,7 @@ use std::alloc::Global;
 use std::marker::Model;
 
 /// A list of files in memory, which tells them. No call changes it, whatever the call answers.
-#[derive(Debug, Drop)]
+#[derive(Drop)]
 pub struct MemFolder {
     files: Vec<(Name, Bytes)>,
     calls: Calls,

@@ -37,7 +37,7 @@ pub trait Folder {
 }
 
 /// A line of input.
-#[derive(Debug, Drop)]
+#[derive(Drop)]
 pub struct Line {
     /// The line without its line feed and without a carriage return just before that.
     pub bytes: Bytes,

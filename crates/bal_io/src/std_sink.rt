@@ -117,6 +117,3 @@ fn write_some<W: Write>(stream: &mut W, bytes: &[u8]) -> Result<usize, Stop<Fail
         Err(error) => Err(stop_of(error)),
     }
 }
-
-#[cfg(test)]
-mod tests;

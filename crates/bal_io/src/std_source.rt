@@ -161,6 +161,3 @@ fn read_more<B: BufRead>(
         }
     }
 }
-
-#[cfg(test)]
-mod tests;

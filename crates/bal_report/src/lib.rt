@@ -11,8 +11,6 @@
 mod events;
 mod refusals;
 mod shapes;
-#[cfg(test)]
-mod tests;
 
 pub use refusals::refusal_text;
 pub use shapes::shape_text;

@@ -15,7 +15,7 @@ use std::alloc::Global;
 use sum_code::{Code, Constant, Instr, Value};
 
 /// How a run ended.
-#[derive(Debug, Drop)]
+#[derive(Drop)]
 pub enum Ending {
     /// Main returned nil.
     Returned,
@@ -24,7 +24,7 @@ pub enum Ending {
 }
 
 /// What came of a run, and how many steps it made, modulo 2 to the power 64.
-#[derive(Debug, Drop)]
+#[derive(Drop)]
 pub struct Ran {
     pub end: Result<Ending, Stop<Failed>>,
     pub steps: u64,

@@ -29,7 +29,7 @@ pub struct Built {
 }
 
 /// How a call of the top ended.
-#[derive(Debug, Drop)]
+#[derive(Drop)]
 pub enum Status {
     /// Main returned nil.
     Done,

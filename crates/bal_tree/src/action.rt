@@ -107,7 +107,7 @@ impl Action {
 }
 
 /// How an action sends, behind any words.
-#[derive(Clone, Copy, Debug, PartialEq, Eq)]
+#[derive(Clone, Copy)]
 pub enum Sending {
     /// It is no send.
     Nothing,
@@ -118,7 +118,7 @@ pub enum Sending {
 }
 
 /// A word before an action.
-#[derive(Clone, Copy, Debug, PartialEq, Eq)]
+#[derive(Clone, Copy, PartialEq, Eq)]
 pub enum ActionOp {
     /// `check`
     Check,

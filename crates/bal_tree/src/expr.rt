@@ -80,7 +80,7 @@ impl Expr {
 }
 
 /// An operator before its operand.
-#[derive(Clone, Copy, Debug, PartialEq, Eq)]
+#[derive(Clone, Copy)]
 pub enum PrefixOp {
     /// `-`
     Negate,
@@ -93,7 +93,7 @@ pub enum PrefixOp {
 }
 
 /// An operator between two operands.
-#[derive(Clone, Copy, Debug, PartialEq, Eq)]
+#[derive(Clone, Copy)]
 pub enum BinaryOp {
     /// `*`
     Multiply,

@@ -6,7 +6,7 @@ ghost use Rattle.bal_tree.specs.Levels.{rank as rank_of, is_tighter as tighter, 
 use crate::expr::BinaryOp;
 
 /// How tightly the outermost operator of an expression binds, from the tightest to the loosest.
-#[derive(Clone, Copy, Debug, PartialEq, Eq)]
+#[derive(Clone, Copy)]
 pub enum Level {
     /// No operator but suffixes.
     Postfix,
@@ -70,7 +70,7 @@ impl Level {
 }
 
 /// How operators of one level group that stand beside one another.
-#[derive(Clone, Copy, Debug, PartialEq, Eq)]
+#[derive(Clone, Copy)]
 pub enum Grouping {
     /// `a + b + c` is `(a + b) + c`.
     ToLeft,

@@ -236,7 +236,7 @@ impl Target {
 }
 
 /// The sign of an assignment.
-#[derive(Clone, Copy, Debug, PartialEq, Eq)]
+#[derive(Clone, Copy)]
 pub enum AssignOp {
     /// `=`
     Set,
@@ -258,7 +258,7 @@ pub struct Range {
 }
 
 /// The sign of a range.
-#[derive(Clone, Copy, Debug, PartialEq, Eq)]
+#[derive(Clone, Copy)]
 pub enum RangeOp {
     /// `...`
     Through,

@@ -188,7 +188,7 @@ impl PrimaryType {
 }
 
 /// A type that is a keyword.
-#[derive(Clone, Copy, Debug, PartialEq, Eq)]
+#[derive(Clone, Copy)]
 pub enum BuiltinType {
     /// `int`
     Int,

@@ -1,5 +1,5 @@
 -- What is asked of types, and what a check may conclude.
-use Rattle.std.specs.Prelude.{◌≡◌, ◌⊎◌, ◌+◌, ◌<◌, ◌++◌, length, List, ℕ, Bool, true, false, Option}
+use Rattle.std.specs.Prelude.{◌≡◌, ◌⊎◌, ◌+◌, ◌<◌, ◌++◌, length, List, ℕ, Bool, true, false, Option, None, Some}
 use Rattle.bal_base.specs.declared.fault.Fault.{Fault}
 use Rattle.bal_base.specs.declared.fault.FaultCode.{FaultCode}
 use Rattle.bal_base.specs.declared.fault.FaultCode.TheVariants.{TypeLimit as TooLarge, AtomLimit as TooManyAtoms, NotSubtype}
@@ -10,6 +10,8 @@ use Rattle.bal_base.specs.declared.place.Place.{Place}
 use Rattle.bal_base.specs.declared.shape.Shape.{Shape}
 use Rattle.bal_base.specs.declared.stop.Stop.{Stop}
 use Rattle.bal_base.specs.declared.stop.Stop.TheVariants.{Memory, Fault as OwnFault}
+use Rattle.type_model.specs.declared.answers.Answer.{Answer}
+use Rattle.type_model.specs.declared.answers.Answer.TheVariants.{Yes, No}
 use Rattle.type_model.specs.declared.answers.Keys.{Keys}
 use Rattle.type_model.specs.declared.answers.TypeLimit.{TypeLimit}
 use Rattle.type_model.specs.declared.atoms.AtomDef.{AtomDef}
@@ -27,6 +29,16 @@ pub record IsFault (code : FaultCode) (at : Option Place) (shown : Kept) (f : Fa
   pub has_code : f.code ≡ code
   pub stands : f.at ≡ at
   pub shows : f.kept ≡ shown
+
+-- whether an answer is yes
+abbrev pub IsYes : Answer → Bool → Type 0
+IsYes Yes b = b ≡ true
+IsYes (No x) b = b ≡ false
+
+-- whether a shape was found
+abbrev pub IsFound : Option Shape → Bool → Type 0
+IsFound None b = b ≡ false
+IsFound (Some x) b = b ≡ true
 
 -- what becomes of why a question was not answered: a limit is told at the place, and want of memory passes
 abbrev pub IsLimitAt : Option Place → Stop TypeLimit → Stop Fault → Type 0

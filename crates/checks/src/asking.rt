@@ -7,7 +7,7 @@ ghost use Rattle.type_model.specs.Calls.{KeepsTypes};
 ghost use Rattle.type_model.specs.Defined.{IsDefined, IsDefinedGroup, IsEnv};
 ghost use Rattle.type_model.specs.Places.{HasDistinctFields};
 ghost use Rattle.checks.specs.Checks.{Comes};
-ghost use Rattle.checks.specs.Questions.{adds, applied, below, has_some as has_some_of, is_below as is_below_of, member as member_of, IsFault, IsLimitAt};
+ghost use Rattle.checks.specs.Questions.{adds, applied, below, has_some as has_some_of, is_below as is_below_of, member as member_of, IsFault, IsLimitAt, IsYes, IsFound};
 
 use bal_base::{Fault, FaultCode, Kept, Place, Shape, Stop};
 use std::alloc::Global;
@@ -27,6 +27,26 @@ fn too_large(stop: Stop<TypeLimit>, at: Option<Place>) -> Stop<Fault>
     match stop {
         Stop::Fault(_) => Stop::Fault(fault(FaultCode::TypeLimit, at, Kept::Nothing)),
         Stop::Memory => Stop::Memory,
+    }
+}
+
+/// Whether the answer is yes; the shape of a no is given up.
+fn is_yes(answer: Answer) -> bool
+    ensures { IsYes answer result }
+{
+    match answer {
+        Answer::Yes => true,
+        Answer::No(_) => false,
+    }
+}
+
+/// Whether a shape was found, which is given up.
+fn is_found(found: Option<Shape>) -> bool
+    ensures { IsFound found result }
+{
+    match found {
+        Some(_) => true,
+        None => false,
     }
 }
 
@@ -70,8 +90,7 @@ pub fn is_below<T: Types>(
     ensures comes { Comes (is_below_of T.passes s.now t.now at) (T.atoms types.old) result (T.atoms types.new) }
 {
     match types.sub(alloc, s, t) {
-        Ok(Answer::Yes) => Ok(true),
-        Ok(Answer::No(_)) => Ok(false),
+        Ok(answer) => Ok(is_yes(answer)),
         Err(stop) => Err(too_large(stop, at)),
     }
 }
@@ -89,8 +108,7 @@ pub fn has_some<T: Types>(
     ensures comes { Comes (has_some_of T.passes t.now at) (T.atoms types.old) result (T.atoms types.new) }
 {
     match types.has_shape(alloc, t) {
-        Ok(Some(_)) => Ok(true),
-        Ok(None) => Ok(false),
+        Ok(found) => Ok(is_found(found)),
         Err(stop) => Err(too_large(stop, at)),
     }
 }

@@ -12,6 +12,3 @@ mod asking;
 
 pub use agreement::{Chains, chains_agree, questions_agree};
 pub use asking::{add, apply, has_some, is_below, member, require_below};
-
-#[cfg(test)]
-mod tests;

@@ -8,7 +8,7 @@ use bal_base::{Fault, FaultCode, Kept, MOST_ATOMS, Place, Stop};
 use type_model::AtomDef;
 
 /// Definitions of atoms in the order of their numbers, to be added behind those that are there.
-#[derive(Debug, Drop)]
+#[derive(Drop)]
 pub struct Draft {
     /// The number of the first.
     pub first: u32,

@@ -39,7 +39,7 @@ pub struct FileNames {
 }
 
 /// What a prefix stands for.
-#[derive(Clone, Copy, Debug, PartialEq, Eq)]
+#[derive(Clone, Copy)]
 pub enum Source {
     /// The library.
     Library,
@@ -81,7 +81,7 @@ pub struct Signature {
 }
 
 /// Where a descriptor stands: in a module, and in one of its files, where the file is known.
-#[derive(Clone, Copy, Debug, PartialEq, Eq)]
+#[derive(Clone, Copy)]
 pub struct Scope {
     /// The module's number.
     pub module: usize,

@@ -56,7 +56,7 @@ pub fn fun_shape<M: Member>(
 }
 
 /// The diagrams with which pairs begin.
-#[derive(Clone, Copy, Debug)]
+#[derive(Clone, Copy)]
 struct Base {
     /// All unmarked lists.
     arguments: u32,

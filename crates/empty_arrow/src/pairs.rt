@@ -16,7 +16,7 @@ use type_diagrams::{Diagrams, Finding, Member, look_up};
 use type_model::TypeEnv;
 
 /// What is sought of a pair.
-#[derive(Clone, Copy, Debug)]
+#[derive(Clone, Copy)]
 pub(crate) struct Sought {
     /// The diagram of the arguments.
     pub(crate) args: u32,
@@ -27,7 +27,7 @@ pub(crate) struct Sought {
 }
 
 /// What is found.
-#[derive(Debug, Drop)]
+#[derive(Drop)]
 pub(crate) enum Found {
     /// Such a pair.
     Pair(Case),

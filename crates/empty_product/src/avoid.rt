@@ -14,7 +14,7 @@ use std::alloc::Global;
 use type_diagrams::{Diagrams, Finding, Member};
 
 /// What is found of a product.
-#[derive(Debug, Drop)]
+#[derive(Drop)]
 pub(crate) enum Filling {
     /// A part for each place, or none.
     Parts(Vec<Option<Shape>>),
@@ -25,7 +25,7 @@ pub(crate) enum Filling {
 }
 
 /// The slots where a demand is avoided at one place.
-#[derive(Debug, Drop)]
+#[derive(Drop)]
 enum Next {
     Slots(Vec<Slot>),
     Nothing,
@@ -157,7 +157,7 @@ fn filled<M: Member>(
 }
 
 /// What the table has for a slot.
-#[derive(Debug, Drop)]
+#[derive(Drop)]
 enum Kept {
     Part(Option<Shape>),
     Void,

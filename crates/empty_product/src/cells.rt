@@ -18,7 +18,7 @@ use type_diagrams::{Diagrams, Member, Projection};
 
 /// What an unwanted atom asks at one place, the target, and at all places. It can't be avoided at the target
 /// by these demands.
-#[derive(Debug, Drop)]
+#[derive(Drop)]
 pub(crate) struct Aimed {
     pub(crate) there: u32,
     pub(crate) elsewhere: Unwanted,

@@ -13,14 +13,14 @@ use std::alloc::Global;
 use type_diagrams::{Diagrams, Finding, Member};
 
 /// What an unwanted atom asks of all further parts.
-#[derive(Clone, Copy, Debug)]
+#[derive(Clone, Copy)]
 pub(crate) struct RestDemand {
     pub(crate) atom: u32,
     pub(crate) question: u32,
 }
 
 /// Which atoms are avoided by further parts.
-#[derive(Debug, Drop)]
+#[derive(Drop)]
 pub(crate) enum Further {
     Parts(FurtherParts),
     /// A question about a further part that the table doesn't know.
@@ -28,7 +28,7 @@ pub(crate) enum Further {
 }
 
 /// Further parts, one for each atom that is avoided by one, and the atoms that no further part avoids.
-#[derive(Debug, Drop)]
+#[derive(Drop)]
 pub(crate) struct FurtherParts {
     pub(crate) parts: Vec<Shape>,
     pub(crate) staying: Vec<u32>,

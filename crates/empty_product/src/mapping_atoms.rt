@@ -200,7 +200,7 @@ fn longer(alloc: Global, text: &Text) -> Result<Text, Memory>
 }
 
 /// What wanted mapping atoms ask together at a key that one of them requires, or that none of them does.
-#[derive(Debug, Drop)]
+#[derive(Drop)]
 struct KeyBase {
     key: Text,
     question: u32,

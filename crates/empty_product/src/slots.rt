@@ -13,7 +13,7 @@ use std::alloc::Global;
 use type_diagrams::{Diagrams, Finding, Member, look_up};
 
 /// What may stand at a place of a product.
-#[derive(Clone, Copy, Debug, PartialEq, Eq)]
+#[derive(Clone, Copy)]
 pub(crate) enum Slot {
     /// A part in the diagram, or none.
     Optional(u32),
@@ -25,20 +25,20 @@ pub(crate) enum Slot {
 
 /// What an unwanted atom asks at a place. It is avoided there by a part outside the diagram, or by having
 /// none where one is required.
-#[derive(Clone, Copy, Debug)]
+#[derive(Clone, Copy)]
 pub(crate) struct Demand {
     pub(crate) question: u32,
     pub(crate) required: bool,
 }
 
 /// What an unwanted atom asks at each place.
-#[derive(Debug, Drop)]
+#[derive(Drop)]
 pub(crate) struct Unwanted {
     pub(crate) demands: Vec<Demand>,
 }
 
 /// What is known of a question.
-#[derive(Clone, Copy, Debug, PartialEq, Eq)]
+#[derive(Clone, Copy)]
 pub(crate) enum Known {
     /// The table has a shape of it.
     Full,
@@ -86,7 +86,7 @@ pub(crate) fn find_part<M: Member>(
 }
 
 /// A slot where a demand is avoided.
-#[derive(Clone, Copy, Debug)]
+#[derive(Clone, Copy)]
 pub(crate) enum Narrowed {
     /// The slot then.
     Slot(Slot),

@@ -9,7 +9,7 @@ use bal_base::Memory;
 use std::alloc::Global;
 
 /// A number, and how many steps lead from it to the target.
-#[derive(Clone, Copy, Debug, PartialEq, Eq)]
+#[derive(Clone, Copy)]
 pub(crate) struct Near {
     number: usize,
     steps: usize,

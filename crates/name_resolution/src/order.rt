@@ -9,7 +9,7 @@ use bal_base::Memory;
 use std::alloc::Global;
 
 /// How far a walk is with a number.
-#[derive(Clone, Copy, Debug, PartialEq, Eq)]
+#[derive(Clone, Copy)]
 pub(crate) enum Mark {
     New,
     Begun,
@@ -17,7 +17,7 @@ pub(crate) enum Mark {
 }
 
 /// A number whose parts are walked, and at which of them the walk is.
-#[derive(Clone, Copy, Debug)]
+#[derive(Clone, Copy)]
 pub(crate) struct Step {
     number: usize,
     parts: usize,

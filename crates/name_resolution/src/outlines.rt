@@ -17,7 +17,7 @@ use indexmap::IndexMap;
 use std::alloc::Global;
 
 /// What a definition defines.
-#[derive(Clone, Copy, Debug, PartialEq, Eq)]
+#[derive(Clone, Copy)]
 pub(crate) enum Kind {
     TypeName,
     Constant,

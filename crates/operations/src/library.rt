@@ -3,7 +3,7 @@ ghost use Rattle.std.specs.Prelude.{◌≡◌};
 ghost use Rattle.operations.specs.LibraryNumbers.{number_of};
 
 /// A call of the library, in the order of their numbers. A method's receiver is its first argument.
-#[derive(Clone, Copy, Debug, PartialEq, Eq)]
+#[derive(Clone, Copy)]
 pub enum LibraryCall {
     /// `io:println(v, w)`
     Println,

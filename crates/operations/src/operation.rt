@@ -5,7 +5,7 @@ use bal_base::{Row, Text};
 use type_model::SemType;
 
 /// A value that stands in a program.
-#[derive(Debug, Drop)]
+#[derive(Drop)]
 pub enum Constant {
     /// `()`
     Nil,
@@ -24,7 +24,7 @@ pub type Awaited = Row<Option<u32>>;
 /// What is done with operands, the last one first; a result takes their place. All that it names is resolved:
 /// slots, module variables, units, atoms and workers are numbers, and worker 0 is the default worker. Which
 /// operands it takes and what it gives is said by `OpTyped` in `specs/Typing.antt`.
-#[derive(Debug, Drop)]
+#[derive(Drop)]
 pub enum Operation {
     /// Gives a constant.
     Const(Constant),

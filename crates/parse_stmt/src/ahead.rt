@@ -9,7 +9,7 @@ use bal_base::{Sign, Token, TokenKind};
 use parse_types::{after_sign, depth_behind};
 
 /// What comes first of the signs that tell statements apart.
-#[derive(Clone, Copy, Debug, PartialEq, Eq)]
+#[derive(Clone, Copy)]
 pub(crate) enum Mark {
     /// `=` behind a type and a word.
     Declares,

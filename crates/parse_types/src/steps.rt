@@ -13,7 +13,7 @@ use bal_base::{Keyword, Memory, Place, Sign, Stop, Token, TokenKind};
 use bal_tree::Word;
 
 /// What was asked for does not stand at the front of the tokens.
-#[derive(Clone, Copy, Debug, PartialEq, Eq)]
+#[derive(Clone, Copy)]
 pub struct Missing;
 
 /// What was read, or nothing where it is missing.

@@ -28,6 +28,3 @@ pub use cases::definitions_come_to_cases;
 pub use items::set_item;
 pub use laws::{Meaning, levels_have_no_twins, library_answers_once, operations_have_one_effect};
 pub use numbering::{distinct, levels};
-
-#[cfg(test)]
-mod tests;

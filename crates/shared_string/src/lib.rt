@@ -87,6 +87,3 @@ impl Drop for SharedString {
         }
     }
 }
-
-#[cfg(test)]
-mod tests;

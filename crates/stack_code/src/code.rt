@@ -7,7 +7,7 @@ use type_model::{AtomDefs, SemType, TypeList};
 
 /// A program in instructions. All that it names is a number: of an atom, a type, a constant, a variable, a unit, a slot
 /// or a place. Which code is well formed is said by `WellTyped` in `specs/WellTyped.antt`.
-#[derive(Debug, Drop)]
+#[derive(Drop)]
 pub struct Code {
     /// The definitions of the atoms, by their numbers.
     pub atoms: AtomDefs,
@@ -35,7 +35,7 @@ pub struct Code {
 
 /// A function, a worker, an anonymous function or an initialiser. It has the places from `first` to before `end`. Its
 /// first slots hold its parameters, and the next ones what it captures.
-#[derive(Debug, Drop)]
+#[derive(Drop)]
 pub struct Unit {
     /// Its first place, where a call begins.
     pub first: u32,
@@ -60,7 +60,7 @@ pub struct Unit {
 }
 
 /// A named worker of a unit.
-#[derive(Debug, Drop)]
+#[derive(Drop)]
 pub struct Spawn {
     /// The worker's unit.
     pub unit: u32,
@@ -69,7 +69,7 @@ pub struct Spawn {
 }
 
 /// What is known at a place: the types of the operands, and in a worker the numbers of messages.
-#[derive(Debug, Drop)]
+#[derive(Drop)]
 pub struct StackMap {
     /// The types of the operands, the first one first.
     pub stack: TypeList,

@@ -5,7 +5,7 @@ use operations::Awaited;
 /// An instruction. Operands are taken from the stack, the last one first, and a result is pushed. What an instruction
 /// does besides going to a place is an operation, which `command_of` in `specs/Commands.antt` names. A place is the number
 /// of an instruction of the code.
-#[derive(Debug, Drop)]
+#[derive(Drop)]
 pub enum Instr {
     /// Pushes the constant with this number.
     Const(u32),

@@ -14,7 +14,7 @@ use type_diagrams::{Diagrams, Turn};
 use type_model::TypeLimit;
 
 /// A question that the table holds to be empty, and on which a call works.
-#[derive(Debug, Drop)]
+#[derive(Drop)]
 pub struct Held {
     pub question: u32,
     /// Its paths.

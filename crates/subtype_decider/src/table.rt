@@ -13,7 +13,7 @@ use type_diagrams::Member;
 
 /// What is kept of a question, which is the number of a diagram: a shape of it, or that it has none.
 /// Entries are compared by their questions alone.
-#[derive(Debug, Drop)]
+#[derive(Drop)]
 #[derive_where(PartialEq, Eq, Hash)]
 pub struct Entry {
     pub question: u32,

@@ -10,7 +10,7 @@ use std::alloc::Global;
 use type_diagrams::{Diagrams, Kind, Path};
 
 /// A path, and the kind of its shapes.
-#[derive(Debug, Drop)]
+#[derive(Drop)]
 pub struct Way {
     pub kind: Kind,
     pub path: Path,

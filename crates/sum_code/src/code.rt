@@ -4,7 +4,7 @@ use crate::instr::{Constant, Instr};
 use bal_base::Row;
 
 /// A program in instructions. A place is the number of an instruction.
-#[derive(Debug, Drop)]
+#[derive(Drop)]
 pub struct Code {
     /// What the instructions `Const` push, by their numbers.
     pub constants: Constants,
@@ -17,7 +17,7 @@ pub struct Code {
 }
 
 /// The places of a function: from `first` to before `end`.
-#[derive(Clone, Copy, Debug, PartialEq, Eq)]
+#[derive(Clone, Copy)]
 pub struct Unit {
     pub first: u32,
     pub end: u32,

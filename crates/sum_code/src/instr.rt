@@ -1,7 +1,7 @@
 //! Instructions and constants.
 
 /// An instruction. Operands are taken from the stack, the last one first, and the result is pushed.
-#[derive(Clone, Copy, Debug, PartialEq, Eq)]
+#[derive(Clone, Copy)]
 pub enum Instr {
     /// Spends a tick.
     Tick,
@@ -21,7 +21,7 @@ pub enum Instr {
 }
 
 /// A constant of the code.
-#[derive(Clone, Copy, Debug, PartialEq, Eq)]
+#[derive(Clone, Copy)]
 pub enum Constant {
     /// Nil.
     Nil,

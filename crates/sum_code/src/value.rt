@@ -1,7 +1,7 @@
 //! The machine's values.
 
 /// An operand of the machine.
-#[derive(Clone, Copy, Debug, PartialEq, Eq)]
+#[derive(Clone, Copy)]
 pub enum Value {
     /// Nil.
     Nil,

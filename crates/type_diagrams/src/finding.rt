@@ -7,7 +7,7 @@ use bal_base::{Memory, Shape};
 use std::alloc::Global;
 
 /// What a table tells of a question.
-#[derive(Debug, Drop)]
+#[derive(Drop)]
 pub enum Finding {
     /// A shape of it.
     Part(Shape),

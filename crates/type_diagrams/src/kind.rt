@@ -1,7 +1,7 @@
 //! The kinds of shapes.
 
 /// A kind of shapes that atoms speak of. The other shapes are simple.
-#[derive(Clone, Copy, Debug, PartialEq, Eq)]
+#[derive(Clone, Copy)]
 pub enum Kind {
     /// Lists, marked and unmarked.
     List,

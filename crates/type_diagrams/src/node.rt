@@ -13,7 +13,7 @@ pub const MARK: u32 = MOST_ATOMS as u32;
 pub const MOST_NODES: usize = 4_294_967_293;
 
 /// A step of a decision. A follower is 0 for false, 1 for true, and k + 2 for the node at place k.
-#[derive(Clone, Copy, Debug, PartialEq, Eq, Hash)]
+#[derive(Clone, Copy, PartialEq, Eq, Hash)]
 pub struct Node {
     /// The atom that is looked at, or 65,536 for the mark.
     pub on: u32,
@@ -25,7 +25,7 @@ pub struct Node {
 
 /// A diagram: the number of its set of simple shapes, and for each kind where its decision begins, given
 /// as the followers of nodes are.
-#[derive(Clone, Copy, Debug, PartialEq, Eq, Hash)]
+#[derive(Clone, Copy, PartialEq, Eq, Hash)]
 pub struct Diagram {
     pub simple: u32,
     pub list: u32,

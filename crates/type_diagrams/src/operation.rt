@@ -5,7 +5,7 @@ ghost use Rattle.type_diagrams.specs.Operations.{IsSettledBy, meaning};
 use crate::nodes::{FALSE, TRUE};
 
 /// What is made of two decisions.
-#[derive(Clone, Copy, Debug, PartialEq, Eq, Hash)]
+#[derive(Clone, Copy, PartialEq, Eq, Hash)]
 pub enum Operation {
     /// Where one of the two is true, or both.
     Or,
@@ -29,7 +29,7 @@ impl Operation {
 }
 
 /// An operation on the decisions with these numbers.
-#[derive(Clone, Copy, Debug, PartialEq, Eq, Hash)]
+#[derive(Clone, Copy, PartialEq, Eq, Hash)]
 pub struct Step {
     pub operation: Operation,
     pub left: u32,

@@ -9,7 +9,7 @@ use bal_base::{AtomList, Memory};
 use std::alloc::Global;
 
 /// A way through a decision to true. The mark is the number 65,536.
-#[derive(Debug, Drop)]
+#[derive(Drop)]
 pub struct Path {
     /// The atoms that hold on the way, and 65,536 where the shapes are marked.
     pub pos: AtomList,

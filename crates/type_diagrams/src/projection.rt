@@ -1,7 +1,7 @@
 //! What can be said of the parts of a path's shapes.
 
 /// What is said of the parts that stand at some keys of a path's shapes, against a table of questions.
-#[derive(Clone, Copy, Debug, PartialEq, Eq)]
+#[derive(Clone, Copy)]
 pub enum Projection {
     /// The question whose shapes are exactly these parts, where no question that the table holds to be empty
     /// has a shape.

@@ -12,7 +12,7 @@ pub const MOST_QUESTIONS: usize = 65_536;
 pub const MOST_ARROWS: usize = 12;
 
 /// What is said of a path against a table of questions.
-#[derive(Debug, Drop)]
+#[derive(Drop)]
 pub enum Turn {
     /// A shape of the path.
     Shape(Shape),

@@ -4,7 +4,7 @@ use crate::basic::SemType;
 use bal_base::{Shape, Text};
 
 /// The answer to the question whether one type is below another.
-#[derive(Debug, Drop)]
+#[derive(Drop)]
 pub enum Answer {
     /// Every shape of the first is in the second.
     Yes,
@@ -13,7 +13,7 @@ pub enum Answer {
 }
 
 /// Why a question about types wasn't answered.
-#[derive(Clone, Copy, Debug, PartialEq, Eq)]
+#[derive(Clone, Copy)]
 pub enum TypeLimit {
     /// It leads to more than 65,536 questions about parts.
     Questions,
@@ -22,7 +22,7 @@ pub enum TypeLimit {
 }
 
 /// Keys of lists and mappings, and the place of a future's results.
-#[derive(Debug, Drop)]
+#[derive(Drop)]
 pub enum Keys {
     /// One index of a list.
     Index(u64),
@@ -37,7 +37,7 @@ pub enum Keys {
 }
 
 /// What an application gives.
-#[derive(Debug, Drop)]
+#[derive(Drop)]
 pub enum Apply {
     /// The least type of its results.
     Result(SemType),

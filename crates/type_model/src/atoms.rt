@@ -5,7 +5,7 @@ use crate::lists::{FieldList, TyList};
 use bal_base::Text;
 
 /// A field that a mapping atom names.
-#[derive(Debug, Drop)]
+#[derive(Drop)]
 pub struct FieldDef {
     pub name: Text,
     pub ty: Ty,
@@ -14,7 +14,7 @@ pub struct FieldDef {
 }
 
 /// The definition of an atom. Which shapes fit it doesn't depend on marks, but through its parts.
-#[derive(Debug, Drop)]
+#[derive(Drop)]
 pub enum AtomDef {
     /// Lists with these types at the first places, and then any number of items of `rest`, or none
     /// where it is absent.

@@ -4,7 +4,7 @@ use crate::lists::ChoiceList;
 use bal_base::Text;
 
 /// A set of shapes that needs no atom to say it.
-#[derive(Debug, Drop)]
+#[derive(Drop)]
 pub enum BasicSet {
     /// Nil alone.
     Nil,
@@ -33,7 +33,7 @@ pub enum BasicSet {
 }
 
 /// A type: the set of its shapes, over an environment that defines the atoms.
-#[derive(Debug, Drop)]
+#[derive(Drop)]
 pub enum SemType {
     /// The shapes of a basic set.
     Basic(BasicSet),
@@ -48,7 +48,7 @@ pub enum SemType {
 }
 
 /// An atom of which a constructor may make its value.
-#[derive(Clone, Copy, Debug, PartialEq, Eq)]
+#[derive(Clone, Copy, PartialEq, Eq)]
 pub struct Choice {
     /// The atom's number.
     pub atom: u32,
@@ -57,7 +57,7 @@ pub struct Choice {
 }
 
 /// A type with its constructor choices, those for lists and those for mappings, each in order.
-#[derive(Debug, Drop)]
+#[derive(Drop)]
 pub struct Ty {
     pub sem: SemType,
     pub lists: ChoiceList,

@@ -18,7 +18,7 @@ pub struct AtomLimit;
 
 /// The atoms' definitions, in the order of their numbers from 0. There are at most [`MOST_ATOMS`], each atom
 /// that a definition names is there, and the fields of each mapping atom have different names.
-#[derive(Debug, Drop)]
+#[derive(Drop)]
 pub struct TypeEnv {
     defs: Vec<AtomDef>,
 }

@@ -24,6 +24,3 @@ pub use basic::{BasicSet, Choice, SemType, Ty};
 pub use decide::Types;
 pub use env::{AtomLimit, TypeEnv};
 pub use lists::{AtomDefs, ChoiceList, FieldList, TyList, TypeList};
-
-#[cfg(test)]
-mod tests;

@@ -3,6 +3,7 @@
 use crate::asked::{Reply, add, shown, stopped};
 use crate::misread::{Misread, Read, refuse};
 use bal_base::Shape;
+use bal_report::shape_text;
 use std::alloc::Global;
 use subtype_decider::Decider;
 use type_model::{Answer, AtomDef, SemType};
@@ -35,11 +36,11 @@ fn keeps_none(decider: &Decider) -> bool {
 
 /// Whether it keeps a shape that is written like this one.
 fn keeps_shape(alloc: Global, decider: &Decider, shape: &Shape) -> Read<bool> {
-    let told = format!(in alloc; "{shape:?}")?;
+    let told = shape_text(alloc, shape)?;
     for entry in decider.table() {
         if let Some(kept) = &entry.shape {
-            let kept = format!(in alloc; "{kept:?}")?;
-            if kept == told {
+            let kept = shape_text(alloc, kept)?;
+            if kept.as_str() == told.as_str() {
                 return Ok(true);
             }
         }

@@ -4,7 +4,7 @@ use bal_base::{Event, Numbers, Row};
 
 /// What an event is. The number is that of the worker at the other end, and `None` where the action names no other
 /// worker of the function.
-#[derive(Debug, Drop)]
+#[derive(Drop)]
 pub enum EventKind {
     /// `e -> W`
     Send(Option<u32>),
@@ -23,7 +23,7 @@ pub enum EventKind {
 }
 
 /// An event as the syntax shows it.
-#[derive(Debug, Drop)]
+#[derive(Drop)]
 pub struct SeenEvent {
     pub event: Event,
     pub kind: EventKind,
@@ -36,7 +36,7 @@ pub struct SeenEvent {
 pub type SeenEvents = Row<SeenEvent>;
 
 /// A send or a post, and the receive that gets its message.
-#[derive(Clone, Copy, Debug, PartialEq, Eq)]
+#[derive(Clone, Copy)]
 pub struct Pair {
     pub send: Event,
     pub receive: Event,
@@ -47,7 +47,7 @@ pub type Pairs = Row<Pair>;
 
 /// How the messages of a function are paired, and a rank for each of its events, in the order of [`SeenEvents`]. Ranks
 /// rise along each worker, and from what an event needs to it.
-#[derive(Debug, Drop)]
+#[derive(Drop)]
 pub struct Plan {
     pub pairs: Pairs,
     pub ranks: Numbers,

@@ -73,7 +73,7 @@ pub enum StrictForm {
 pub type Peer = Option<u32>;
 
 /// An operator on one or two operands, as its operands' types resolve it.
-#[derive(Clone, Copy, Debug, PartialEq, Eq)]
+#[derive(Clone, Copy)]
 pub enum Operator {
     /// `-a`
     Negate,
@@ -125,7 +125,7 @@ pub enum Read {
 }
 
 /// What is called or started.
-#[derive(Clone, Copy, Debug, PartialEq, Eq)]
+#[derive(Clone, Copy)]
 pub enum Callee {
     /// A function by name: its unit, how many arguments are its parameters, and the atom of the list of those behind
     /// them, where it takes a rest.

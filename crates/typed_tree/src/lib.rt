@@ -35,6 +35,3 @@ pub use package::{Initial, Initialiser, ModuleVariable, TypedPackage};
 pub use seeing::skeleton;
 pub use stmt::{PerformForm, RangeEnd, Source, TypedClause, TypedPattern, TypedStmt, UpdateTarget};
 pub use unit::{Captured, SharedTy, TypedBody, TypedFunction, TypedUnit, TypedWorker};
-
-#[cfg(test)]
-mod tests;

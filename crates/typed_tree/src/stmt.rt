@@ -82,7 +82,7 @@ pub enum TypedStmt {
 }
 
 /// What a statement does with its operands.
-#[derive(Clone, Copy, Debug, PartialEq, Eq)]
+#[derive(Clone, Copy)]
 pub enum PerformForm {
     /// `m = e;` of a module variable, by its number.
     SetVariable(u32),
@@ -138,7 +138,7 @@ pub enum Source {
 }
 
 /// Whether a range has its end.
-#[derive(Clone, Copy, Debug, PartialEq, Eq)]
+#[derive(Clone, Copy)]
 pub enum RangeEnd {
     /// `...`
     Included,

@@ -3,7 +3,7 @@
 use bal_base::{Row, Text};
 
 /// The filler of a place: what stands at it where a list grows past it.
-#[derive(Debug, Drop)]
+#[derive(Drop)]
 pub enum Filler {
     /// There is none.
     Nothing,

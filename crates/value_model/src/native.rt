@@ -13,7 +13,7 @@ use bal_io::{Sink, Source};
 use std::alloc::Global;
 
 /// What an operation answers.
-#[derive(Debug, Drop)]
+#[derive(Drop)]
 pub enum Native {
     /// It gives this value.
     Value(Value),
@@ -22,7 +22,7 @@ pub enum Native {
 }
 
 /// Why an operation could not be done.
-#[derive(Clone, Copy, Debug, PartialEq, Eq)]
+#[derive(Clone, Copy)]
 pub enum NativeFault {
     /// The input failed.
     Input,

@@ -3,7 +3,7 @@ ghost use Rattle.std.specs.Prelude.{◌≡◌};
 ghost use Rattle.value_model.specs.PanicName.{panic_message};
 
 /// A panic whose message begins with `{ballerina}`.
-#[derive(Clone, Copy, Debug, PartialEq, Eq)]
+#[derive(Clone, Copy)]
 pub enum PanicName {
     /// An int that is too large or too small.
     NumberOverflow,

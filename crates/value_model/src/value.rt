@@ -5,7 +5,7 @@ use bal_base::Text;
 
 /// A value. A structure is a list or a mapping. It, an error and a function value are the ones with these numbers in
 /// the heap, where each of the three is numbered by itself.
-#[derive(Debug, PartialEq, Eq, Drop)]
+#[derive(Drop)]
 pub enum Value {
     /// Nil.
     Nil,
