@@ -1,7 +1,8 @@
 -- Each run of the machine whose frames follow is one of the first, whose frames come to what they ask.
 use Rattle.std.proofs.Common.{◌≡◌, ℕ, zero, suc, ◌<◌, ◌≤◌, List, [], ◌∷◌, Some, refl, sym, subst, ap, inl, inr, ◌⊎◌, arith}
-use Rattle.std.specs.Prelude.{slice_get}
+use Rattle.std.specs.Prelude.{All, slice_get}
 use Rattle.bal_base.specs.declared.fault.LimitKind.{LimitKind}
+use Rattle.bal_base.specs.Valid.{IsText}
 use Rattle.bal_base.specs.declared.text.Text.{Text}
 use Rattle.operations.specs.declared.operation.Operation.{Operation}
 use Rattle.value_model.specs.declared.value.Value.{Value}
@@ -10,7 +11,7 @@ use Rattle.run_model.specs.Common.{Common}
 use Rattle.run_model.specs.Performs.{Performs}
 use Rattle.machine_model.specs.Machine.{Machine, On, Does, Stuck, Frame, State, Next, Moved, Blocked, Ended, NeedsTick, Limit, goes_to, asker, carried, Takes, TakesTop, Step}
 use Rattle.machine_model.specs.Runs.{Phase, Running, Picking, Stop, Over, TicksSpent, PastLimit, Runs, moves, blocks, ends, needs_tick, passes, picks, over, picked}
-use Rattle.machine_model.specs.Following.{Quiet, here, step, Held, ComesTo, FramesFollow, AreFine, Settles, asks, stuck, on}
+use Rattle.machine_model.specs.Following.{AreAlike, Quiet, here, step, Held, ComesTo, FramesFollow, AreFine, Settles, asks, stuck, on}
 use Rattle.machine_model.proofs.Lifts.{SameCall, BelowMatch, FramesMatch, OthersMatch, StateMatch, NextMatch, carried-match, back-some, goes-on, same-asker}
 use Rattle.machine_model.proofs.Steps.{state_at, one-quiet}
 use Rattle.machine_model.proofs.Quietly.{quietly, quiet-then, quiet-past}
@@ -33,7 +34,7 @@ module _ {C : Type 0} (natives : Answers) (M : Machine C) where
   empty-run n t order stop end e r = no-run n t order stop end (λ next h. subst (λ l. TakesTop natives M t l next) e h) r
 
 module _ {A B : Type 0} (natives : Answers) (M : Machine A) (N : Machine B) (Follows : A → B → Type 0) (Fine : Common → A → Type 0) (sim : FramesFollow natives M N Follows Fine)
-    (fine : AreFine natives M Fine) (words : List Text) (input : List ℕ) (ticks : ℕ) where
+    (fine : AreFine natives M Fine) (words : List Text) (input : List ℕ) (ticks : ℕ) (texts : All IsText words) where
   abbrev IsCame : Phase → State A → Type 0
   IsCame phase s = Came natives M words input ticks phase s
 
@@ -41,7 +42,7 @@ module _ {A B : Type 0} (natives : Answers) (M : Machine A) (N : Machine B) (Fol
 
   abbrev Asked : ℕ → A → B → Type 0
   Asked unit x y =
-      ((op : Operation) × (vs : List Value) × (k : A) × (m : B) × (M.look unit x ≡ Does op vs k) × (N.look unit y ≡ Does op vs m) × Held M N Follows op x y k m)
+      ((op : Operation) × (vs : List Value) × (k : A) × (m : B) × (other : Operation) × (M.look unit x ≡ Does op vs k) × (N.look unit y ≡ Does other vs m) × AreAlike N.facts natives op other × Held M N Follows op x y k m)
       ⊎ ((M.look unit x ≡ Stuck) × (N.look unit y ≡ Stuck))
 
   abbrev Meet : Common → Frame A → List (Frame A) → List (List (Frame A)) → A → B → Type 0
@@ -50,13 +51,13 @@ module _ {A B : Type 0} (natives : Answers) (M : Machine A) (N : Machine B) (Fol
 
   meet : (c : Common) (f : Frame A) (fs : List (Frame A)) (os : List (List (Frame A))) {a : A} (b : B) → Settles M f.unit a → IsCame Running (state_at c f a fs os) → Follows a b → Meet c f fs os a b
   meet c f fs os {a = a} b (asks {k = k} {op = op} {vs = vs} e) good r =
-      let h : ComesTo M N Follows natives (asker f fs) c a (Does op vs k) b = subst (λ o. ComesTo M N Follows natives (asker f fs) c a o b) e (sim.answers (asker f fs) c a b (fine words input ticks Running (state_at c f a fs os) (goes_to f a) fs good refl) r) in
-      (a, h.0, here, h.2, good, inl (op, vs, k, h.1, e, h.3, h.4))
+      let h : ComesTo M N Follows natives (asker f fs) c a (Does op vs k) b = subst (λ o. ComesTo M N Follows natives (asker f fs) c a o b) e (sim.answers (asker f fs) c a b (fine words input ticks (state_at c f a fs os) (goes_to f a) fs texts good refl) r) in
+      (a, h.0, here, h.3, good, inl (op, vs, k, h.1, h.2, e, h.4, h.5, h.6))
   meet c f fs os {a = a} b (stuck e) good r =
-      let h : ComesTo M N Follows natives (asker f fs) c a Stuck b = subst (λ o. ComesTo M N Follows natives (asker f fs) c a o b) e (sim.answers (asker f fs) c a b (fine words input ticks Running (state_at c f a fs os) (goes_to f a) fs good refl) r) in
+      let h : ComesTo M N Follows natives (asker f fs) c a Stuck b = subst (λ o. ComesTo M N Follows natives (asker f fs) c a o b) e (sim.answers (asker f fs) c a b (fine words input ticks (state_at c f a fs os) (goes_to f a) fs texts good refl) r) in
       (a, h.0, here, h.1, good, inr (e, h.2))
   meet c f fs os {a = a} b (on {b = x} e more) good r =
-      let h : ComesTo M N Follows natives (asker f fs) c a (On x) b = subst (λ o. ComesTo M N Follows natives (asker f fs) c a o b) e (sim.answers (asker f fs) c a b (fine words input ticks Running (state_at c f a fs os) (goes_to f a) fs good refl) r) in
+      let h : ComesTo M N Follows natives (asker f fs) c a (On x) b = subst (λ o. ComesTo M N Follows natives (asker f fs) c a o b) e (sim.answers (asker f fs) c a b (fine words input ticks (state_at c f a fs os) (goes_to f a) fs texts good refl) r) in
       let kept = came-moved natives M words input ticks (state_at c f a fs os) (state_at c f x fs os) good (one-quiet natives M c f fs os a x e) in
       let k = meet c f fs os h.0 more kept h.2 in
       (k.0, k.1, step e k.2, quietly natives N h.1 k.3, k.4, k.5)
@@ -98,14 +99,14 @@ module _ {A B : Type 0} (natives : Answers) (M : Machine A) (N : Machine B) (Fol
   with-limit s _ limit h w = absurd w
 
   -- the frame of the second machine asks for an operation: its step is a step of the first one
-  back-asked : (c : Common) (f : Frame A) (g : Frame B) (fs : List (Frame A)) (gs : List (Frame B)) (os : List (List (Frame A))) (ps : List (List (Frame B))) (x k : A) (y m : B) (op : Operation) (vs : List Value) → SameCall f g → OthersMatch M N Follows os ps → BelowMatch M N Follows fs gs → M.look f.unit x ≡ Does op vs k → N.look g.unit y ≡ Does op vs m → Held M N Follows op x y k m → (next : Next B) → Step natives N (state_at c g y gs ps) next → (first : Next A) × Step natives M (state_at c f x fs os) first × NextMatch M N Follows first next
-  back-asked c f g fs gs os ps x k y m op vs call om below e d held next h =
+  back-asked : (c : Common) (f : Frame A) (g : Frame B) (fs : List (Frame A)) (gs : List (Frame B)) (os : List (List (Frame A))) (ps : List (List (Frame B))) (x k : A) (y m : B) (op other : Operation) (vs : List Value) → SameCall f g → OthersMatch M N Follows os ps → BelowMatch M N Follows fs gs → M.look f.unit x ≡ Does op vs k → N.look g.unit y ≡ Does other vs m → AreAlike N.facts natives op other → Held M N Follows op x y k m → (next : Next B) → Step natives N (state_at c g y gs ps) next → (first : Next A) × Step natives M (state_at c f x fs os) first × NextMatch M N Follows first next
+  back-asked c f g fs gs os ps x k y m op other vs call om below e d alike held next h =
       let s = state_at c f x fs os in
       let t = state_at c g y gs ps in
-      let taken : Takes natives N t (goes_to g y) gs (Does op vs m) next = subst (λ a. Takes natives N t (goes_to g y) gs a next) d h in
+      let taken : Takes natives N t (goes_to g y) gs (Does other vs m) next = subst (λ a. Takes natives N t (goes_to g y) gs a next) d h in
       let effect = taken.0 in
       let performs : Performs M.facts natives op vs (asker f fs) c effect =
-      subst (λ z. Performs z natives op vs (asker f fs) c effect) (sym sim.facts) (subst (λ z. Performs N.facts natives op vs z c effect) (sym (same-asker M N Follows f g fs gs call below)) taken.1) in
+      subst (λ z. Performs z natives op vs (asker f fs) c effect) (sym sim.facts) (subst (λ z. Performs N.facts natives op vs z c effect) (sym (same-asker M N Follows f g fs gs call below)) ((alike vs (asker g gs) c effect).1 taken.1)) in
       let match = carried-match M N Follows sim.enters s t (goes_to f x) (goes_to g y) op k m fs gs effect (refl, om) call (goes-on M.facts natives op vs (asker f fs) c effect performs) held below in
       let came = back-some (NextMatch M N Follows) next (carried M s (goes_to f x) k fs effect) (carried N t (goes_to g y) m gs effect) taken.2 match in
       (came.0, subst (λ a. Takes natives M s (goes_to f x) fs a came.0) (sym e) (effect, performs, came.1), came.2)
@@ -131,9 +132,9 @@ module _ {A B : Type 0} (natives : Answers) (M : Machine A) (N : Machine B) (Fol
       past = quiet-past natives N c g gs ps order stop end m (subst (λ z. Quiet natives N z c b y) (same-asker M N Follows f g fs gs call below) q) r
 
       by : Asked f.unit x y → RunsA Running (state_at c f a fs os) order stop end
-      by (inl (op, vs, k, l, e, d, held)) =
+      by (inl (op, vs, k, l, other, e, d, alike, held)) =
           quiet-then natives M c f fs os order stop end p
-          (back-step c f g fs gs os ps x y (back-asked c f g fs gs os ps x k y l op vs call om below e (subst (λ u. N.look u y ≡ Does op vs l) call.0 d) held) past.0 (state_at c g y gs ps) order stop end refl past.2 (λ j lt. ih j (omega (arith, lt, past.1))) good)
+          (back-step c f g fs gs os ps x y (back-asked c f g fs gs os ps x k y l op other vs call om below e (subst (λ u. N.look u y ≡ Does other vs l) call.0 d) alike held) past.0 (state_at c g y gs ps) order stop end refl past.2 (λ j lt. ih j (omega (arith, lt, past.1))) good)
       by (inr (e, d)) = absurd (stuck-run natives N c g y gs ps past.0 order stop end (subst (λ u. N.look u y ≡ Stuck) call.0 d) past.2)
 
   module _ (settle : (unit : ℕ) (a : A) → Settles M unit a) where

@@ -1,7 +1,8 @@
 -- Each run of a machine is one of another whose frames follow.
 use Rattle.std.proofs.Common.{◌≡◌, ℕ, suc, List, [], ◌∷◌, ◌++◌, Some, refl, sym, subst, ap, inl, inr, ◌∙◌}
-use Rattle.std.specs.Prelude.{slice_get}
+use Rattle.std.specs.Prelude.{All, slice_get}
 use Rattle.bal_base.specs.declared.fault.LimitKind.{LimitKind}
+use Rattle.bal_base.specs.Valid.{IsText}
 use Rattle.bal_base.specs.declared.text.Text.{Text}
 use Rattle.value_model.specs.Meaning.{Answers}
 use Rattle.run_model.specs.Common.{Common}
@@ -32,13 +33,13 @@ same-picked natives M N Follows s t place n (same, fm, om) =
     let m = picked-match M N Follows s.others t.others n om in (ap (λ c. taken_up c place n) same, m.0, m.1)
 
 module _ {A B : Type 0} (natives : Answers) (M : Machine A) (N : Machine B) (Follows : A → B → Type 0) (Fine : Common → A → Type 0) (sim : FramesFollow natives M N Follows Fine)
-    (fine : AreFine natives M Fine) (words : List Text) (input : List ℕ) (ticks : ℕ) where
+    (fine : AreFine natives M Fine) (words : List Text) (input : List ℕ) (ticks : ℕ) (texts : All IsText words) where
   fine-top : (s : State A) → Came natives M words input ticks Running s → FineTop natives M N Follows Fine sim s.common s.frames
   fine-top s h = by s.frames refl
     where
       by : (fs : List (Frame A)) → s.frames ≡ fs → FineTop natives M N Follows Fine sim s.common fs
       by [] e = tt
-      by (f ∷ fs) e = fine words input ticks Running s f fs h e
+      by (f ∷ fs) e = fine words input ticks s f fs texts h e
 
   abbrev RunsB : Phase → State B → List ℕ → Stop → Common → Type 0
   RunsB phase t order stop c = (m : ℕ) × Runs natives N phase m t order stop c

@@ -30,14 +30,14 @@ module _ {A B : Type 0} (natives : Answers) (M : Machine A) (N : Machine B) (Fol
       (λ i. map (λ u. (u, [])) (sim.facts i).initialisers ++ ((sim.launch i).main, main_arguments (sim.launch i).words) ∷ [])
 
   same-outcomes : AreFine natives M Fine → ((unit : ℕ) (a : A) → Settles M unit a) → HaveSameOutcomes natives M N
-  same-outcomes fine settle words input order ticks o = (
+  same-outcomes fine settle words input order ticks o texts = (
     (λ r.
         let t = forth-some (StateMatch M N Follows) r.1.0 (start M words input ticks) (start N words input ticks) r.1.3 (starts-match words input ticks) in
-        let done = forth natives M N Follows Fine sim fine words input ticks t.0 r.1.4 (0, [], starts r.1.3) t.2 in
+        let done = forth natives M N Follows Fine sim fine words input ticks texts t.0 r.1.4 (0, [], starts r.1.3) t.2 in
         (done.0, (t.0, r.1.1, r.1.2, t.1, done.1, r.1.5))),
     (λ r.
         let s = back-some (StateMatch M N Follows) r.1.0 (start M words input ticks) (start N words input ticks) r.1.3 (starts-match words input ticks) in
-        let done = back-pick natives M N Follows Fine sim fine words input ticks settle r.0 s.0 r.1.0 order r.1.1 r.1.2 r.1.4 (0, [], starts s.1) s.2 in
+        let done = back-pick natives M N Follows Fine sim fine words input ticks texts settle r.0 s.0 r.1.0 order r.1.1 r.1.2 r.1.4 (0, [], starts s.1) s.2 in
         (done.0, (s.0, r.1.1, r.1.2, s.1, done.1, r.1.5))),
   )
 

@@ -1,21 +1,28 @@
 -- That each frame of one machine is followed by one of another, so that both ask for the same.
-use Rattle.std.specs.Prelude.{◌≡◌, ℕ, List, ◌∷◌, Option, Some, None, ⊤}
+use Rattle.std.specs.Prelude.{◌≡◌, ◌↔◌, ℕ, List, ◌∷◌, Option, Some, None, All, ⊤}
+use Rattle.bal_base.specs.Valid.{IsText}
 use Rattle.bal_base.specs.declared.text.Text.{Text}
 use Rattle.operations.specs.declared.operation.Operation.{Operation}
 use Rattle.operations.specs.declared.operation.Operation.TheVariants.{Return, Panic}
 use Rattle.value_model.specs.declared.value.Value.{Value}
 use Rattle.value_model.specs.Meaning.{Answers}
 use Rattle.run_model.specs.Common.{Common, Asker}
+use Rattle.run_model.specs.Facts.{Facts}
 use Rattle.run_model.specs.Effects.{Effect, Gives}
 use Rattle.run_model.specs.Performs.{Performs}
 use Rattle.machine_model.specs.Machine.{Machine, Ask, On, Does, Stuck, Frame, State}
-use Rattle.machine_model.specs.Runs.{Phase, IsReached}
+use Rattle.machine_model.specs.Runs.{Running, IsReached}
 
 -- the operation ends its frame, so that nothing is awaited
 abbrev pub EndsFrame : Operation → Type 0
 EndsFrame Return = ⊤
 EndsFrame Panic = ⊤
 EndsFrame op = ⊥
+
+-- on the same operands they come to the same
+abbrev pub AreAlike : Facts → Answers → Operation → Operation → Type 0
+AreAlike facts natives op other =
+    (vs : List Value) (asker : Asker) (c : Common) (effect : Effect) → Performs facts natives op vs asker c effect ↔ Performs facts natives other vs asker c effect
 
 -- ---- steps that change nothing that is shared
 
@@ -53,18 +60,19 @@ module _ {A B : Type 0} (M : Machine A) (N : Machine B) (Follows : A → B → T
     pub resumes : (¬ (EndsFrame op)) → (vs : List Value) → Follows (M.resume k vs) (N.resume m vs)
     pub catches : (e : Value) → Both Follows (M.catch k e) (N.catch m e)
 
-  -- the second machine comes to what the first one, at a, asks
+  -- the second machine comes to what the first one, at a, asks, or to an operation that comes to the same
   abbrev pub ComesTo : Answers → Asker → Common → A → Ask A → B → Type 0
   ComesTo natives asker c a (On x) b = (d : B) × Quiet natives N asker c b d × Follows x d
   ComesTo natives asker c a (Does op vs k) b =
-      (d : B) × (m : B) × Quiet natives N asker c b d × (N.look asker.unit d ≡ Does op vs m) × Held op a d k m
+      (d : B) × (m : B) × (other : Operation) × Quiet natives N asker c b d × (N.look asker.unit d ≡ Does other vs m)
+      × AreAlike N.facts natives op other × Held op a d k m
   ComesTo natives asker c a Stuck b = (d : B) × Quiet natives N asker c b d × (N.look asker.unit d ≡ Stuck)
 
--- what holds of a frame wherever it is reached, as far as the second machine needs it
+-- what holds of the running frame of each state that is reached on words that are texts, as far as the second machine needs it
 abbrev pub AreFine : {A : Type 0} → Answers → Machine A → (Common → A → Type 0) → Type 0
 AreFine {A} natives M Fine =
-    (words : List Text) (input : List ℕ) (ticks : ℕ) (phase : Phase) (s : State A) (f : Frame A) (fs : List (Frame A)) →
-    IsReached natives M words input ticks phase s → s.frames ≡ f ∷ fs → Fine s.common f.control
+    (words : List Text) (input : List ℕ) (ticks : ℕ) (s : State A) (f : Frame A) (fs : List (Frame A)) → All IsText words →
+    IsReached natives M words input ticks Running s → s.frames ≡ f ∷ fs → Fine s.common f.control
 
 -- each frame of the first machine of which this holds is followed by one of the second
 module _ {A B : Type 0} (natives : Answers) (M : Machine A) (N : Machine B) (Follows : A → B → Type 0) (Fine : Common → A → Type 0) where

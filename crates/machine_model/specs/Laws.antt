@@ -1,14 +1,14 @@
 -- The laws of machines.
-use Rattle.std.specs.Prelude.{◌≡◌, ◌↔◌, ℕ, List, Option}
+use Rattle.std.specs.Prelude.{◌≡◌, ◌↔◌, ℕ, List, All}
+use Rattle.bal_base.specs.Valid.{IsText}
 use Rattle.bal_base.specs.declared.text.Text.{Text}
-use Rattle.value_model.specs.declared.value.Value.{Value}
 use Rattle.value_model.specs.Meaning.{Answers}
-use Rattle.run_model.specs.Common.{Common, Role}
+use Rattle.run_model.specs.Common.{Common}
 use Rattle.run_model.specs.Laws.{AnswerOnce}
-use Rattle.machine_model.specs.Machine.{Machine, Frame, State, Next, Step}
+use Rattle.machine_model.specs.Machine.{Machine, State, Next, Step}
 use Rattle.machine_model.specs.Runs.{Phase, Stop, Runs, IsReached}
 use Rattle.machine_model.specs.Outcomes.{Outcome, IsAllowed}
-use Rattle.machine_model.specs.Keeping.{IsKept, PhaseFits}
+use Rattle.machine_model.specs.Keeping.{Invariant, IsKept, StateFits}
 use Rattle.machine_model.specs.Following.{AreFine, FramesFollow, Settles}
 
 -- a state has at most one next one, where the natives come to one thing
@@ -22,10 +22,10 @@ RunsOnce natives {C} M =
     AnswerOnce natives → (phase : Phase) (n m : ℕ) (s : State C) (order : List ℕ) (stop other : Stop) (c d : Common) →
     Runs natives M phase n s order stop c → Runs natives M phase m s order other d → (n ≡ m) × (stop ≡ other) × (c ≡ d)
 
--- for all words, inputs, orders and ticks one machine has an outcome exactly where the other has it
+-- for all words that are texts, inputs, orders and ticks one machine has an outcome exactly where the other has it
 abbrev pub HaveSameOutcomes : {A B : Type 0} → Answers → Machine A → Machine B → Type 0
 HaveSameOutcomes natives M N =
-    (words : List Text) (input order : List ℕ) (ticks : ℕ) (o : Outcome) →
+    (words : List Text) (input order : List ℕ) (ticks : ℕ) (o : Outcome) → All IsText words →
     ((n : ℕ) × IsAllowed natives M words input order ticks n o) ↔ ((n : ℕ) × IsAllowed natives N words input order ticks n o)
 
 -- machines whose frames answer alike have the same outcomes, where each frame of the first comes to what it asks
@@ -34,9 +34,8 @@ FollowersDoTheSame {A} natives M N Follows Fine =
     FramesFollow natives M N Follows Fine → AreFine natives M Fine → ((unit : ℕ) (a : A) → Settles M unit a) →
     HaveSameOutcomes natives M N
 
--- what is kept holds of each state that the machine reaches
-abbrev pub KeptHolds : {C : Type 0} → Answers → Machine C → (Good Nearly : Common → Type 0) → (Option Role → Common → Common → Type 0) → (Common → Frame C → Type 0) → (Common → Frame C → ℕ → Type 0) → (Common → Value → ℕ → Type 0) → (Common → Value → Type 0) → (Common → ℕ → ℕ → Type 0) → Type 0
-KeptHolds {C} natives M Good Nearly Later Fits Awaits Holds Throws Lowest =
-    IsKept natives M Good Nearly Later Fits Awaits Holds Throws Lowest →
-    (words : List Text) (input : List ℕ) (ticks : ℕ) (phase : Phase) (s : State C) →
-    IsReached natives M words input ticks phase s → PhaseFits Good Fits Awaits Lowest phase s
+-- what is kept holds of each state that the machine reaches on words that are texts
+abbrev pub KeptHolds : {C : Type 0} → Answers → Machine C → Invariant C → Type 0
+KeptHolds {C} natives M I =
+    IsKept natives M I → (words : List Text) (input : List ℕ) (ticks : ℕ) (phase : Phase) (s : State C) → All IsText words →
+    IsReached natives M words input ticks phase s → StateFits I phase s

@@ -37,40 +37,16 @@ pub trait Followed {
 }
 
 /// A machine, and what is to hold of its states.
-pub trait Invariant {
-    ghost use Rattle.std.specs.Prelude.{ℕ, Option};
-    ghost use Rattle.value_model.specs.declared.value.Value.{Value as ValueOf};
-    ghost use Rattle.run_model.specs.Common.{Common, Role};
-    ghost use Rattle.machine_model.specs.Machine.{Machine, Frame};
+pub trait Kept {
+    ghost use Rattle.machine_model.specs.Machine.{Machine};
+    ghost use Rattle.machine_model.specs.Keeping.{Invariant};
 
     /// What its frames keep.
     ghost control: { Type 0 };
 
     ghost machine: { Machine control };
 
-    /// What holds of all that frames share.
-    ghost good: { Common → Type 0 };
-
-    /// The same before those who wake are ready.
-    ghost nearly: { Common → Type 0 };
-
-    /// What comes later, with what is of one worker as it was.
-    ghost later: { Option Role → Common → Common → Type 0 };
-
-    /// What holds of a frame that is about to go on.
-    ghost fits: { Common → Frame control → Type 0 };
-
-    /// What holds of a frame that awaits the result of a unit.
-    ghost awaits: { Common → Frame control → ℕ → Type 0 };
-
-    /// Which values a unit may give.
-    ghost holds: { Common → ValueOf → ℕ → Type 0 };
-
-    /// Which values a panic may have.
-    ghost throws: { Common → ValueOf → Type 0 };
-
-    /// Of which units the lowest frame of a strand may be.
-    ghost lowest: { Common → ℕ → ℕ → Type 0 };
+    ghost invariant: { Invariant control };
 }
 
 /// A state has at most one next one, and by an order at most one run, where the natives come to one thing.
@@ -85,6 +61,6 @@ pub fn followers_do_the_same<N: Meaning, P: Followed>()
 {}
 
 /// What single frames and what they share keep holds of each state that a machine reaches.
-pub fn what_is_kept_holds<N: Meaning, I: Invariant>()
-    ensures { KeptHolds N.answers I.machine I.good I.nearly I.later I.fits I.awaits I.holds I.throws I.lowest }
+pub fn what_is_kept_holds<N: Meaning, K: Kept>()
+    ensures { KeptHolds N.answers K.machine K.invariant }
 {}

@@ -13,12 +13,12 @@
 //!
 //! - [`states_have_one_next`] of [`AnyMachine`]: a state has at most one next one, and by an order one run.
 //! - [`followers_do_the_same`] of [`Followed`]: machines whose frames answer alike have the same outcomes.
-//! - [`what_is_kept_holds`] of an [`Invariant`]: what single frames keep holds of each state that is reached.
+//! - [`what_is_kept_holds`] of [`Kept`]: what single frames keep holds of each state that is reached.
 #![tactic(auto)]
 
 mod laws;
 
 pub use laws::{
-    AnyMachine, Followed, Invariant, followers_do_the_same, states_have_one_next,
+    AnyMachine, Followed, Kept, followers_do_the_same, states_have_one_next,
     what_is_kept_holds,
 };
