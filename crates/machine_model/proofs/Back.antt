@@ -11,9 +11,10 @@ use Rattle.run_model.specs.Common.{Common}
 use Rattle.run_model.specs.Performs.{Performs}
 use Rattle.machine_model.specs.Machine.{Machine, On, Does, Stuck, Frame, State, Next, Moved, Blocked, Ended, NeedsTick, Limit, goes_to, asker, carried, Takes, TakesTop, Step}
 use Rattle.machine_model.specs.Runs.{Phase, Running, Picking, Stop, Over, TicksSpent, PastLimit, Runs, moves, blocks, ends, needs_tick, passes, picks, over, picked}
+use Rattle.machine_model.specs.Steps.{state_at}
 use Rattle.machine_model.specs.Following.{AreAlike, Quiet, here, step, Held, ComesTo, FramesFollow, AreFine, Settles, asks, stuck, on}
 use Rattle.machine_model.proofs.Lifts.{SameCall, BelowMatch, FramesMatch, OthersMatch, StateMatch, NextMatch, carried-match, back-some, goes-on, same-asker}
-use Rattle.machine_model.proofs.Steps.{state_at, one-quiet}
+use Rattle.machine_model.proofs.Steps.{one-quiet}
 use Rattle.machine_model.proofs.Quietly.{quietly, quiet-then, quiet-past}
 use Rattle.machine_model.proofs.Forth.{Came, came-moved, came-blocked, came-ended, came-picked, same-picked}
 

@@ -1,4 +1,6 @@
+pub mod Along
 pub mod Back
+pub mod Counted
 pub mod Forth
 pub mod Keeping
 pub mod Lifts

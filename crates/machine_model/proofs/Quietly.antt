@@ -8,9 +8,10 @@ use Rattle.run_model.specs.Effects.{Effect, Gives}
 use Rattle.run_model.specs.Performs.{Performs}
 use Rattle.machine_model.specs.Machine.{Machine, On, Does, Frame, State, Next, Moved, Blocked, Ended, NeedsTick, Limit, goes_to, asker, carried, Takes, Step}
 use Rattle.machine_model.specs.Runs.{Running, Stop, Runs, moves, blocks, ends, needs_tick, passes}
+use Rattle.machine_model.specs.Steps.{state_at}
 use Rattle.machine_model.specs.Following.{Quiet, here, step, pass}
 use Rattle.machine_model.proofs.Once.{some-same}
-use Rattle.machine_model.proofs.Steps.{state_at, one-quiet, one-pass}
+use Rattle.machine_model.proofs.Steps.{one-quiet, one-pass}
 
 module _ {C : Type 0} (natives : Answers) (M : Machine C) where
   pub quietly : {asker : Asker} {c : Common} {x y z : C} → Quiet natives M asker c x y → Quiet natives M asker c y z → Quiet natives M asker c x z

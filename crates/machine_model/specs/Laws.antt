@@ -5,10 +5,11 @@ use Rattle.bal_base.specs.declared.text.Text.{Text}
 use Rattle.value_model.specs.Meaning.{Answers}
 use Rattle.run_model.specs.Common.{Common}
 use Rattle.run_model.specs.Laws.{AnswerOnce}
-use Rattle.machine_model.specs.Machine.{Machine, State, Next, Step}
+use Rattle.machine_model.specs.Machine.{Machine, Frame, State, Next, Step}
 use Rattle.machine_model.specs.Runs.{Phase, Stop, Runs, IsReached}
 use Rattle.machine_model.specs.Outcomes.{Outcome, IsAllowed}
 use Rattle.machine_model.specs.Keeping.{Invariant, IsKept, StateFits}
+use Rattle.machine_model.specs.Along.{FlowsKept, along}
 use Rattle.machine_model.specs.Following.{AreFine, FramesFollow, Settles}
 
 -- a state has at most one next one, where the natives come to one thing
@@ -39,3 +40,16 @@ abbrev pub KeptHolds : {C : Type 0} → Answers → Machine C → Invariant C �
 KeptHolds {C} natives M I =
     IsKept natives M I → (words : List Text) (input : List ℕ) (ticks : ℕ) (phase : Phase) (s : State C) → All IsText words →
     IsReached natives M words input ticks phase s → StateFits I phase s
+
+-- where frames follow, what the second machine keeps, and facts besides that are kept along with it, the first machine keeps
+abbrev pub KeepsAlong : {A B : Type 0} → Answers → Machine A → Machine B → (A → B → Type 0) → (Common → A → Type 0) → Invariant B → (Common → Frame A → Type 0) → (Common → Frame A → ℕ → Type 0) → Type 0
+KeepsAlong natives M N Follows Fine I Flows FlowsBehind =
+    FramesFollow natives M N Follows Fine → IsKept natives N I → FlowsKept natives M N Follows Fine I Flows FlowsBehind →
+    IsKept natives M (along natives M N Follows Fine I Flows FlowsBehind)
+
+-- machines whose frames answer alike have the same outcomes, where what the second one keeps leaves each frame of the first
+-- as it has to be
+abbrev pub SoundFollowersDoTheSame : {A B : Type 0} → Answers → Machine A → Machine B → (A → B → Type 0) → (Common → A → Type 0) → Invariant B → (Common → Frame A → Type 0) → (Common → Frame A → ℕ → Type 0) → Type 0
+SoundFollowersDoTheSame {A} natives M N Follows Fine I Flows FlowsBehind =
+    FramesFollow natives M N Follows Fine → IsKept natives N I → FlowsKept natives M N Follows Fine I Flows FlowsBehind →
+    ((unit : ℕ) (a : A) → Settles M unit a) → HaveSameOutcomes natives M N
