@@ -61,11 +61,12 @@ module _ (env : List AtomDef) where
   abbrev pub IsMade : ℕ → Bool → Shape → Type 0
   IsMade atom immutable x = In env x (Atom atom) × (IsTrue immutable → IsReadonly x)
 
-  -- an error's detail has a member for each pair, and no others
+  -- an error's detail has a member for the key of each pair, and each member is of some pair: where a key comes twice its last
+  -- value stands
   abbrev pub IsDetailOf : List (SemType × SemType) → List (Text × Shape) → Type 0
   IsDetailOf pairs members =
       All (λ m. Any (λ p. In env (Str m.0) p.0 × In env m.1 p.1) pairs) members
-      × All (λ p. Any (λ m. In env (Str m.0) p.0 × In env m.1 p.1) members) pairs
+      × All (λ p. Any (λ m. In env (Str m.0) p.0) members) pairs
 
   -- ---- waits
 

@@ -43,16 +43,16 @@ module _ (c : Common) (role : Option Role) (unit : ℕ) (args : List Value) wher
 
 -- ---- the workers of a function
 
-module _ (c : Common) (ws : List WorkerFacts) (vs : List Value) where
+module _ (c : Common) (unit : ℕ) (ws : List WorkerFacts) (vs : List Value) where
   abbrev started : Bool → Effect
   started b =
       let ss = workers_from (length c.activations) 1 ws vs in
-      if b then Spawns ss (Some (record { activation = length c.activations; worker = 0 })) [] (strands_made ss (with_another c (new_activation c (length ws)))) else Beyond Strands
+      if b then Spawns ss (Some (record { activation = length c.activations; worker = 0 })) [] (strands_made ss (with_another c (new_activation c unit (length ws)))) else Beyond Strands
 
-  pub workers-there : length c.strands + length ws ≤ most_strands → (let ss = workers_from (length c.activations) 1 ws vs in Spawns ss (Some (record { activation = length c.activations; worker = 0 })) [] (strands_made ss (with_another c (new_activation c (length ws))))) ≡ starts_workers c ws vs
+  pub workers-there : length c.strands + length ws ≤ most_strands → (let ss = workers_from (length c.activations) 1 ws vs in Spawns ss (Some (record { activation = length c.activations; worker = 0 })) [] (strands_made ss (with_another c (new_activation c unit (length ws))))) ≡ starts_workers c unit ws vs
   workers-there le = sym (ap started (le-leb (length c.strands + length ws) most_strands le))
 
-  pub workers-past : most_strands < length c.strands + length ws → Beyond Strands ≡ starts_workers c ws vs
+  pub workers-past : most_strands < length c.strands + length ws → Beyond Strands ≡ starts_workers c unit ws vs
   workers-past lt = sym (ap started (not-at-most (length c.strands + length ws) most_strands lt))
 
 pub ruleset making = (length-map, map-append, append-one, replicate-more, slice_get-map, take_all)

@@ -99,19 +99,21 @@ fn no_rows(alloc: Global, count: u64, width: u64) -> Result<Vec<Vec<Channel>>, M
     Ok(rows)
 }
 
-/// The activation whose default worker is the running strand.
+/// The activation of the function with this unit, whose default worker is the running strand.
 fn new_activation(
     alloc: Global,
     common: &Common,
+    unit: u32,
     workers: &[WorkerFacts],
 ) -> Result<Activation, Memory>
     requires { length common.now.strands.items + length workers.now < 2 ^ 63 }
-    ensures { IfOk result (λ a. activation_of a ≡ model.new_activation (common_of common.now) (length workers.now)) }
+    ensures { IfOk result (λ a. activation_of a ≡ model.new_activation (common_of common.now) unit (length workers.now)) }
 {
     let mut strands = vec![in alloc; common.running]?;
     add_numbers(common.strands.len() as u64, workers, &mut strands)?;
     let count = workers.len() as u64 + 1;
     Ok(Activation {
+        unit,
         strands,
         ends: no_ends(alloc, count)?,
         channels: no_rows(alloc, count, count)?,
@@ -139,14 +141,15 @@ fn add_activation(common: &mut Common, activation: Activation) -> Result<(), Mem
     Ok(())
 }
 
-/// These workers start, as far as there may be so many strands.
+/// These workers of the function with this unit start, as far as there may be so many strands.
 fn starts_workers(
     alloc: Global,
     common: &mut Common,
+    unit: u32,
     workers: &[WorkerFacts],
     values: &[Value],
 ) -> Result<Effect, Memory>
-    ensures row { IfOk result (λ e. effect_of e common.new ≡ model.starts_workers (common_of common.old) (map worker_facts_of workers.now) values.now) }
+    ensures row { IfOk result (λ e. effect_of e common.new ≡ model.starts_workers (common_of common.old) unit (map worker_facts_of workers.now) values.now) }
     ensures stays { IfOk result (EffectStays common.old common.new) }
 {
     let there = common.strands.len();
@@ -156,7 +159,7 @@ fn starts_workers(
     let activation = common.activations.len() as u64;
     let mut spawned = Vec::new(alloc);
     add_workers(alloc, activation, 1, workers, values, &mut spawned)?;
-    let made = new_activation(alloc, common, workers)?;
+    let made = new_activation(alloc, common, unit, workers)?;
     add_activation(common, made)?;
     make_strands(common, spawned.as_slice())?;
     Ok(Effect::Spawns {
@@ -185,6 +188,7 @@ pub fn perform_workers(
         Some(unit) => Ok(Performed::Done(starts_workers(
             alloc,
             common,
+            asker.unit,
             unit.workers.as_slice(),
             operands,
         )?)),

@@ -15,8 +15,8 @@ stands-there ss n s t status e h =
     set-there strand_of ss n t (with_status (strand_of s) status) h
     ∙ ap (λ x. slice_set (map strand_of ss) n (with_status x status)) (sym (get-there strand_of ss n s no_strand e))
 
-pub ends-there : (xs : List Activation) (r : model.Role) (a b : Activation) (end : model.End) → slice_get xs r.activation ≡ Some a → map (option_map end_of) b.ends.items ≡ slice_set (map (option_map end_of) a.ends.items) r.worker (Some end) → b.strands ≡ a.strands → b.channels ≡ a.channels → map activation_of (slice_set xs r.activation b) ≡ ends_so (map activation_of xs) r end
-ends-there xs r a b end e h s ch =
-    let ended : model.Activation → model.Activation = λ x. record { strands = x.strands; ends = slice_set x.ends r.worker (Some end); channels = x.channels } in
-    set-there activation_of xs r.activation b (ended (activation_of a)) (λ i. record { strands = (s i).items; ends = h i; channels = map (λ ys. map channel_of ys.items) (ch i).items })
+pub ends-there : (xs : List Activation) (r : model.Role) (a b : Activation) (end : model.End) → slice_get xs r.activation ≡ Some a → map (option_map end_of) b.ends.items ≡ slice_set (map (option_map end_of) a.ends.items) r.worker (Some end) → b.unit ≡ a.unit → b.strands ≡ a.strands → b.channels ≡ a.channels → map activation_of (slice_set xs r.activation b) ≡ ends_so (map activation_of xs) r end
+ends-there xs r a b end e h u s ch =
+    let ended : model.Activation → model.Activation = λ x. record { unit = x.unit; strands = x.strands; ends = slice_set x.ends r.worker (Some end); channels = x.channels } in
+    set-there activation_of xs r.activation b (ended (activation_of a)) (λ i. record { unit = u i; strands = (s i).items; ends = h i; channels = map (λ ys. map channel_of ys.items) (ch i).items })
     ∙ ap (λ x. slice_set (map activation_of xs) r.activation (ended x)) (sym (get-there activation_of xs r.activation a no_activation e))

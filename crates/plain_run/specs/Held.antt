@@ -72,7 +72,7 @@ abbrev pub channel_of : Channel → model.Channel
 channel_of x = record { sent = x.sent; received = x.received; queue = x.queue.items }
 
 abbrev pub activation_of : Activation → model.Activation
-activation_of a = record { strands = a.strands.items; ends = map (option_map end_of) a.ends.items; channels = map (λ xs. map channel_of xs.items) a.channels.items }
+activation_of a = record { unit = a.unit; strands = a.strands.items; ends = map (option_map end_of) a.ends.items; channels = map (λ xs. map channel_of xs.items) a.channels.items }
 
 abbrev pub common_of : Common → model.Common
 common_of c =

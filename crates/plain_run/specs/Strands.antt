@@ -32,4 +32,4 @@ ended_once s = if is_some (end_in s.status) then 1 else 0
 abbrev pub ends_so : List model.Activation → model.Role → model.End → List model.Activation
 ends_so xs r end =
     let x = get_or xs r.activation no_activation in
-    slice_set xs r.activation (record { strands = x.strands; ends = slice_set x.ends r.worker (Some end); channels = x.channels })
+    slice_set xs r.activation (record { unit = x.unit; strands = x.strands; ends = slice_set x.ends r.worker (Some end); channels = x.channels })

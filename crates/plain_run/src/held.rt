@@ -127,6 +127,8 @@ pub struct Channel {
 /// A call of a function with named workers.
 #[derive(Drop)]
 pub struct Activation {
+    /// The function's unit.
+    pub unit: u32,
     pub strands: Vec<u64>,
     pub ends: Vec<Option<End>>,
     /// By the sender and then by the receiver.

@@ -32,7 +32,7 @@ abbrev pub passed_from : Passing → ℕ → ℕ → List (List model.Channel) �
 passed_from p from to rows = changed (passed_to p to) [] rows from
 
 abbrev pub passed_in : Passing → ℕ → ℕ → model.Activation → model.Activation
-passed_in p from to x = record { strands = x.strands; ends = x.ends; channels = passed_from p from to x.channels }
+passed_in p from to x = record { unit = x.unit; strands = x.strands; ends = x.ends; channels = passed_from p from to x.channels }
 
 abbrev pub passed_on : Passing → ℕ → ℕ → ℕ → model.Common → model.Common
 passed_on p a from to c = with_channel c a from to (passed p (channel_at c a from to))

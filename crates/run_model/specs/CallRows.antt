@@ -98,17 +98,17 @@ strands_made [] c = c
 strands_made (s ∷ ss) c = strands_made ss (strand_made s.unit s.role c)
 
 -- the default worker runs on the running strand, and no worker has ended or sent anything
-abbrev pub new_activation : Common → ℕ → Activation
-new_activation c named =
-    record { strands = c.running ∷ numbers_from (length c.strands) named; ends = replicate (named + 1) None; channels = replicate (named + 1) (replicate (named + 1) no_channel) }
+abbrev pub new_activation : Common → ℕ → ℕ → Activation
+new_activation c unit named =
+    record { unit = unit; strands = c.running ∷ numbers_from (length c.strands) named; ends = replicate (named + 1) None; channels = replicate (named + 1) (replicate (named + 1) no_channel) }
 
-abbrev pub starts_workers : Common → List WorkerFacts → List Value → Effect
-starts_workers c workers vs =
+abbrev pub starts_workers : Common → ℕ → List WorkerFacts → List Value → Effect
+starts_workers c unit workers vs =
     let a = length c.activations in
     let ss = workers_from a 1 workers vs in
     if nat_le (length c.strands + length workers) most_strands
-    then Spawns ss (Some (record { activation = a; worker = 0 })) [] (strands_made ss (record c { activations = c.activations ++ new_activation c (length workers) ∷ [] }))
+    then Spawns ss (Some (record { activation = a; worker = 0 })) [] (strands_made ss (record c { activations = c.activations ++ new_activation c unit (length workers) ∷ [] }))
     else Beyond Strands
 
 abbrev pub StartsWorkers : Facts → ℕ → Common → List Value → Effect → Type 0
-StartsWorkers facts unit c vs effect = IsSomeAnd (slice_get facts.units unit) (λ u. effect ≡ starts_workers c u.workers vs)
+StartsWorkers facts unit c vs effect = IsSomeAnd (slice_get facts.units unit) (λ u. effect ≡ starts_workers c unit u.workers vs)

@@ -253,7 +253,7 @@ worker n = record { activation = 0; worker = n }
 -- strand 0 is worker 0 and runs; strand 1 is worker 1, and is this; the channel from 0 to 1 is this one
 abbrev pub two_workers : Status → Channel → List ℕ → Common
 two_workers status channel ready =
-    record nothing_run { strands = record { unit = 0; role = None; status = IsActive; taken = false } ∷ record { unit = 0; role = Some (worker 1); status = status; taken = false } ∷ []; activations = record { strands = 0 ∷ 1 ∷ []; ends = None ∷ None ∷ []; channels = (channel_of 0 0 [] ∷ channel ∷ []) ∷ (channel_of 0 0 [] ∷ channel_of 0 0 [] ∷ []) ∷ [] } ∷ []; ready = ready }
+    record nothing_run { strands = record { unit = 0; role = None; status = IsActive; taken = false } ∷ record { unit = 0; role = Some (worker 1); status = status; taken = false } ∷ []; activations = record { unit = 0; strands = 0 ∷ 1 ∷ []; ends = None ∷ None ∷ []; channels = (channel_of 0 0 [] ∷ channel ∷ []) ∷ (channel_of 0 0 [] ∷ channel_of 0 0 [] ∷ []) ∷ [] } ∷ []; ready = ready }
 
 -- worker 1 waits for a message of worker 0
 abbrev pub ReceivesLater : Type 0

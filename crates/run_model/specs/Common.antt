@@ -49,6 +49,8 @@ pub record Channel : Type 0 where
 
 -- a call of a function with named workers, from when they are started
 pub record Activation : Type 0 where
+  -- the unit of the function
+  pub unit : ℕ
   -- each worker's strand
   pub strands : List ℕ
   -- how each worker ended, where it has

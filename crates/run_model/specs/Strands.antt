@@ -14,7 +14,7 @@ abbrev pub no_channel : Channel
 no_channel = record { sent = 0; received = 0; queue = [] }
 
 abbrev pub no_activation : Activation
-no_activation = record { strands = []; ends = []; channels = [] }
+no_activation = record { unit = 0; strands = []; ends = []; channels = [] }
 
 abbrev pub strand_at : Common → ℕ → Strand
 strand_at c n = get_or c.strands n no_strand
@@ -104,7 +104,7 @@ with_activation c a x = record c { activations = slice_set c.activations a x }
 abbrev pub with_channel : Common → ℕ → ℕ → ℕ → Channel → Common
 with_channel c a from to channel =
     let x = activation_at c a in
-    with_activation c a (record { strands = x.strands; ends = x.ends; channels = slice_set x.channels from (slice_set (get_or x.channels from []) to channel) })
+    with_activation c a (record { unit = x.unit; strands = x.strands; ends = x.ends; channels = slice_set x.channels from (slice_set (get_or x.channels from []) to channel) })
 
 -- the running strand has stopped, for a need
 abbrev pub strand_blocked : Need → Common → Common
@@ -124,7 +124,7 @@ abbrev pub worker_ended : End → Option Role → Common → Common
 worker_ended end None c = c
 worker_ended end (Some r) c =
     let x = activation_at c r.activation in
-    with_activation c r.activation (record { strands = x.strands; ends = slice_set x.ends r.worker (Some end); channels = x.channels })
+    with_activation c r.activation (record { unit = x.unit; strands = x.strands; ends = slice_set x.ends r.worker (Some end); channels = x.channels })
 
 -- and so several, as where a panic ends many frames: whoever wakes is sorted once, by `settled`, when all have ended
 abbrev pub workers_ended : End → List (Option Role) → Common → Common

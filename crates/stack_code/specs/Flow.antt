@@ -13,7 +13,7 @@ use Rattle.machine_model.specs.Following.{EndsFrame}
 use Rattle.stack_code.specs.declared.code.Code.{Code}
 use Rattle.stack_code.specs.declared.code.Unit.{Unit as CodeUnit}
 use Rattle.stack_code.specs.Commands.{Command, Do, GoTo, GoToIfNot, OpenTrap, CloseTrap, command_at}
-use Rattle.stack_code.specs.Talk.{Talk, Sends, Receives, Flushes, StartsWorkers, AwaitsWorkers, NoTalk, talk_of}
+use Rattle.operations.specs.Talk.{Talk, Sends, Receives, Flushes, StartsWorkers, AwaitsWorkers, NoTalk, talk_of}
 use Rattle.stack_code.specs.Places.{Station, Tally, IsIn, crew, stack_at, surroundings, tally_at, traps_at}
 
 -- ---- numbers of messages

@@ -6,6 +6,4 @@ pub mod Laws
 pub mod Messages
 pub mod Places
 pub mod Tables
-pub mod Talk
-pub mod Uses
 pub mod WellTyped

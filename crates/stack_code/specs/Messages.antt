@@ -8,7 +8,7 @@ use Rattle.operations.specs.Rows.{IsWithin}
 use Rattle.type_model.specs.Membership.{In}
 use Rattle.stack_code.specs.declared.code.Code.{Code}
 use Rattle.stack_code.specs.Commands.{Command, Do, GoTo, GoToIfNot, OpenTrap, CloseTrap, command_at}
-use Rattle.stack_code.specs.Talk.{Talk, Sends, Receives, Flushes, StartsWorkers, AwaitsWorkers, NoTalk, talk_of}
+use Rattle.operations.specs.Talk.{Talk, Sends, Receives, Flushes, StartsWorkers, AwaitsWorkers, NoTalk, talk_of}
 use Rattle.stack_code.specs.Places.{Station, Tally, IsInUnit, IsStation, crew, stack_at, tally_at}
 
 -- ---- what operations name

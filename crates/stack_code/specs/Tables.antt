@@ -22,7 +22,7 @@ use Rattle.stack_code.specs.declared.code.Spawn.{Spawn}
 use Rattle.stack_code.specs.declared.code.StackMap.{StackMap}
 use Rattle.stack_code.specs.Commands.{Do, command_at}
 use Rattle.stack_code.specs.Flow.{AreSame}
-use Rattle.stack_code.specs.Uses.{atoms_made, units_called, units_used, units_valued, use_of}
+use Rattle.operations.specs.Uses.{atoms_made, units_called, units_used, units_valued, use_of}
 use Rattle.stack_code.specs.Places.{IsInUnit, IsWorkerUnit, crew}
 
 module _ (code : Code) where

@@ -1,5 +1,5 @@
 -- The heap: structures, errors and function values, each of the three numbered by itself in the order of making.
-use Rattle.std.specs.Prelude.{◌≡◌, ◌+◌, ◌<◌, ℕ, Bool, List, [], ◌∷◌, ◌++◌, Option, Some, None, IsSomeAnd, IsFalse, All, ⊤, map, length, slice_get, sum_by, if◌then◌else◌}
+use Rattle.std.specs.Prelude.{◌≡◌, ◌+◌, ◌<◌, ℕ, Bool, List, [], ◌∷◌, ◌++◌, Option, Some, None, IfSome, IsSomeAnd, IsFalse, All, ⊤, map, length, slice_get, sum_by, if◌then◌else◌}
 use Rattle.bal_base.specs.declared.text.Text.{Text}
 use Rattle.type_model.specs.Places.{is_same_text}
 use Rattle.value_model.specs.declared.value.Value.{Value}
@@ -71,6 +71,7 @@ IsThere h (Future strand unit) = ⊤
 pub record IsClosed (h : Heap) : Type 0 where
   pub members : All (λ s. All (IsThere h) (values_of s.members)) h.structures
   pub details : All (λ e. e.detail < length h.structures) h.errors
+  pub causes : All (λ e. IfSome e.cause (λ n. n < length h.errors)) h.errors
   pub captured : All (λ f. All (IsThere h) f.captured) h.functions
 
 -- ---- how a heap grows

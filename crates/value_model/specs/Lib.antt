@@ -5,4 +5,5 @@ pub mod Meaning
 pub mod PanicName
 pub mod Stands
 pub mod Table
+pub mod Valid
 pub mod World

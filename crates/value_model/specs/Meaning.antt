@@ -15,6 +15,7 @@ use Rattle.value_model.specs.declared.native.NativeFault.TheVariants.{Input, Out
 use Rattle.value_model.specs.Heap.{Heap, Structure, IsThere, IsClosed, Grows, values_of}
 use Rattle.value_model.specs.Stands.{OwnTypes, Belongs, HasShape}
 use Rattle.value_model.specs.Table.{TestTable, own_types, Serves, KnowsValue}
+use Rattle.value_model.specs.Valid.{IsValidHeap, IsValidValue}
 use Rattle.value_model.specs.World.{World, Came, Gave, Threw, PassesCells}
 
 -- the table of the operations: over these atoms, an operation, with the atom of the list that it makes or 0, takes
@@ -85,7 +86,8 @@ HasShapes h =
 abbrev pub Holds : Heap → Value → Type 0
 Holds h v = Any (λ s. Contains (values_of s.members) v) h.structures ⊎ Any (λ f. Contains f.captured v) h.functions
 
--- after the call all is still there, no function and no future is new, and the table serves the heap and the answer
+-- after the call all is still there, no function and no future is new, the table serves the heap and the answer, and what
+-- is there then is valid where it was before
 pub record Keeps (t : TestTable) (old new : Heap) (args : List Value) (answer : Value) : Type 0 where
   pub grows : Grows old new
   pub functions : new.functions ≡ old.functions
@@ -94,6 +96,7 @@ pub record Keeps (t : TestTable) (old new : Heap) (args : List Value) (answer : 
   pub closed : IsClosed new
   pub there : IsThere new answer
   pub shapes : HasShapes old → HasShapes new
+  pub valid : IsValidHeap old → All IsValidValue args → IsValidHeap new × IsValidValue answer
   pub futures : (strand unit : ℕ) → Holds new (Future strand unit) ⊎ (answer ≡ Future strand unit) → Holds old (Future strand unit) ⊎ Contains args (Future strand unit)
 
 -- a fault of an object comes only where its count rose
