@@ -6,3 +6,4 @@ pub mod Machine
 pub mod Outcomes
 pub mod Runs
 pub mod Steps
+pub mod Strands
