@@ -137,6 +137,12 @@ module _ (W : Status → Bool) where
       by true = refl
       by false = refl
 
+  pub settled-status : (b : Board) (n : ℕ) (status : Status) → status_in (settle b) n ≡ Some status → (old : Status) × (status_in b n ≡ Some old) × (status ≡ (if W old then IsActive else old))
+  settled-status b n status e =
+      let x = status-there (settle b) n status e in
+      let old = from-map rouse b.strands n x.0 x.1 in
+      (old.0.status, ap (option_map (λ z. z.status)) old.1, sym x.2 ∙ (ap (λ z. z.status) (sym old.2) ∙ roused-status old.0))
+
   module _ (calm : W IsActive ≡ false) (over : (k : ℕ) (end : End) → W (IsEnded k end) ≡ false) (phase : Phase) (b : Board) (R : ℕ → List (Option Role)) (h : Held phase b R) where
     m : ℕ
     m = b.running
@@ -200,6 +206,24 @@ no_seen = record { role = None; status = IsActive }
 
 abbrev pub stopped_so : Status → Board → Board
 stopped_so status b = record b { strands = slice_set b.strands b.running (record { role = (get_or b.strands b.running no_seen).role; status = status }) }
+
+pub stopped-status : (b : Board) (status : Status) (n : ℕ) (other : Status) → status_in (stopped_so status b) n ≡ Some other → ((n ≡ b.running) × (status ≡ other)) ⊎ (status_in b n ≡ Some other)
+stopped-status b status n other e = by x.0 x.2 (slice-cases b.strands b.running n new x.0 x.1)
+  where
+    new : Seen
+    new = record { role = (get_or b.strands b.running no_seen).role; status = status }
+
+    x : (x : Seen) × (slice_get (stopped_so status b).strands n ≡ Some x) × (x.status ≡ other)
+    x = status-there (stopped_so status b) n other e
+
+    by : (x : Seen) → x.status ≡ other → ((n ≡ b.running) × (new ≡ x)) ⊎ ((n ≢ b.running) × (slice_get b.strands n ≡ Some x)) → ((n ≡ b.running) × (status ≡ other)) ⊎ (status_in b n ≡ Some other)
+    by x is (inl (at, same)) = inl (at, ap (λ z. z.status) same ∙ is)
+    by x is (inr (ne, old)) = inr (ap (option_map (λ z. z.status)) old ∙ ap Some is)
+
+pub stopped-here : (b : Board) (status : Status) → status_in b b.running ≡ Some IsActive → status_in (stopped_so status b) b.running ≡ Some status
+stopped-here b status e =
+    let x = status-there b b.running IsActive e in
+    ap (option_map (λ z. z.status)) (slice-here b.strands b.running (record { role = (get_or b.strands b.running no_seen).role; status = status }) (slice_get_within b.strands b.running x.0 x.1))
 
 module _ (b : Board) (R : ℕ → List (Option Role)) (h : Held Running b R) (status : Status) (idle : due_in Picking b.running b.running (Some status) ≡ 0) (empty : end_in status ≢ None → R b.running ≡ []) where
   abbrev pub d : Board

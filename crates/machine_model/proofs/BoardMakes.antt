@@ -32,7 +32,7 @@ all-none : (k : ℕ) → length (replicate k (let e : Option End = None in e)) �
 all-none zero = refl
 all-none (suc k) = ap suc (all-none k)
 
-none-there : (k w : ℕ) → w < k → slice_get (replicate k (let e : Option End = None in e)) w ≡ Some None
+pub none-there : (k w : ℕ) → w < k → slice_get (replicate k (let e : Option End = None in e)) w ≡ Some None
 none-there zero w lt = absurd (omega (arith, lt))
 none-there (suc k) zero lt = refl
 none-there (suc k) (suc w) lt = none-there k w (omega (arith, lt))

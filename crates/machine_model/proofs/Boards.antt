@@ -121,13 +121,13 @@ closed end (Some q) b =
     record b { crews = slice_set b.crews q.activation (record { strands = (crew_at b q.activation).strands; ends = slice_set (crew_at b q.activation).ends q.worker (Some end) }) }
 
 module _ (end : End) (q : Role) (b : Board) where
-  abbrev after : Board
+  abbrev pub after : Board
   after = closed end (Some q) b
 
   abbrev new : Crew
   new = record { strands = (crew_at b q.activation).strands; ends = slice_set (crew_at b q.activation).ends q.worker (Some end) }
 
-  closed-strands : (a : ℕ) → (crew_at after a).strands ≡ (crew_at b a).strands
+  pub closed-strands : (a : ℕ) → (crew_at after a).strands ≡ (crew_at b a).strands
   closed-strands a = set-view (λ x. x.strands) b.crews q.activation a new no_crew refl
 
   closed-ends : (a : ℕ) → length (crew_at after a).ends ≡ length (crew_at b a).ends

@@ -4,11 +4,16 @@ pub mod Back
 pub mod BoardChanges
 pub mod BoardMakes
 pub mod Boards
+pub mod Commons
 pub mod Counted
 pub mod Forth
+pub mod Holding
+pub mod HoldingMakes
+pub mod HoldingSteps
 pub mod Keeping
 pub mod Lifts
 pub mod Once
+pub mod Onward
 pub mod Places
 pub mod Quietly
 pub mod RunsOnce
