@@ -7,8 +7,10 @@ pub mod Boards
 pub mod Commons
 pub mod Counted
 pub mod Forth
+pub mod HoldOfStrands
 pub mod Holding
 pub mod HoldingMakes
+pub mod HoldingSpawns
 pub mod HoldingSteps
 pub mod Keeping
 pub mod Lifts

@@ -28,7 +28,7 @@ pub record Onward (Own : Role → Type 0) (c d : Common) : Type 0 where
       (before : Status) × (status_in (board c) n ≡ Some before) × ((need : Need) → status ≡ IsBlocked need → before ≡ IsBlocked need) × (end_in status ≡ None → end_in before ≡ None)
 
 -- where statuses are as they were
-same-old : (c d : Common) → ((n : ℕ) → status_in (board d) n ≡ status_in (board c) n) → (n : ℕ) (status : Status) → status_in (board d) n ≡ Some status → (before : Status) × (status_in (board c) n ≡ Some before) × ((need : Need) → status ≡ IsBlocked need → before ≡ IsBlocked need) × (end_in status ≡ None → end_in before ≡ None)
+pub same-old : (c d : Common) → ((n : ℕ) → status_in (board d) n ≡ status_in (board c) n) → (n : ℕ) (status : Status) → status_in (board d) n ≡ Some status → (before : Status) × (status_in (board c) n ≡ Some before) × ((need : Need) → status ≡ IsBlocked need → before ≡ IsBlocked need) × (end_in status ≡ None → end_in before ≡ None)
 same-old c d same n status at = (status, sym (same n) ∙ at, (λ need is. is), (λ none. none))
 
 module _ {Own : Role → Type 0} where

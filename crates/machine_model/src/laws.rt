@@ -1,6 +1,7 @@
 //! Laws of machines. These calls do nothing: their clauses are laws.
 ghost use Rattle.machine_model.specs.Machine.{Machine};
 ghost use Rattle.machine_model.specs.Laws.{StepsOnce, RunsOnce, FollowersDoTheSame, KeptHolds, KeepsAlong, SoundFollowersDoTheSame};
+ghost use Rattle.machine_model.specs.Strands.{HoldOfStrands};
 ghost use Rattle.machine_model.specs.Steps.{GoesAreSteps, StepsChain, StepsAreReached, StepsThenRuns};
 
 use run_model::Meaning;
@@ -112,4 +113,10 @@ pub fn steps_add_up<N: Meaning, M: AnyMachine>()
     ensures chain { StepsChain N.answers M.machine }
     ensures reached { StepsAreReached N.answers M.machine }
     ensures runs { StepsThenRuns N.answers M.machine }
+{}
+
+/// What holds of strands, workers and the ready list holds of each state that a machine reaches, where a frame that is a worker
+/// starts no workers and no alternate wait is for nothing.
+pub fn strands_hold<N: Meaning, M: AnyMachine>()
+    ensures { HoldOfStrands N.answers M.machine }
 {}

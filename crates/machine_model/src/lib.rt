@@ -7,7 +7,8 @@
 //! - `Machine`: machines, frames, states, and what a step comes to; `Runs`: how a run begins, whole runs, and the states that
 //!   they reach; `Steps`: steps that are counted; `Outcomes`: what comes of a run.
 //! - `Following`: what it means that each frame of one machine is followed by one of another; `Keeping`: what it means that
-//!   something is kept by each step; `Along`: facts of one machine's frames that ride on what another one keeps; `Laws`.
+//!   something is kept by each step; `Along`: facts of one machine's frames that ride on what another one keeps; `Strands`:
+//!   what holds of the strands of every machine; `Laws`.
 //!
 //! The laws, over any machines and any natives:
 //!
@@ -17,11 +18,13 @@
 //! - [`what_is_kept_holds`] of [`Kept`]: what single frames keep holds of each state that is reached.
 //! - [`sound_followers_do_the_same`] of [`FollowedAlong`]: the same outcomes, where what has to hold of the first machine's
 //!   frames rides on what the second one keeps.
+//! - [`strands_hold`] of [`AnyMachine`]: who has frames, who is ready, who is blocked and for what, and where each worker runs,
+//!   in each state that is reached.
 #![tactic(auto)]
 
 mod laws;
 
 pub use laws::{
     AnyMachine, Followed, FollowedAlong, Kept, followers_do_the_same, sound_followers_do_the_same,
-    states_have_one_next, steps_add_up, what_is_kept_holds,
+    states_have_one_next, steps_add_up, strands_hold, what_is_kept_holds,
 };
