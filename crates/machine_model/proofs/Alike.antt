@@ -1,13 +1,13 @@
 -- What operations do to strands and workers: most leave all of it, and messages and results change but a little.
-use Rattle.std.proofs.Common.{◌≡◌, ◌≢◌, ◌<◌, ◌≤◌, ◌+◌, ◌++◌, ◌||◌, ◌&&◌, ◌∙◌, ℕ, zero, suc, Bool, true, false, not, List, [], ◌∷◌, Option, Some, None, length, refl, sym, subst, ap, inl, inr, ◌⊎◌, arith}
-use Rattle.std.specs.Prelude.{get_or, if◌then◌else◌, is_some, map, nat_le, slice_get, slice_set}
+use Rattle.std.proofs.Common.{◌≡◌, ◌≤◌, ◌+◌, ◌++◌, ◌||◌, ◌&&◌, ◌∙◌, ℕ, suc, Bool, true, false, not, List, [], ◌∷◌, Option, Some, length, refl, sym, subst, ap, arith}
+use Rattle.std.specs.Prelude.{get_or, if◌then◌else◌, is_some, map, nat_le, slice_set}
 use Rattle.std.specs.List.{list_all, list_any}
 use Rattle.std.proofs.Math.Seq.{map-set_same}
 use Rattle.value_model.specs.declared.value.Value.{Value}
 use Rattle.value_model.specs.World.{World}
-use Rattle.run_model.specs.Common.{Activation, Channel, Common, End, Role, Strand, Need, Message, Received, AllEnded, AnyGiven}
+use Rattle.run_model.specs.Common.{Activation, Channel, Common, Role, Strand, Need, Message, Received, AllEnded, AnyGiven}
 use Rattle.run_model.specs.Messages.{one_received, one_sent, with_received}
-use Rattle.run_model.specs.Strands.{activation_at, channel_at, end_in, end_of, has_ended, has_success, is_success, is_there, met, no_activation, no_channel, no_strand, strand_at, with_activation, with_channel, with_strand, worker_end}
+use Rattle.run_model.specs.Strands.{activation_at, channel_at, end_in, end_of, has_ended, has_success, is_success, is_there, met, no_activation, no_channel, no_strand, strand_at, with_channel, with_strand, worker_end}
 use Rattle.run_model.specs.Waits.{Target, took}
 use Rattle.machine_model.specs.Keeping.{AreApart}
 use Rattle.machine_model.proofs.Boards.{Board, Crew, Seen}

@@ -1,7 +1,6 @@
 -- What one machine keeps, and facts of another's frames that ride on it, the other keeps.
 use Rattle.std.proofs.Common.{◌≡◌, ℕ, suc, List, [], ◌∷◌, ◌++◌, Option, Some, None, length, refl, sym, subst, ◌∙◌}
-use Rattle.std.specs.Prelude.{⊤, All, map, option_map}
-use Rattle.bal_base.specs.Valid.{IsText}
+use Rattle.std.specs.Prelude.{map, option_map}
 use Rattle.bal_base.specs.declared.text.Text.{Text}
 use Rattle.operations.specs.declared.operation.Operation.{Operation}
 use Rattle.value_model.specs.declared.value.Value.{Value}
@@ -11,10 +10,10 @@ use Rattle.run_model.specs.Strands.{settled}
 use Rattle.run_model.specs.Effects.{Effect, Gives, Fails, Waits, Enters, Leaves, Spawns, NoTick, Beyond, Spawned}
 use Rattle.run_model.specs.Performs.{Performs}
 use Rattle.machine_model.specs.Machine.{Machine, Ask, On, Does, Stuck, Frame, State, goes_to}
-use Rattle.machine_model.specs.Runs.{Running, Picking, IsReached, start, begins_with, first_common, units_to_run, main_arguments}
+use Rattle.machine_model.specs.Runs.{Running, Picking, start, begins_with, first_common, units_to_run, main_arguments}
 use Rattle.machine_model.specs.Following.{AreFine, Both, Quiet, here, step, pass, Held, ComesTo, FramesFollow, EndsFrame}
 use Rattle.machine_model.specs.Keeping.{Invariant, IsKept, Caught, BeginsWell, AllBegin, EffectFits, AskFits, FramesFit, StateFits}
-use Rattle.machine_model.specs.Along.{beside, call_of, Along, AlongBelow, along, FlowsIf, FlowsBegin, AllFlow, EffectFlows, AskFlows, FlowsKept}
+use Rattle.machine_model.specs.Along.{beside, call_of, Along, AlongBelow, along, FlowsBegin, AllFlow, EffectFlows, AskFlows, FlowsKept}
 use Rattle.machine_model.specs.Laws.{KeepsAlong, SoundFollowersDoTheSame}
 use Rattle.machine_model.proofs.Lifts.{GoesOn, goes-on}
 use Rattle.machine_model.proofs.Keeping.{kept-holds}

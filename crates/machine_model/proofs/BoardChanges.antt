@@ -1,16 +1,14 @@
 -- What else a step does to boards: a frame is put on top, strands wake, the running one stops, one is picked, others are made.
-use Rattle.std.proofs.Common.{◌≡◌, ◌≢◌, ◌<◌, ◌≤◌, ◌+◌, ◌++◌, ◌==◌, ◌∙◌, ℕ, zero, suc, Bool, true, false, List, [], ◌∷◌, Option, Some, None, length, refl, sym, subst, ap, inl, inr, ◌⊎◌, arith}
-use Rattle.std.specs.Prelude.{⊤, get_or, if◌then◌else◌, map, option_map, remove, replicate, slice_get, slice_set}
-use Rattle.std.proofs.lemmas.List.{length-set}
+use Rattle.std.proofs.Common.{◌≡◌, ◌≢◌, ◌<◌, ◌≤◌, ◌+◌, ◌++◌, ◌∙◌, ℕ, zero, suc, Bool, true, false, List, [], ◌∷◌, Option, Some, None, refl, sym, subst, ap, inl, inr, ◌⊎◌, arith}
+use Rattle.std.specs.Prelude.{get_or, if◌then◌else◌, map, option_map, remove, slice_get, slice_set}
 use Rattle.std.proofs.lemmas.Option.{get_or_from_slice_get, slice_get-map, slice_get_within}
 use Rattle.run_model.specs.Common.{Role, End, Need, Status, IsActive, IsBlocked, IsEnded}
-use Rattle.run_model.specs.Levels.{numbers_from}
 use Rattle.run_model.specs.Strands.{end_in}
 use Rattle.machine_model.specs.Runs.{Phase, Running, Picking}
-use Rattle.machine_model.specs.Strands.{HasRole, IsLaterThan, IsLaterThanAll, LowestIs, Rise, due_in, idle_times, role_of, times}
+use Rattle.machine_model.specs.Strands.{HasRole, IsLaterThanAll, LowestIs, Rise, due_in, idle_times, role_of, times}
 use Rattle.machine_model.proofs.Once.{some-same}
-use Rattle.machine_model.proofs.Places.{from-map, get-more, get-past, if-other, if-same, same-or, slice-before, slice-cases, slice-here, slice-last, slice-more, slice-other, slice-past, slice-same, times-more, times-remove}
-use Rattle.machine_model.proofs.Boards.{AreOnIt, AreThere, Board, Crew, Held, IsOnIt, IsOpen, Moves, RunsActive, RunsAt, Seen, at-each, crew_at, has-on, lowest-over, no_crew, on-there, status_in}
+use Rattle.machine_model.proofs.Places.{from-map, if-other, if-same, same-or, slice-cases, slice-here, slice-other, times-more, times-remove}
+use Rattle.machine_model.proofs.Boards.{AreOnIt, Board, Held, Moves, RunsActive, RunsAt, Seen, at-each, lowest-over, status_in}
 
 -- ---- statuses
 

@@ -1,8 +1,8 @@
 -- What the making of strands and of an activation does to boards.
-use Rattle.std.proofs.Common.{◌≡◌, ◌≢◌, ◌<◌, ◌≤◌, ◌+◌, ◌++◌, ◌==◌, ◌∙◌, ℕ, zero, suc, List, [], ◌∷◌, Option, Some, None, length, refl, sym, subst, ap, inl, inr, ◌⊎◌, arith}
-use Rattle.std.specs.Prelude.{⊤, get_or, if◌then◌else◌, map, option_map, replicate, slice_get}
+use Rattle.std.proofs.Common.{◌≡◌, ◌≢◌, ◌<◌, ◌≤◌, ◌+◌, ◌++◌, ◌∙◌, ℕ, zero, suc, List, [], ◌∷◌, Option, Some, None, length, refl, sym, subst, ap, inl, inr, ◌⊎◌, arith}
+use Rattle.std.specs.Prelude.{option_map, replicate, slice_get}
 use Rattle.std.proofs.lemmas.Option.{slice_get_within}
-use Rattle.run_model.specs.Common.{Role, End, Status, IsActive, IsBlocked, IsEnded}
+use Rattle.run_model.specs.Common.{Role, End, IsActive}
 use Rattle.run_model.specs.Levels.{numbers_from}
 use Rattle.run_model.specs.Strands.{end_in}
 use Rattle.machine_model.specs.Runs.{Running}

@@ -1,15 +1,13 @@
 -- Who is ready, and which worker is on which strand, by statuses and roles alone: what holds of it, and what keeps it.
-use Rattle.std.proofs.Common.{◌≡◌, ◌≢◌, ◌<◌, ◌≤◌, ◌+◌, ◌++◌, ◌==◌, ◌∙◌, ℕ, zero, suc, Bool, true, false, List, [], ◌∷◌, Option, Some, None, length, refl, sym, subst, ap, inl, inr, ◌⊎◌, arith}
-use Rattle.std.specs.Prelude.{⊤, get_or, if◌then◌else◌, map, option_map, remove, replicate, slice_get, slice_set}
+use Rattle.std.proofs.Common.{◌≡◌, ◌≢◌, ◌<◌, ◌≤◌, ◌∙◌, ℕ, List, [], ◌∷◌, Option, Some, None, length, refl, sym, subst, ap, inl, inr, ◌⊎◌, arith}
+use Rattle.std.specs.Prelude.{⊤, get_or, option_map, slice_get, slice_set}
 use Rattle.std.proofs.lemmas.List.{length-set}
-use Rattle.std.proofs.lemmas.Option.{slice_get-map, slice_get_within}
-use Rattle.run_model.specs.Common.{Role, End, Need, Status, IsActive, IsBlocked, IsEnded}
-use Rattle.run_model.specs.Levels.{numbers_from}
+use Rattle.run_model.specs.Common.{Role, End, Status, IsActive}
 use Rattle.run_model.specs.Strands.{end_in}
 use Rattle.machine_model.specs.Runs.{Phase, Running, Picking}
-use Rattle.machine_model.specs.Strands.{HasRole, IsLaterThan, IsLaterThanAll, LowestIs, Rise, due_in, idle_times, role_of, times}
+use Rattle.machine_model.specs.Strands.{HasRole, IsLaterThan, IsLaterThanAll, LowestIs, Rise, due_in, role_of, times}
 use Rattle.machine_model.proofs.Once.{some-same}
-use Rattle.machine_model.proofs.Places.{from-map, get-more, get-past, if-other, if-same, same-or, set-cases, set-view, slice-before, slice-last, slice-more, slice-other, slice-past, slice-same, times-more, times-remove}
+use Rattle.machine_model.proofs.Places.{get-past, same-or, set-cases, set-view, slice-other, slice-same}
 
 -- a strand and an activation, as far as they are spoken of here
 pub record Seen : Type 0 where

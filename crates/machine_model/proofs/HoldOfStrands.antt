@@ -1,25 +1,24 @@
 -- What holds of the strands of every machine, in each state that is reached.
-use Rattle.std.proofs.Common.{◌≡◌, ◌≢◌, ◌<◌, ◌≤◌, ◌+◌, ◌++◌, ◌∙◌, ℕ, zero, suc, Bool, true, false, List, [], ◌∷◌, Option, Some, None, IsSomeAnd, length, refl, sym, subst, ap, inl, inr, ◌⊎◌, arith}
+use Rattle.std.proofs.Common.{◌≡◌, ◌≢◌, ◌+◌, ◌++◌, ◌∙◌, ℕ, zero, suc, false, List, [], ◌∷◌, Option, Some, None, IsSomeAnd, length, refl, sym, subst, ap, inl, inr, ◌⊎◌, arith}
 use Rattle.std.specs.Prelude.{⊤, All, get_or, if◌then◌else◌, map, option_map, slice_get}
 use Rattle.std.proofs.lemmas.List.{length-map}
-use Rattle.std.proofs.lemmas.Option.{get_or_from_slice_get, slice_get-get_or, slice_get-map, slice_get_within}
+use Rattle.std.proofs.lemmas.Option.{get_or_from_slice_get, slice_get-get_or, slice_get-map}
 use Rattle.bal_base.specs.Valid.{IsText}
 use Rattle.bal_base.specs.declared.text.Text.{Text}
 use Rattle.operations.specs.declared.operation.Operation.{Operation}
 use Rattle.operations.specs.declared.operation.Operation.TheVariants.{Workers, WaitAny}
 use Rattle.value_model.specs.declared.value.Value.{Value}
 use Rattle.value_model.specs.Meaning.{Answers}
-use Rattle.run_model.specs.Common.{Activation, Common, End, Need, Role, Status, Strand, IsActive, IsBlocked, IsEnded}
-use Rattle.run_model.specs.Effects.{Effect, Gives, Fails, Waits, Enters, Leaves, Spawns, NoTick, Beyond, Spawned}
-use Rattle.run_model.specs.Performs.{Performs}
-use Rattle.run_model.specs.Strands.{activation_at, channel_at, end_in, met, no_activation, no_strand, settled, wakes, with_status, woken, woken_from}
+use Rattle.run_model.specs.Common.{Activation, Common, Need, Role, Status, Strand, IsActive, IsBlocked, IsEnded}
+use Rattle.run_model.specs.Effects.{Effect, Gives, Fails, Waits, Enters, Leaves, Spawns, NoTick, Beyond}
+use Rattle.run_model.specs.Strands.{end_in, met, no_activation, settled, wakes, with_status, woken, woken_from}
 use Rattle.machine_model.specs.Keeping.{RunsOn}
-use Rattle.machine_model.specs.Machine.{Machine, Ask, On, Does, Stuck, Frame, State, Next, Moved, Blocked, Ended, NeedsTick, Limit, asker, begun, carried, goes_to, put, Takes, TakesTop, Step}
+use Rattle.machine_model.specs.Machine.{Machine, Ask, On, Does, Stuck, Frame, State, Next, Moved, Blocked, Ended, asker, carried, Takes, TakesTop, Step}
 use Rattle.machine_model.specs.Runs.{Phase, Running, Picking, Reaches, IsReached, after_block, after_end, after_move, after_pick, begins_with, first_common, start, starts, units_to_run}
-use Rattle.machine_model.specs.Strands.{ActivationHolds, AreOn, HasRole, HoldOfStrands, IsOn, IsUnfinished, LowestIs, Rise, StartsOnce, StillWaits, StrandHolds, StrandsHold, TopWaits, WaitsForSome, due, due_in, frames_in, frames_of, role_of, roles_of, times}
-use Rattle.machine_model.proofs.Alike.{QueueHolds, board, crew_of, seen}
-use Rattle.machine_model.proofs.Boards.{AreOnIt, AreThere, Board, Crew, Held, IsOnIt, RunsActive, RunsAt, Seen, crew_at, no_crew, status_in}
-use Rattle.machine_model.proofs.Commons.{Unmet, board-crew, status-of, strand-of}
+use Rattle.machine_model.specs.Strands.{ActivationHolds, AreOn, HoldOfStrands, LowestIs, Rise, StartsOnce, StillWaits, StrandHolds, StrandsHold, TopWaits, WaitsForSome, due, due_in, frames_in, roles_of, times}
+use Rattle.machine_model.proofs.Alike.{board, crew_of, seen}
+use Rattle.machine_model.proofs.Boards.{AreOnIt, IsOnIt, RunsActive, RunsAt, Seen, crew_at, status_in}
+use Rattle.machine_model.proofs.Commons.{board-crew, status-of, strand-of}
 use Rattle.machine_model.proofs.Holding.{AskWaits, Inner, TopWaitsAs, roles_in}
 use Rattle.machine_model.proofs.HoldingSpawns.{spawns-inner}
 use Rattle.machine_model.proofs.HoldingSteps.{ComesInner, enters-inner, fails-inner, gives-inner, leaves-inner, on-inner, picked-inner, waits-inner}

@@ -1,29 +1,21 @@
 -- What holds of the strands of any machine is kept by each step.
-use Rattle.std.proofs.Common.{◌≡◌, ◌≢◌, ◌<◌, ◌≤◌, ◌+◌, ◌++◌, ◌==◌, ◌&&◌, ◌∙◌, ℕ, zero, suc, Bool, true, false, List, [], ◌∷◌, Option, Some, None, length, refl, sym, subst, ap, inl, inr, ◌⊎◌, arith}
-use Rattle.std.specs.Prelude.{⊤, get_or, if◌then◌else◌, map, option_map, slice_get, slice_set}
-use Rattle.std.proofs.lemmas.Bool.{eqb-true}
-use Rattle.std.proofs.lemmas.List.{get_or-set_other, get_or-set_same, length-map, length-set}
+use Rattle.std.proofs.Common.{◌≡◌, ◌≢◌, ◌<◌, ◌∙◌, ℕ, List, [], ◌∷◌, Option, Some, None, length, refl, sym, subst, ap, inl, inr, ◌⊎◌, arith}
+use Rattle.std.specs.Prelude.{slice_get}
+use Rattle.std.proofs.lemmas.List.{get_or-set_other, get_or-set_same, length-set}
 use Rattle.std.proofs.lemmas.Option.{slice_get_within}
-use Rattle.operations.specs.declared.operation.Operation.{Operation}
-use Rattle.operations.specs.declared.operation.Operation.TheVariants.{Workers, WaitAny}
-use Rattle.value_model.specs.declared.value.Value.{Value}
 use Rattle.value_model.specs.Meaning.{Answers}
-use Rattle.run_model.specs.Common.{Common, End, Returned, Panicked, Need, Role, Status, IsActive, IsBlocked, IsEnded}
-use Rattle.run_model.specs.Effects.{Effect, Gives, Fails, Waits, Enters, Leaves, Spawns, NoTick, Beyond, Spawned}
-use Rattle.run_model.specs.Performs.{Performs}
-use Rattle.run_model.specs.Strands.{activation_at, channel_at, end_in, ended_count, is_success, met, settled, strand_at, strand_blocked, strand_ended, wakes, worker_ended, workers_ended}
-use Rattle.machine_model.specs.Machine.{Machine, Ask, On, Does, Stuck, Frame, State, Next, Moved, Blocked, Ended, NeedsTick, Limit, asker, begun, carried, frames_from, given, goes_on, goes_to, left_with, next_units, put, roles_left, roles_to, stopped, unwound, Takes, TakesTop, Step}
-use Rattle.machine_model.specs.Runs.{Phase, Running, Picking, picked, taken_up}
+use Rattle.run_model.specs.Common.{Common, Need, Role, Status, IsActive, IsBlocked}
+use Rattle.run_model.specs.Strands.{activation_at, channel_at, end_in}
+use Rattle.machine_model.specs.Machine.{Machine, Ask, On, Does, Stuck, Frame, State, asker, put, stopped}
+use Rattle.machine_model.specs.Runs.{Phase, Running, Picking}
 use Rattle.machine_model.specs.Strands.{HasRole, frames_in, frames_of, roles_of}
-use Rattle.machine_model.proofs.Alike.{Alike, Calm, QueueHolds, board, seen}
-use Rattle.machine_model.proofs.BoardChanges.{picked-held, pushed-held, settle, settled-held, settled-status, stopped-held, stopped-status, stopped_so}
-use Rattle.machine_model.proofs.Boards.{AreThere, Board, Held, Moves, crew_at, has-on, same-roles, status_in}
-use Rattle.machine_model.proofs.Commons.{Unmet, board-settled, board-stopped, strand-of, unmet-blocked, unmet-calm, unmet-picked, unmet-settled}
+use Rattle.machine_model.proofs.Alike.{QueueHolds, board}
+use Rattle.machine_model.proofs.Boards.{AreThere, Held, has-on, same-roles, status_in}
+use Rattle.machine_model.proofs.Commons.{Unmet, strand-of}
 use Rattle.machine_model.proofs.Once.{some-same}
-use Rattle.machine_model.proofs.Onward.{Onward, at, at-still, at-twice, closes-held, moves-at, onward-alike, onward-all-closed, onward-closed, onward-settled, onward-stopped, onward-then}
+use Rattle.machine_model.proofs.Onward.{Onward, at}
 use Rattle.machine_model.proofs.Places.{if-other, if-same, same-or}
-use Rattle.machine_model.proofs.ShapeRows.{performs-shape}
-use Rattle.machine_model.proofs.Shapes.{ShapeOf, WaitsAs}
+use Rattle.machine_model.proofs.Shapes.{WaitsAs}
 use Rattle.machine_model.proofs.Waiting.{waits-stay}
 
 module _ {C : Type 0} (natives : Answers) (M : Machine C) where

@@ -1,28 +1,25 @@
 -- The making of strands keeps what holds of strands.
-use Rattle.std.proofs.Common.{◌≡◌, ◌≢◌, ◌<◌, ◌≤◌, ◌+◌, ◌++◌, ◌==◌, ◌∙◌, ℕ, zero, suc, Bool, true, false, List, [], ◌∷◌, Option, Some, None, length, refl, sym, subst, ap, inl, inr, ◌⊎◌, arith}
-use Rattle.std.specs.Prelude.{⊤, drop, get_or, if◌then◌else◌, map, option_map, replicate, slice_get, take}
+use Rattle.std.proofs.Common.{◌≡◌, ◌≢◌, ◌<◌, ◌≤◌, ◌+◌, ◌++◌, ◌∙◌, ℕ, zero, suc, false, List, [], ◌∷◌, Option, Some, None, length, refl, sym, subst, ap, inl, inr, ◌⊎◌, arith}
+use Rattle.std.specs.Prelude.{⊤, get_or, map, option_map, slice_get}
 use Rattle.std.proofs.lemmas.List.{get_or-append-add, get_or_append_left, length-append, length-map}
 use Rattle.std.proofs.lemmas.Option.{slice_get_within}
-use Rattle.value_model.specs.declared.value.Value.{Value}
 use Rattle.value_model.specs.Meaning.{Answers}
-use Rattle.run_model.specs.CallRows.{new_activation, strands_made, workers_from}
-use Rattle.run_model.specs.Common.{Common, End, Need, Role, Status, Strand, IsActive, IsBlocked, IsEnded}
+use Rattle.run_model.specs.CallRows.{strands_made}
+use Rattle.run_model.specs.Common.{Common, Need, Role, Status, Strand, IsActive, IsBlocked}
 use Rattle.run_model.specs.Effects.{Spawned}
-use Rattle.run_model.specs.Facts.{WorkerFacts}
-use Rattle.run_model.specs.Levels.{numbers_from}
-use Rattle.run_model.specs.Strands.{activation_at, channel_at, end_in, no_activation, no_channel, strand_made}
-use Rattle.machine_model.specs.Machine.{Machine, Frame, State, all_begun, begun, with_begun}
+use Rattle.run_model.specs.Strands.{end_in, no_activation, no_channel, strand_made}
+use Rattle.machine_model.specs.Machine.{Machine, Frame, State, all_begun, with_begun}
 use Rattle.machine_model.specs.Runs.{Running}
 use Rattle.machine_model.specs.Strands.{HasRole, frames_in, frames_of, role_of, roles_of}
 use Rattle.machine_model.proofs.Alike.{QueueHolds, board, crew_of, seen}
 use Rattle.machine_model.proofs.BoardChanges.{status-there}
-use Rattle.machine_model.proofs.BoardMakes.{crewed, crewed-held, length-numbers, made-held, none-there, numbers-at, numbers-below}
-use Rattle.machine_model.proofs.Boards.{AreThere, Board, Crew, Held, IsOnIt, IsOpen, Moves, Seen, crew_at, no_crew, same-roles, status_in}
-use Rattle.machine_model.proofs.Commons.{Unmet, board-crew, board-made, channel-more, new-channel, unmet-crew, unmet-made}
+use Rattle.machine_model.proofs.BoardMakes.{made-held}
+use Rattle.machine_model.proofs.Boards.{Board, Held, IsOnIt, IsOpen, Moves, crew_at, no_crew, same-roles, status_in}
+use Rattle.machine_model.proofs.Commons.{Unmet, board-made, unmet-made}
 use Rattle.machine_model.proofs.Holding.{Inner, TopWaitsAs, not-own, roles_in, top-stays}
 use Rattle.machine_model.proofs.Once.{some-same}
 use Rattle.machine_model.proofs.Onward.{Onward, at, moves-at}
-use Rattle.machine_model.proofs.Places.{get-more, get-past, if-other, if-same, same-or, slice-before, slice-last, slice-past}
+use Rattle.machine_model.proofs.Places.{get-past, if-other, if-same, same-or, slice-before, slice-last, slice-past}
 
 -- ---- numbers below a bound, or from it on
 
@@ -82,7 +79,7 @@ made-new (s ∷ ss) c n status le e = by (same-or n (length c.strands)) (λ more
     by : (n ≡ length c.strands) ⊎ (n ≢ length c.strands) → (length (strand_made s.unit s.role c).strands ≤ n → status ≡ IsActive) → status ≡ IsActive
     by (inl is) more =
         let now : status_in (board (strand_made s.unit s.role c)) n ≡ Some IsActive =
-            ap (λ b. status_in b n) (board-made s.unit s.role c) ∙ ap (option_map (λ z. z.status)) (slice-last (board c).strands (record { role = s.role; status = IsActive }) n (let l = board-count c in omega (arith, is, l))) in
+        ap (λ b. status_in b n) (board-made s.unit s.role c) ∙ ap (option_map (λ z. z.status)) (slice-last (board c).strands (record { role = s.role; status = IsActive }) n (let l = board-count c in omega (arith, is, l))) in
         some-same status IsActive (sym e ∙ (made-old ss (strand_made s.unit s.role c) n (omega (arith, is, one)) ∙ now))
     by (inr ne) more = more (let lt : length c.strands < n = less (length c.strands) n le (λ e. ne (sym e)) in omega (arith, lt, one))
       where

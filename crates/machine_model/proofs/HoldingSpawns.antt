@@ -1,39 +1,32 @@
 -- The making of a future's strand, and of an activation with its strands, keeps what holds of strands.
-use Rattle.std.proofs.Common.{◌≡◌, ◌≢◌, ◌<◌, ◌≤◌, ◌+◌, ◌++◌, ◌∙◌, ℕ, zero, suc, Bool, true, false, List, [], ◌∷◌, Option, Some, None, IsSomeAnd, length, refl, sym, subst, ap, inl, inr, ◌⊎◌, arith}
-use Rattle.std.specs.Prelude.{⊤, All, drop, get_or, if◌then◌else◌, map, option_map, replicate, slice_get, take}
+use Rattle.std.proofs.Common.{◌≡◌, ◌≢◌, ◌<◌, ◌≤◌, ◌+◌, ◌++◌, ◌∙◌, ℕ, zero, suc, List, [], ◌∷◌, Option, Some, None, length, refl, sym, subst, ap, inl, inr, ◌⊎◌, arith}
+use Rattle.std.specs.Prelude.{drop, map, option_map, replicate, slice_get}
 use Rattle.std.proofs.lemmas.List.{length-map}
-use Rattle.std.proofs.lemmas.Option.{get_or_from_slice_get, slice_get-get_or, slice_get-map, slice_get_within}
-use Rattle.bal_base.specs.Valid.{IsText}
-use Rattle.bal_base.specs.declared.text.Text.{Text}
+use Rattle.std.proofs.lemmas.Option.{slice_get_within}
 use Rattle.operations.specs.declared.operation.Operation.{Operation}
-use Rattle.operations.specs.declared.operation.Operation.TheVariants.{Workers, WaitAny}
+use Rattle.operations.specs.declared.operation.Operation.TheVariants.{Workers}
 use Rattle.value_model.specs.declared.value.Value.{Value}
 use Rattle.value_model.specs.Meaning.{Answers}
 use Rattle.run_model.specs.CallRows.{new_activation, strands_made, workers_from}
-use Rattle.run_model.specs.Common.{Activation, Common, End, Need, Role, Status, Strand, IsActive, IsBlocked, IsEnded}
-use Rattle.run_model.specs.Effects.{Effect, Gives, Fails, Waits, Enters, Leaves, Spawns, NoTick, Beyond, Spawned}
+use Rattle.run_model.specs.Common.{Common, Role, IsActive}
+use Rattle.run_model.specs.Effects.{Spawns, Spawned}
 use Rattle.run_model.specs.Facts.{WorkerFacts}
 use Rattle.run_model.specs.Levels.{numbers_from}
-use Rattle.run_model.specs.Performs.{Performs}
-use Rattle.run_model.specs.Strands.{activation_at, channel_at, end_in, met, no_activation, no_channel, no_strand, settled, strand_made, wakes, with_status, woken, woken_from}
-use Rattle.machine_model.specs.Keeping.{RunsOn}
-use Rattle.machine_model.specs.Machine.{Machine, Ask, On, Does, Stuck, Frame, State, Next, Moved, Blocked, Ended, NeedsTick, Limit, all_begun, asker, carried, goes_to, Takes, TakesTop, Step}
-use Rattle.machine_model.specs.Runs.{Phase, Running, Picking, Reaches, IsReached, after_block, after_end, after_move, after_pick, begins_with, first_common, picked, start, starts, units_to_run}
-use Rattle.machine_model.specs.Strands.{ActivationHolds, AreOn, HasRole, HoldOfStrands, IsOn, IsUnfinished, LowestIs, StartsOnce, StillWaits, StrandHolds, StrandsHold, TopWaits, WaitsForSome, due, due_in, frames_in, frames_of, role_of, roles_of, times}
-use Rattle.machine_model.proofs.Alike.{Calm, QueueHolds, board, crew_of, seen}
-use Rattle.machine_model.proofs.BoardMakes.{crewed, crewed-held, length-numbers, none-there, numbers-at, numbers-below}
-use Rattle.machine_model.proofs.Boards.{AreOnIt, AreThere, Board, Crew, Held, IsOnIt, IsOpen, Moves, RunsAt, Seen, crew_at, no_crew, same-roles, status_in}
-use Rattle.machine_model.proofs.BoardChanges.{status-there}
-use Rattle.machine_model.proofs.Commons.{Unmet, board-crew, channel-more, new-channel, status-of, strand-of, unmet-calm, unmet-crew}
-use Rattle.machine_model.proofs.Holding.{AskWaits, Inner, TopWaitsAs, roles_in}
+use Rattle.run_model.specs.Strands.{activation_at, no_activation, strand_made}
+use Rattle.machine_model.specs.Machine.{Machine, Frame, State, Moved, all_begun, asker, carried}
+use Rattle.machine_model.specs.Runs.{Running}
+use Rattle.machine_model.specs.Strands.{HasRole, frames_of, role_of, roles_of}
+use Rattle.machine_model.proofs.Alike.{QueueHolds, board, crew_of, seen}
+use Rattle.machine_model.proofs.BoardMakes.{crewed, crewed-held, none-there, numbers-at, numbers-below}
+use Rattle.machine_model.proofs.Boards.{AreThere, Held, IsOnIt, Moves, crew_at, same-roles}
+use Rattle.machine_model.proofs.Commons.{board-crew, channel-more, strand-of, unmet-calm, unmet-crew}
+use Rattle.machine_model.proofs.Holding.{Inner, roles_in}
 use Rattle.machine_model.proofs.HoldingMakes.{Claimed, Claims, made-inner}
-use Rattle.machine_model.proofs.HoldingSteps.{ComesInner, enters-inner, fails-inner, gives-inner, leaves-inner, on-inner, picked-inner, waits-inner}
+use Rattle.machine_model.proofs.HoldingSteps.{ComesInner}
 use Rattle.machine_model.proofs.Once.{some-same}
 use Rattle.machine_model.proofs.Onward.{Onward, at, at-still, moves-at, onward-alike, same-old}
-use Rattle.machine_model.proofs.Places.{get-more, get-past, if-other, if-same, same-or}
-use Rattle.machine_model.proofs.ShapeRows.{performs-shape}
-use Rattle.machine_model.proofs.Shapes.{ShapeOf, SpawnsCrew, SpawnsOne}
-use Rattle.machine_model.proofs.Waiting.{still-performs}
+use Rattle.machine_model.proofs.Places.{get-more, get-past, if-same, same-or}
+use Rattle.machine_model.proofs.Shapes.{SpawnsCrew, SpawnsOne}
 
 -- ---- an activation begins
 
@@ -88,9 +81,13 @@ module _ (c : Common) (unit k : ℕ) where
 
   -- each named worker is on the strand that is made for it
   began-claims : AreThere (board c) → c.running < length c.strands → (j w n : ℕ) → w ≡ suc j → n ≡ length c.strands + j → j < k → IsOnIt (board began) n (Some (role_of A w)) × Claims (board began) n (Some (role_of A w))
-  began-claims there lt j w n ew en below =
-      ((ap (λ z. slice_get z.strands w) (new-crew A refl) ∙ (ap (λ v. slice_get (c.running ∷ numbers_from (length c.strands) k) v) ew ∙ (numbers-there (length c.strands) k j below ∙ ap Some (sym en))),
-      ap (λ z. slice_get z.ends w) (new-crew A refl) ∙ none-there (k + 1) w (omega (arith, ew, below))), (λ a v i o. by a v i (same-or a A)))
+  began-claims there lt j w n ew en below = (
+    (
+      ap (λ z. slice_get z.strands w) (new-crew A refl) ∙ (ap (λ v. slice_get (c.running ∷ numbers_from (length c.strands) k) v) ew ∙ (numbers-there (length c.strands) k j below ∙ ap Some (sym en))),
+      ap (λ z. slice_get z.ends w) (new-crew A refl) ∙ none-there (k + 1) w (omega (arith, ew, below)),
+    ),
+    (λ a v i o. by a v i (same-or a A)),
+  )
     where
       new : (v : ℕ) → slice_get (c.running ∷ numbers_from (length c.strands) k) v ≡ Some n → v ≡ w
       new zero i = absurd (let same : c.running ≡ n = some-same c.running n i in omega (arith, same, lt, en))
@@ -109,10 +106,10 @@ module _ (c : Common) (unit k : ℕ) where
   began-held R roles h there is =
       let crews : length (map crew_of c.activations) ≡ A = length-map c.activations crew_of in
       let moves : Moves c.running (Some (role_of (length (board c).crews) 0) ∷ roles) R (at c.running (Some (role_of A 0) ∷ roles) R) =
-          subst (λ a. Moves c.running (Some (role_of a 0) ∷ roles) R (at c.running (Some (role_of A 0) ∷ roles) R)) (sym crews) (moves-at c.running (Some (role_of A 0) ∷ roles) R) in
+      subst (λ a. Moves c.running (Some (role_of a 0) ∷ roles) R (at c.running (Some (role_of A 0) ∷ roles) R)) (sym crews) (moves-at c.running (Some (role_of A 0) ∷ roles) R) in
       let same : crewed (board c) R (at c.running (Some (role_of A 0) ∷ roles) R) roles k h there is moves ≡ board began =
-          (λ i. record { running = c.running; ready = c.ready; strands = map seen c.strands; crews = map crew_of c.activations ++ record { strands = c.running ∷ numbers_from (length-map c.strands seen i) k; ends = replicate (k + 1) None } ∷ [] })
-          ∙ (λ i. record { running = c.running; ready = c.ready; strands = map seen c.strands; crews = sym (map-more crew_of c.activations (new_activation c unit k)) i }) in
+      (λ i. record { running = c.running; ready = c.ready; strands = map seen c.strands; crews = map crew_of c.activations ++ record { strands = c.running ∷ numbers_from (length-map c.strands seen i) k; ends = replicate (k + 1) None } ∷ [] })
+      ∙ (λ i. record { running = c.running; ready = c.ready; strands = map seen c.strands; crews = sym (map-more crew_of c.activations (new_activation c unit k)) i }) in
       subst (λ b. Held Running b (at c.running (Some (role_of A 0) ∷ roles) R)) same
       (crewed-held (board c) R (at c.running (Some (role_of A 0) ∷ roles) R) roles k h there is moves)
 
@@ -142,10 +139,10 @@ module _ {C : Type 0} (natives : Answers) (M : Machine C) where
             let there : AreThere (board x.before) = subst AreThere (sym alike.board) inner.there in
             let goes : Onward (λ r. HasRole r (R0 c.running)) c x.before = onward-alike c x.before (λ r e. subst (λ l. HasRole r l) (sym top) (inl e)) alike in
             let held : Held Running (board x.before) (at c.running (role ∷ roles_of fs) R0) =
-                same-roles (at-still c.running (role ∷ roles_of fs) R0 (top ∙ ap (λ r. r ∷ roles_of fs) (sym x.same_role))) (subst (λ b. Held Running b R0) (sym alike.board) inner.held) in
+            same-roles (at-still c.running (role ∷ roles_of fs) R0 (top ∙ ap (λ r. r ∷ roles_of fs) (sym x.same_role))) (subst (λ b. Held Running b R0) (sym alike.board) inner.held) in
             let none : (a w n : ℕ) → slice_get (crew_at (board x.before) a).strands w ≡ Some n → n < length s.others = λ a w n i. let lt = there a w n i in let l = length-map x.before.strands seen in let j = inner.count in let e = goes.count in omega (arith, lt, l, j, e) in
             let claimed : Claimed (board x.before) (length s.others) ss = subst (λ l. Claimed (board x.before) (length s.others) l) (sym x.is)
-                ((subst (λ r. IsOnIt (board x.before) (length s.others) r) (sym x.no_role) tt, (λ a w i o. absurd (let lt = none a w (length s.others) i in omega (arith, lt)))), tt) in
+            ((subst (λ r. IsOnIt (board x.before) (length s.others) r) (sym x.no_role) tt, (λ a w i o. absurd (let lt = none a w (length s.others) i in omega (arith, lt)))), tt) in
             subst (λ e. Inner natives M Running (record { common = e; frames = record { unit = f.unit; role = role; control = M.resume k vs } ∷ fs; others = s.others ++ more })) same
             (made-inner natives M s inner (record { unit = f.unit; role = role; control = M.resume k vs }) fs ss x.before more all goes held claimed (unmet-calm c x.before x.calm inner.unmet) (λ a w n i. let lt = none a w n i in omega (arith, lt)))
 
@@ -156,9 +153,9 @@ module _ {C : Type 0} (natives : Answers) (M : Machine C) where
             let count : length ss ≡ n = ap length x.are ∙ workers-count (length c.activations) 1 x.workers x.captured in
             let none : R0 c.running ≡ None ∷ roles_of fs = top ∙ ap (λ r. r ∷ roles_of fs) (once x.starts) in
             let held : Held Running (board before) (at c.running (role ∷ roles_of fs) R0) =
-                subst (λ r. Held Running (board before) (at c.running (r ∷ roles_of fs) R0)) (sym x.new_role) (began-held c x.unit n R0 (roles_of fs) inner.held inner.there none) in
+            subst (λ r. Held Running (board before) (at c.running (r ∷ roles_of fs) R0)) (sym x.new_role) (began-held c x.unit n R0 (roles_of fs) inner.held inner.there none) in
             let claimed : Claimed (board before) (length s.others) ss = subst (λ l. Claimed (board before) (length s.others) l) (sym x.are)
-                (began-claimed c x.unit n inner.there runs-there x.workers x.captured 0 1 (length s.others) refl (let j = inner.count in omega (arith, j)) (omega arith)) in
+            (began-claimed c x.unit n inner.there runs-there x.workers x.captured 0 1 (length s.others) refl (let j = inner.count in omega (arith, j)) (omega arith)) in
             subst (λ e. Inner natives M Running (record { common = e; frames = record { unit = f.unit; role = role; control = M.resume k vs } ∷ fs; others = s.others ++ more })) (sym x.made)
             (made-inner natives M s inner (record { unit = f.unit; role = role; control = M.resume k vs }) fs ss before more all (began-goes c x.unit n (λ r. HasRole r (R0 c.running))) held claimed (unmet-crew c x.unit n inner.unmet)
             (λ a w i at. let lt = began-there c x.unit n inner.there runs-there a w i at in let j = inner.count in omega (arith, lt, j, count)))

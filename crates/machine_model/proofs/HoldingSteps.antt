@@ -1,5 +1,5 @@
 -- Each step keeps what holds of strands: what a frame's effect does, but for the making of strands.
-use Rattle.std.proofs.Common.{◌≡◌, ◌≢◌, ◌<◌, ◌≤◌, ◌+◌, ◌++◌, ◌==◌, ◌&&◌, ◌∙◌, ℕ, zero, suc, Bool, true, false, List, [], ◌∷◌, Option, Some, None, length, refl, sym, subst, ap, inl, inr, ◌⊎◌, arith}
+use Rattle.std.proofs.Common.{◌≡◌, ◌≢◌, ◌+◌, ◌++◌, ◌==◌, ◌&&◌, ◌∙◌, ℕ, Bool, true, false, List, [], ◌∷◌, Option, Some, None, refl, sym, subst, ap, inl, inr, ◌⊎◌, arith}
 use Rattle.std.specs.Prelude.{⊤, get_or, if◌then◌else◌, map, option_map, remove, slice_get, slice_set}
 use Rattle.std.proofs.lemmas.Bool.{eqb-true}
 use Rattle.std.proofs.lemmas.List.{get_or-set_other, length-map, length-set}
@@ -7,20 +7,20 @@ use Rattle.operations.specs.declared.operation.Operation.{Operation}
 use Rattle.value_model.specs.declared.value.Value.{Value}
 use Rattle.value_model.specs.Meaning.{Answers}
 use Rattle.run_model.specs.Common.{Common, End, Returned, Panicked, Need, Role, Status, IsActive, IsBlocked, IsEnded}
-use Rattle.run_model.specs.Effects.{Effect, Gives, Fails, Waits, Enters, Leaves, Spawns, NoTick, Beyond, Spawned}
-use Rattle.run_model.specs.Strands.{end_in, ended_count, is_success, met, settled, strand_at, strand_blocked, strand_ended, wakes, with_status, woken, worker_ended, workers_ended}
-use Rattle.machine_model.specs.Machine.{Machine, Ask, On, Does, Stuck, Frame, State, Next, Moved, Blocked, Ended, NeedsTick, Limit, asker, carried, frames_from, given, goes_on, goes_to, left_with, next_units, put, roles_left, roles_to, stopped, unwound}
+use Rattle.run_model.specs.Effects.{Fails, Waits, Enters, Leaves}
+use Rattle.run_model.specs.Strands.{end_in, ended_count, is_success, met, settled, strand_blocked, strand_ended, wakes, woken, workers_ended}
+use Rattle.machine_model.specs.Machine.{Machine, Does, Frame, State, Next, Moved, Blocked, Ended, NeedsTick, Limit, asker, carried, frames_from, given, goes_on, goes_to, left_with, next_units, put, roles_left, roles_to, unwound}
 use Rattle.machine_model.specs.Runs.{Phase, Running, Picking, picked, taken_up}
 use Rattle.machine_model.specs.Strands.{HasRole, frames_in, frames_of, roles_of}
 use Rattle.machine_model.proofs.Alike.{Alike, Calm, board, calm-still, seen}
-use Rattle.machine_model.proofs.BoardChanges.{picked-held, pushed-held, settle, settled-held, settled-status, stopped-held, stopped-here, stopped_so}
-use Rattle.machine_model.proofs.Boards.{AreThere, Board, Held, Moves, same-roles, status_in}
-use Rattle.machine_model.proofs.Commons.{Unmet, board-settled, board-stopped, unmet-blocked, unmet-calm, unmet-picked, unmet-settled}
+use Rattle.machine_model.proofs.BoardChanges.{picked-held, pushed-held, settled-held, settled-status, stopped-held, stopped-here, stopped_so}
+use Rattle.machine_model.proofs.Boards.{AreThere, Held, Moves, same-roles, status_in}
+use Rattle.machine_model.proofs.Commons.{board-settled, board-stopped, unmet-blocked, unmet-calm, unmet-picked, unmet-settled}
 use Rattle.machine_model.proofs.Holding.{AskWaits, Inner, OfOwn, TopWaitsAs, moved-inner, roles_in, stops-inner, top-stays}
 use Rattle.machine_model.proofs.Once.{some-same}
-use Rattle.machine_model.proofs.Onward.{Onward, at, at-still, closes-held, moves-at, onward-alike, onward-all-closed, onward-run, onward-settled, onward-stopped, onward-then}
+use Rattle.machine_model.proofs.Onward.{Onward, at, at-still, closes-held, onward-alike, onward-all-closed, onward-run, onward-settled, onward-stopped, onward-then}
 use Rattle.machine_model.proofs.Places.{if-other, if-same, same-or}
-use Rattle.machine_model.proofs.Shapes.{ShapeOf, WaitsAs}
+use Rattle.machine_model.proofs.Shapes.{WaitsAs}
 use Rattle.machine_model.proofs.Waiting.{waits-stay}
 
 -- ---- workers are there

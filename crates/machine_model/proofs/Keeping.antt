@@ -11,7 +11,7 @@ use Rattle.run_model.specs.Strands.{activation_at, settled, strand_blocked, stra
 use Rattle.run_model.specs.Effects.{Effect, Gives, Fails, Waits, Enters, Leaves, Spawns, NoTick, Beyond, Spawned}
 use Rattle.machine_model.specs.Machine.{Machine, Ask, On, Does, Stuck, Frame, State, Next, Moved, Blocked, Ended, NeedsTick, Limit, goes_to, put, stopped, next_units, frames_from, roles_to, unwound, roles_left, left_with, goes_on, given, with_begun, all_begun, carried, Takes, TakesTop, Step}
 use Rattle.machine_model.specs.Runs.{Phase, Running, Picking, picked, taken_up, Reaches, starts, after_move, after_block, after_end, after_pick}
-use Rattle.machine_model.specs.Keeping.{Invariant, RunsOn, IsFresh, AreApart, ApartFrom, KeepsStrands, IsIdle, Caught, BelowFit, FramesFit, OthersFit, StateFits, LaterBut, AllBegin, EffectFits, AskFits, EndFits, IsKept}
+use Rattle.machine_model.specs.Keeping.{Invariant, RunsOn, IsFresh, AreApart, ApartFrom, KeepsStrands, Caught, BelowFit, FramesFit, OthersFit, StateFits, LaterBut, AllBegin, EffectFits, AskFits, EndFits, IsKept}
 use Rattle.machine_model.specs.Laws.{KeptHolds}
 use Rattle.machine_model.proofs.Once.{some-same}
 

@@ -1,6 +1,6 @@
 -- Each operation comes to an effect of a shape.
-use Rattle.std.proofs.Common.{◌≡◌, ◌≢◌, ◌++◌, ◌||◌, ◌&&◌, ◌∙◌, ◌≤◌, ◌+◌, ℕ, ℤ, zero, suc, Bool, true, false, List, [], ◌∷◌, Option, Some, None, IsSomeAnd, length, refl, sym, subst, ap, inl, inr, ◌⊎◌, arith}
-use Rattle.std.specs.Prelude.{⊤, cond, filter, fold, if◌then◌else◌, is_some, nat_le, nat_lt, not, option_map, slice_get}
+use Rattle.std.proofs.Common.{◌≡◌, ◌≢◌, ◌++◌, ◌||◌, ◌&&◌, ◌∙◌, ◌+◌, ℕ, zero, suc, Bool, true, false, List, [], ◌∷◌, Option, Some, None, IsSomeAnd, length, refl, sym, subst, ap, inl, inr, arith}
+use Rattle.std.specs.Prelude.{⊤, cond, filter, fold, if◌then◌else◌, is_some, nat_le, nat_lt, not, slice_get}
 use Rattle.std.specs.List.{list_all, list_any}
 use Rattle.bal_base.specs.declared.fault.LimitKind.TheVariants.{Cells, Strands}
 use Rattle.bal_base.specs.declared.text.Text.{Text}
@@ -12,23 +12,22 @@ use Rattle.value_model.specs.declared.panics.PanicName.TheVariants.{StackOverflo
 use Rattle.value_model.specs.Heap.{cells}
 use Rattle.value_model.specs.Meaning.{Answers}
 use Rattle.value_model.specs.PanicName.{future_taken}
-use Rattle.value_model.specs.World.{World, Came, Gave, Threw, PassesCells}
-use Rattle.run_model.specs.CallRows.{CallsValue, FunctionAt, StartsValue, StartsWorkers, arguments, checked, new_activation, starts, starts_workers, strands_made, ticks, with_arguments, workers_from}
+use Rattle.value_model.specs.World.{Came, Gave, Threw, PassesCells}
+use Rattle.run_model.specs.CallRows.{arguments, checked, new_activation, starts, starts_workers, strands_made, ticks, with_arguments, workers_from}
 use Rattle.run_model.specs.Common.{Asker, Common, End, Returned, Panicked, Need, Message, Received, AllEnded, AnyGiven, Role}
 use Rattle.run_model.specs.Copies.{copy_of, with_copies}
-use Rattle.run_model.specs.Effects.{Effect, Gives, Fails, Waits, Enters, Leaves, Spawns, NoTick, Beyond, Spawned, lifted, with_world}
-use Rattle.run_model.specs.Facts.{Facts, UnitFacts, WorkerFacts}
+use Rattle.run_model.specs.Effects.{Effect, Gives, Waits, Enters, Spawns, Beyond, lifted, with_world}
+use Rattle.run_model.specs.Facts.{Facts, WorkerFacts}
 use Rattle.run_model.specs.Limits.{most_cells, most_frames, most_strands}
 use Rattle.run_model.specs.Messages.{flushes, flushes_end, one_sent, receives, receives_end, receives_from, sends, with_received}
 use Rattle.run_model.specs.Operands.{NoOperand, One, AFuture}
-use Rattle.run_model.specs.Performs.{AsWorker, OnWorld, Performs, WaitsFor}
+use Rattle.run_model.specs.Performs.{AsWorker, Performs}
 use Rattle.run_model.specs.Rows.{gives, gives_error, panics}
 use Rattle.run_model.specs.Strands.{channel_at, end_of, has_ended, has_success, is_success, is_there, met, settled, strand_at, strand_made, with_channel, worker_end}
 use Rattle.run_model.specs.Waits.{Collected, FirstPanic, Results, Target, chosen, collects, collects_end, behind, earlier, ends_with, field_names, future_target, gives_chosen, gives_end, gives_results, is_taken, later, place_of_end, strands_in, targets, took, waits, waits_all, waits_any, waits_for, with_target, worker_target}
 use Rattle.machine_model.specs.Strands.{role_of}
-use Rattle.machine_model.proofs.Alike.{Alike, Calm, alike-received, alike-sent, alike-then, calm-so, calm-still, calm-then, calm-took, or-both}
-use Rattle.machine_model.proofs.Once.{some-same}
-use Rattle.machine_model.proofs.Shapes.{ShapeOf, SpawnsCrew, SpawnsOne, WaitsAs, in-boolean, in-error, in-function, in-future, in-if, in-int, in-more, in-none, in-one, in-some, in-string, in-structure, in-three, in-two}
+use Rattle.machine_model.proofs.Alike.{Alike, Calm, alike-received, alike-sent, alike-then, calm-so, calm-still, calm-then, calm-took}
+use Rattle.machine_model.proofs.Shapes.{ShapeOf, WaitsAs, in-boolean, in-error, in-function, in-future, in-if, in-int, in-more, in-none, in-one, in-some, in-string, in-structure, in-three, in-two}
 
 -- ---- strands that have ended
 

@@ -1,30 +1,22 @@
 -- What each operation comes to, as far as strands and workers are concerned.
-use Rattle.std.proofs.Common.{◌≡◌, ◌≢◌, ◌++◌, ◌||◌, ◌&&◌, ◌∙◌, ◌≤◌, ℕ, ℤ, zero, suc, Bool, true, false, List, [], ◌∷◌, Option, Some, None, IsSomeAnd, length, refl, sym, subst, ap, inl, inr, ◌⊎◌, arith}
-use Rattle.std.specs.Prelude.{⊤, filter, fold, if◌then◌else◌, is_some, nat_le, nat_lt, not, option_map, slice_get}
-use Rattle.std.specs.List.{list_all, list_any}
+use Rattle.std.proofs.Common.{◌≡◌, ◌++◌, ◌&&◌, ◌∙◌, ℕ, ℤ, Bool, true, false, List, [], ◌∷◌, Option, Some, None, IsSomeAnd, length, refl, ap, ◌⊎◌}
+use Rattle.std.specs.Prelude.{⊤, if◌then◌else◌, is_some, nat_le, slice_get}
 use Rattle.bal_base.specs.declared.text.Text.{Text}
 use Rattle.operations.specs.declared.operation.Operation.{Operation}
-use Rattle.operations.specs.declared.operation.Operation.TheVariants.{Const, Load, Store, Pop, LoadModule, StoreModule, Tick, Add, Subtract, Multiply, Divide, Remainder, Negate, Concat, Less, LessEqual, Not, Equal, Same, MakeList, MakeMapping, MakeError, MakeFunction, GetItem, GetKey, GetChar, GetField, GetOptional, SetItem, SetKey, Test, Cast, Call, CallValue, Library, Return, Panic, Start, StartValue, Workers, Send, Post, Done, Receive, Flush, WaitWorker, WaitFuture, WaitAny, WaitAll}
+use Rattle.operations.specs.declared.operation.Operation.TheVariants.{Workers, Done, Receive, Flush, WaitWorker, WaitFuture, WaitAny, WaitAll}
 use Rattle.value_model.specs.declared.value.Value.{Value}
 use Rattle.value_model.specs.declared.value.Value.TheVariants.{Nil, Bool as Truth, Int, Str, Struct, Error, Function, Future}
-use Rattle.value_model.specs.Heap.{cells}
-use Rattle.value_model.specs.Meaning.{Answers}
-use Rattle.value_model.specs.PanicName.{future_taken}
-use Rattle.value_model.specs.World.{World, Came, Gave, Threw, PassesCells}
 use Rattle.run_model.specs.CallRows.{new_activation, strands_made, workers_from}
-use Rattle.run_model.specs.Common.{Asker, Common, End, Returned, Panicked, Need, Message, Received, AllEnded, AnyGiven, Role}
-use Rattle.run_model.specs.Copies.{copy_of, with_copies}
-use Rattle.run_model.specs.Effects.{Effect, Gives, Fails, Waits, Enters, Leaves, Spawns, NoTick, Beyond, Spawned, lifted, with_world}
-use Rattle.run_model.specs.Facts.{Facts, UnitFacts, WorkerFacts}
-use Rattle.run_model.specs.Messages.{flushes, flushes_end, one_sent, receives, receives_end, receives_from, sends, with_received}
+use Rattle.run_model.specs.Common.{Asker, Common, End, Need, Message, Received, AllEnded, AnyGiven, Role}
+use Rattle.run_model.specs.Effects.{Effect, Gives, Fails, Waits, Enters, Leaves, Spawns, NoTick, Beyond, Spawned}
+use Rattle.run_model.specs.Facts.{Facts, WorkerFacts}
+use Rattle.run_model.specs.Messages.{flushes, flushes_end, receives, receives_end, receives_from}
 use Rattle.run_model.specs.Operands.{NoOperand, One, Two, Three, OneAndMore, AnInt, AString, ABoolean, AStructure, AnError, AFunction, AFuture}
-use Rattle.run_model.specs.Performs.{AsWorker, OnWorld, Performs}
-use Rattle.run_model.specs.Rows.{gives_error}
-use Rattle.run_model.specs.Strands.{channel_at, end_of, has_ended, has_success, is_success, is_there, met, settled, strand_made, with_channel, worker_end}
-use Rattle.run_model.specs.Waits.{Collected, FirstPanic, Results, Target, chosen, collects, collects_end, behind, earlier, ends_with, field_names, future_target, gives_chosen, gives_end, gives_results, is_taken, later, strands_in, targets, took, waits, waits_all, waits_any, waits_for, worker_target}
+use Rattle.run_model.specs.Performs.{AsWorker}
+use Rattle.run_model.specs.Strands.{channel_at, end_of, has_ended, is_there, met, settled, strand_made, worker_end}
+use Rattle.run_model.specs.Waits.{Target, strands_in, targets, waits, waits_for, worker_target}
 use Rattle.machine_model.specs.Strands.{role_of}
-use Rattle.machine_model.proofs.Alike.{Alike, Calm, alike-received, alike-sent, alike-then, calm-so, calm-still, calm-then, calm-took, or-both}
-use Rattle.machine_model.proofs.Once.{some-same}
+use Rattle.machine_model.proofs.Alike.{Alike, Calm, or-both}
 
 -- ---- what is on its operands
 

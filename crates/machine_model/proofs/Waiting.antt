@@ -5,17 +5,15 @@ use Rattle.bal_base.specs.declared.text.Text.{Text}
 use Rattle.operations.specs.declared.operation.Operation.{Operation}
 use Rattle.operations.specs.declared.operation.Operation.TheVariants.{Flush, Done, Receive, WaitWorker, WaitFuture, WaitAny, WaitAll}
 use Rattle.value_model.specs.declared.value.Value.{Value}
-use Rattle.value_model.specs.declared.value.Value.TheVariants.{Nil, Bool as Truth, Int, Str, Struct, Error, Function, Future}
+use Rattle.value_model.specs.declared.value.Value.TheVariants.{Future}
 use Rattle.value_model.specs.Meaning.{Answers}
-use Rattle.run_model.specs.Common.{AllEnded, AnyGiven, Asker, Common, Message, Need, Received, Role}
-use Rattle.run_model.specs.Effects.{Effect, Waits}
+use Rattle.run_model.specs.Common.{AllEnded, AnyGiven, Asker, Common, Need, Received, Role}
+use Rattle.run_model.specs.Effects.{Waits}
 use Rattle.run_model.specs.Facts.{Facts}
-use Rattle.run_model.specs.Messages.{flushes, receives}
 use Rattle.run_model.specs.Operands.{AFuture, NoOperand, One}
-use Rattle.run_model.specs.Performs.{AsWorker, Performs, WaitsFor}
+use Rattle.run_model.specs.Performs.{Performs}
 use Rattle.run_model.specs.Strands.{activation_at, channel_at, has_success, met}
-use Rattle.run_model.specs.Waits.{Target, chosen, field_names, future_target, gives_chosen, gives_results, collects, strands_in, targets, waits, waits_all, waits_any, with_target, worker_target}
-use Rattle.machine_model.proofs.Once.{some-same}
+use Rattle.run_model.specs.Waits.{Target, chosen, field_names, future_target, gives_chosen, gives_results, collects, strands_in, targets, waits_all, waits_any, with_target, worker_target}
 use Rattle.machine_model.proofs.Shapes.{WaitsAs, flushes-waits, in-some, receives-waits, waits-waits}
 
 -- ---- on the same operands
