@@ -92,7 +92,7 @@ abbrev pub worker_nodes : TypedWorker → Listed Place
 worker_nodes w = stmts_nodes w.stmts.items
 
 abbrev pub body_nodes : TypedBody → Listed Place
-body_nodes (Block initial workers rest close) =
+body_nodes (Block initial workers rest ends close) =
     stmts_nodes initial.items & joined (map worker_nodes workers.items) & stmts_nodes rest.items
 body_nodes (Expr value) = expr_nodes value.value
 

@@ -1,5 +1,5 @@
 -- The units of a package with what each does: functions and their workers, anonymous functions, and initialisers.
-use Rattle.std.specs.Prelude.{◌==◌, ℕ, List, Option, find, map}
+use Rattle.std.specs.Prelude.{◌==◌, ℕ, Bool, List, Option, find, map}
 use Rattle.typed_tree.specs.declared.expr.TypedExpr.{TypedExpr, para-TypedExpr}
 use Rattle.typed_tree.specs.declared.expr.TypedExpr.TheOpen as layer
 use Rattle.typed_tree.specs.declared.stmt.TypedStmt.{TypedStmt}
@@ -23,7 +23,8 @@ use Rattle.typed_tree.specs.StmtLayers.{TypedStmtOf, TypedClauseOf, TypedStmtSte
 -- what a unit does
 pub data UnitBody : Type 0 where
   OfFunction : TypedBody → UnitBody
-  OfWorker : List TypedStmt → UnitBody
+  -- and whether the end of its statements is reached
+  OfWorker : List TypedStmt → Bool → UnitBody
   -- the value of an anonymous function
   OfAnonymous : TypedExpr → UnitBody
   OfInitialiser : List Initial → UnitBody
@@ -91,10 +92,10 @@ stmts_units ss = joined (map (of_typed_stmt listing) ss)
 -- ---- functions and packages
 
 abbrev pub worker_units : TypedWorker → Listed UnitTree
-worker_units w = unit_tree w.unit (OfWorker w.stmts.items) & stmts_units w.stmts.items
+worker_units w = unit_tree w.unit (OfWorker w.stmts.items w.ends) & stmts_units w.stmts.items
 
 abbrev pub body_units : TypedBody → Listed UnitTree
-body_units (Block initial workers rest close) =
+body_units (Block initial workers rest ends close) =
     stmts_units initial.items & joined (map worker_units workers.items) & stmts_units rest.items
 body_units (Expr value) = expr_units value.value
 

@@ -33,7 +33,10 @@ pub struct TypedUnit {
 pub struct Captured {
     /// Its slot in the unit around.
     pub slot: u32,
-    /// Its type where it is captured.
+    /// Whether its type where it is captured is a narrower one than that of this slot.
+    pub narrowed: bool,
+    /// Its type where it is captured. In an anonymous function its slot is of this type. In a worker its slot is of the
+    /// type of the slot around, and where the worker begins it is narrowed to this one.
     pub ty: SharedTy,
     /// The place of its first use.
     pub at: Place,
@@ -59,12 +62,13 @@ pub struct TypedFunction {
 /// The body of a function.
 #[derive(Drop)]
 pub enum TypedBody {
-    /// The initial statements, the named workers, and the rest of the default worker's; and the place of the
-    /// closing brace ("Function with default worker and named workers").
+    /// The initial statements, the named workers, and the rest of the default worker's; whether the end is reached,
+    /// where nil is returned; and the place of the closing brace ("Function with default worker and named workers").
     Block {
         initial: Vec<TypedStmt>,
         workers: Vec<TypedWorker>,
         rest: Vec<TypedStmt>,
+        ends: bool,
         close: Place,
     },
     /// `=> e;`
@@ -80,6 +84,8 @@ pub struct TypedWorker {
     pub unit: TypedUnit,
     pub captured: Row<Captured>,
     pub stmts: Vec<TypedStmt>,
+    /// Whether the end of its statements is reached, where nil is returned.
+    pub ends: bool,
     /// The place of the closing brace, and that of its name.
     pub close: Place,
     pub at: Place,
