@@ -1,1 +1,3 @@
+pub mod AllWays
 pub mod Settled
+pub mod TaskWalk

@@ -22,6 +22,7 @@ use Rattle.typed_tree.specs.declared.stmt.TypedPattern.{TypedPattern}
 use Rattle.typed_tree.specs.declared.stmt.UpdateTarget.{UpdateTarget}
 use Rattle.typed_tree.specs.declared.stmt.UpdateTarget.TheVariants as target
 use Rattle.typed_tree.specs.declared.package.TypedPackage.{TypedPackage}
+use Rattle.typed_tree.specs.declared.unit.Captured.{Captured}
 use Rattle.typed_tree.specs.SharedTypes.{sem_of}
 use Rattle.run_model.specs.Local.{Local, Act, Now, Later, Never, acts, with_stack}
 use denote.Hole.Carrier
@@ -30,11 +31,12 @@ use Rattle.std.specs.Global.{Global}
 use Rattle.std.specs.formers.vec.Vec
 use Rattle.machine_model.specs.Machine.{Machine, asks as asks_of, captured_slots}
 use Rattle.machine_model.specs.Following.{Settles, asks, stuck, on}
-use Rattle.eval_model.specs.Constructs.{operations_of, operator_operations, perform_operations}
-use Rattle.eval_model.specs.Expressions.{check_ends, error_type, function_operations, narrowed_to, nil_type}
+use Rattle.held_operations.specs.Constructs.{operations_of, operator_operations, perform_operations}
+use Rattle.held_operations.specs.Operation.{singleton}
+use Rattle.eval_model.specs.Expressions.{captures, check_ends, error_type, makes_function, narrowed_to, nil_type}
 use Rattle.eval_model.specs.Tasks.{Loop, AsLongAs, OverRange, OverList, MatchRow, Branch, Whole, These, Kept, Block, Round, Rows, Task, Eval, Exec, Do, Get, Choose, Turn, Guard, Doing, doing, dos, evals, execs}
 use Rattle.eval_model.specs.Loops.{begins_loop, behind_loop, from_loop, raises, round}
-use Rattle.eval_model.specs.Statements.{branch, match_rows, reads_member, rows, singleton, sets_member, tries_row, updates}
+use Rattle.eval_model.specs.Statements.{branch, match_rows, reads_member, rows, sets_member, tries_row, updates}
 use Rattle.eval_model.specs.Trees.{chosen, facts_of, trees}
 
 module _ (atoms : List AtomDef) (fillers : ℕ → List Filler) (p : TypedPackage) (unit : ℕ) where
@@ -60,6 +62,10 @@ module _ (atoms : List AtomDef) (fillers : ℕ → List Filler) (p : TypedPackag
 
   get-settles : (slot : ℕ) (narrowed : Option SemType) (ts : List Task) → S ts → S (Get slot narrowed ∷ ts)
   get-settles slot narrowed ts s l = act-settles (doing l (Get slot narrowed ∷ ts)) ts (acts captured (Load slot) l) refl s
+
+  captures-settle : (cs : List Captured) (ts : List Task) → S ts → S (captures cs ts)
+  captures-settle [] ts s = s
+  captures-settle (c ∷ cs) ts s = get-settles c.slot (narrowed_to c.narrowed c.ty) (captures cs ts) (captures-settle cs ts s)
 
   dos-settle : (ops : List Operation) (ts : List Task) → S ts → S (dos ops ts)
   dos-settle [] ts s = s
@@ -113,7 +119,8 @@ module _ (atoms : List AtomDef) (fillers : ℕ → List Filler) (p : TypedPackag
     eval-settles (Check' panics own _ operand type at) ts s l =
         on refl (eval-settles operand _ (dos-settle (Store own ∷ Load own ∷ Test error_type ∷ []) _ (choose-settles (Kept own error_type (check_ends panics ∷ [])) (Kept own (sem_of type) []) ts (kept-settles own error_type (check_ends panics ∷ []) ts s) (kept-settles own (sem_of type) [] ts s))) l)
     eval-settles (Trap' _ operand type at) ts s l = on refl (eval-settles operand (Guard l.stack ∷ ts) (guard-settles l.stack ts s) l)
-    eval-settles (Function' function _ value type at) ts s l = on refl (dos-settle (function_operations function.value) ts s l)
+    eval-settles (Function' function _ value type at) ts s l =
+        on refl (captures-settle function.value.captured _ (do-settles (makes_function function.value) ts s) l)
     eval-settles (Parens' _ inner type at) ts s l = on refl (eval-settles inner ts s l)
 
     row-settles : {n : _} (row : Row_of-TypedExpr n) (ts : List Task) → S ts → S (evals (exprs_in _ row) ts)
@@ -140,7 +147,7 @@ module _ (atoms : List AtomDef) (fillers : ℕ → List Filler) (p : TypedPackag
       eval-settles list.value _ (dos-settle (Store own ∷ Const (constant.Int (negsuc 0)) ∷ Store (own + 1) ∷ []) _ (turn-settles (OverList slot own body) ts))
 
   from-settles : (ts : List Task) → S (from_loop ts)
-  from-settles [] = λ l. asks refl
+  from-settles [] = λ l. stuck refl
   from-settles (Turn loop ∷ ts) = turn-settles loop ts
   from-settles (Eval e ∷ ts) = from-settles ts
   from-settles (Exec s ∷ ts) = from-settles ts
@@ -252,7 +259,7 @@ module _ (atoms : List AtomDef) (fillers : ℕ → List Filler) (p : TypedPackag
   -- ---- all tasks
 
   tasks-settle : (ts : List Task) → S ts × S (behind_loop ts)
-  tasks-settle [] = (λ l. asks refl, λ l. asks refl)
+  tasks-settle [] = (λ l. stuck refl, λ l. stuck refl)
   tasks-settle (Turn loop ∷ ts) = let r = tasks-settle ts in (turn-settles loop ts, r.0)
   tasks-settle (Eval e ∷ ts) = let r = tasks-settle ts in (eval-settles e ts r.0, r.1)
   tasks-settle (Exec x ∷ ts) = let r = tasks-settle ts in (exec-settles x ts r.0 r.1, r.1)

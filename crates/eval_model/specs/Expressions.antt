@@ -1,5 +1,5 @@
 -- The evaluation of expressions and actions: what is to be done for each, before what is to be done behind it.
-use Rattle.std.specs.Prelude.{◌++◌, List, [], ◌∷◌, Option, Some, None, Bool, true, false, length, map}
+use Rattle.std.specs.Prelude.{List, [], ◌∷◌, Option, Some, None, Bool, true, false, length}
 use Rattle.type_model.specs.declared.basic.BasicSet.TheVariants as basic
 use Rattle.type_model.specs.declared.basic.SemType.{SemType, Basic}
 use Rattle.operations.specs.declared.operation.Constant.TheVariants as constant
@@ -9,9 +9,10 @@ use Rattle.value_model.specs.declared.value.Value.{Value}
 use Rattle.typed_tree.specs.declared.expr.AnonymousFunction.{AnonymousFunction}
 use Rattle.typed_tree.specs.declared.expr.TypedExpr.{TypedExpr, out-TypedExpr}
 use Rattle.typed_tree.specs.declared.expr.TypedExpr.TheOpen as layer
+use Rattle.typed_tree.specs.declared.unit.Captured.{Captured}
 use Rattle.typed_tree.specs.ExprLayers.{TypedExprOf}
 use Rattle.typed_tree.specs.SharedTypes.{Shared, sem_of}
-use Rattle.eval_model.specs.Constructs.{operations_of}
+use Rattle.held_operations.specs.Constructs.{operations_of}
 use Rattle.eval_model.specs.Tasks.{Whole, These, Kept, Task, Eval, Do, Get, Choose, Guard, dos, evals}
 
 abbrev pub nil_type : SemType
@@ -25,9 +26,13 @@ abbrev pub narrowed_to : Bool → Shared → Option SemType
 narrowed_to true t = Some (sem_of t)
 narrowed_to false t = None
 
--- the captured values are copied from their slots
-abbrev pub function_operations : AnonymousFunction → List Operation
-function_operations f = map (λ c. Load c.slot) f.captured ++ MakeFunction f.unit.number (length f.captured) ∷ []
+-- captured values are copied from their slots
+abbrev pub captures : List Captured → List Task → List Task
+captures [] ts = ts
+captures (c ∷ cs) ts = Get c.slot (narrowed_to c.narrowed c.ty) ∷ captures cs ts
+
+abbrev pub makes_function : AnonymousFunction → Operation
+makes_function f = MakeFunction f.unit.number (length f.captured)
 
 -- `checkpanic` panics with an error, and `check` returns it
 abbrev pub check_ends : Bool → Operation
@@ -52,7 +57,7 @@ eval_layer (layer.Check panics own operand type at) vs ts =
     Eval operand.value ∷ dos (Store own ∷ Load own ∷ Test error_type ∷ [])
     (Choose (Kept own error_type (check_ends panics ∷ [])) (Kept own (sem_of type) []) ∷ ts)
 eval_layer (layer.Trap operand type at) vs ts = Eval operand.value ∷ Guard vs ∷ ts
-eval_layer (layer.Function function value type at) vs ts = dos (function_operations function.value) ts
+eval_layer (layer.Function function value type at) vs ts = captures function.value.captured (Do (makes_function function.value) ∷ ts)
 eval_layer (layer.Parens inner type at) vs ts = Eval inner.value ∷ ts
 
 abbrev pub eval : TypedExpr → List Value → List Task → List Task

@@ -1,7 +1,12 @@
-pub mod Constructs
+pub mod Allowed
+pub mod Cases
 pub mod Expressions
+pub mod Inherent
 pub mod Laws
 pub mod Loops
 pub mod Statements
+pub mod TaskWalk
 pub mod Tasks
 pub mod Trees
+pub mod Walk
+pub mod Ways

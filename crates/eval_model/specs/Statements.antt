@@ -2,8 +2,6 @@
 use Rattle.std.specs.Prelude.{◌+◌, ℕ, List, [], ◌∷◌, Option, Some, None, map}
 use Rattle.std.specs.Global.{Box}
 use Rattle.std.specs.List.{flat_map}
-use Rattle.type_model.specs.declared.basic.BasicSet.TheVariants as basic
-use Rattle.type_model.specs.declared.basic.SemType.{SemType, Basic}
 use Rattle.operations.specs.declared.operation.Constant.{Constant}
 use Rattle.operations.specs.declared.operation.Constant.TheVariants as constant
 use Rattle.operations.specs.declared.operation.Operation.{Operation}
@@ -18,7 +16,8 @@ use Rattle.typed_tree.specs.declared.stmt.TypedStmt.TheOpen as layer
 use Rattle.typed_tree.specs.declared.stmt.UpdateTarget.{UpdateTarget}
 use Rattle.typed_tree.specs.declared.stmt.UpdateTarget.TheVariants as target
 use Rattle.typed_tree.specs.declared.stmt.TypedStmt.{TypedStmt-F}
-use Rattle.eval_model.specs.Constructs.{operator_operations, perform_operations, read_operations}
+use Rattle.held_operations.specs.Constructs.{operator_operations, perform_operations, read_operations}
+use Rattle.held_operations.specs.Operation.{singleton}
 use Rattle.eval_model.specs.Expressions.{narrowed_to}
 use Rattle.eval_model.specs.Loops.{begins_loop, behind_loop, from_loop, round}
 use Rattle.eval_model.specs.Tasks.{AsLongAs, MatchRow, Branch, Whole, These, Kept, Block, Round, Rows, Task, Eval, Do, Get, Choose, Turn, dos, evals, execs}
@@ -53,13 +52,6 @@ updates (target.Member own how container key type) op value ts =
     ∷ dos (Load own ∷ Load (own + 1) ∷ reads_member how own) (Eval value ∷ dos (operator_operations op) (Do (sets_member how) ∷ ts))
 
 -- ---- matches
-
--- the type of the constant alone
-abbrev pub singleton : Constant → SemType
-singleton constant.Nil = Basic basic.Nil
-singleton (constant.Bool b) = Basic (basic.Bool b)
-singleton (constant.Int i) = Basic (basic.IntRange i i)
-singleton (constant.Str t) = Basic (basic.StringOne t)
 
 -- a row for each pattern of a clause
 abbrev pub rows_of_clause : TypedClause-F TypedStmt TypedClause → List MatchRow

@@ -1,22 +1,20 @@
 -- What typed trees mean: the machine whose frames keep what is still to be done.
-use Rattle.std.specs.Prelude.{◌++◌, ℕ, List, [], ◌∷◌, Option, Some, None, true, false, length, map, option_map}
-use Rattle.bal_base.specs.declared.text.Text.{Text}
+use Rattle.std.specs.Prelude.{◌++◌, ℕ, Bool, List, [], ◌∷◌, Option, Some, None, true, false, length, map, option_map}
 use Rattle.type_model.specs.declared.atoms.AtomDef.{AtomDef}
-use Rattle.operations.specs.declared.operation.Operation.TheVariants.{Load, StoreModule, Tick, Return, Workers}
+use Rattle.operations.specs.declared.operation.Constant.TheVariants as constant
+use Rattle.operations.specs.declared.operation.Operation.TheVariants.{Const, Load, StoreModule, Tick, Return, Workers}
 use Rattle.value_model.specs.declared.filler.Filler.{Filler}
 use Rattle.value_model.specs.declared.value.Value.{Value}
-use Rattle.value_model.specs.declared.value.Value.TheVariants.{Nil, Bool as Truth}
-use Rattle.value_model.specs.Meaning.{Answers}
+use Rattle.value_model.specs.declared.value.Value.TheVariants.{Bool as Truth}
 use Rattle.typed_tree.specs.declared.package.Initial.{Initial}
 use Rattle.typed_tree.specs.declared.package.TypedPackage.{TypedPackage}
 use Rattle.typed_tree.specs.declared.unit.TypedBody.TheVariants.{Block as BlockBody, Expr as ValueBody}
 use Rattle.typed_tree.specs.declared.unit.TypedWorker.{TypedWorker}
 use Rattle.typed_tree.specs.Units.{UnitBody, OfFunction, OfWorker, OfAnonymous, OfInitialiser, UnitTree, unit_at}
-use Rattle.run_model.specs.Facts.{Facts, UnitFacts, WorkerFacts, KnowsFillers}
+use Rattle.run_model.specs.Facts.{Facts, UnitFacts, WorkerFacts}
 use Rattle.run_model.specs.Levels.{numbers_from}
 use Rattle.run_model.specs.Local.{Local, acts, with_stack}
 use Rattle.machine_model.specs.Machine.{Ask, On, Does, Stuck, Launch, Machine, asks, captured_slots, first_slots, words_of}
-use Rattle.machine_model.specs.Outcomes.{Outcome, IsAllowed}
 use Rattle.eval_model.specs.Expressions.{eval}
 use Rattle.eval_model.specs.Loops.{turn}
 use Rattle.eval_model.specs.Statements.{branch, exec}
@@ -29,7 +27,8 @@ chosen first second ts l (Truth true ∷ rest) = On (doing (with_stack l rest) (
 chosen first second ts l (Truth false ∷ rest) = On (doing (with_stack l rest) (branch second ts))
 chosen first second ts l _ = Stuck
 
--- where nothing is left to be done the frame ends with nil. `captured` are the slots that the named workers capture
+-- `captured` are the slots that the named workers capture. Where nothing is left to be done the frame can do nothing: a body
+-- whose end is reached returns nil there
 abbrev pub next_of : List ℕ → Local → List Task → Ask Doing
 next_of captured l (Eval e ∷ ts) = On (doing l (eval e l.stack ts))
 next_of captured l (Exec s ∷ ts) = On (doing l (exec s ts))
@@ -38,7 +37,7 @@ next_of captured l (Get slot narrowed ∷ ts) = asks (λ m. doing m ts) (acts ca
 next_of captured l (Choose first second ∷ ts) = chosen first second ts l l.stack
 next_of captured l (Turn loop ∷ ts) = On (doing l (turn loop ts))
 next_of captured l (Guard vs ∷ ts) = On (doing l ts)
-next_of captured l [] = Does Return (Nil ∷ []) (doing l [])
+next_of captured l [] = Stuck
 
 -- a panic goes on behind the innermost trap
 abbrev pub caught : Local → Value → List Task → Option Doing
@@ -58,16 +57,22 @@ abbrev pub starts_named : List TypedWorker → List Task → List Task
 starts_named [] ts = ts
 starts_named (w ∷ ws) ts = Do Workers ∷ ts
 
-abbrev pub initialises : List Initial → List Task
-initialises [] = []
-initialises (i ∷ is) = Eval i.value.value ∷ Do (StoreModule i.variable) ∷ initialises is
+abbrev pub initialises : List Initial → List Task → List Task
+initialises [] ts = ts
+initialises (i ∷ is) ts = Eval i.value.value ∷ Do (StoreModule i.variable) ∷ initialises is ts
+
+-- where its end is reached a body returns nil, and else nothing is done there
+abbrev pub at_end : Bool → List Task
+at_end true = Do (Const constant.Nil) ∷ Do Return ∷ []
+at_end false = []
 
 abbrev pub body_tasks : UnitBody → List Task
-body_tasks (OfFunction (BlockBody initial workers rest close)) = execs initial.items (starts_named workers.items (execs rest.items []))
+body_tasks (OfFunction (BlockBody initial workers rest ends close)) =
+    execs initial.items (starts_named workers.items (execs rest.items (at_end ends)))
 body_tasks (OfFunction (ValueBody value)) = Eval value.value ∷ Do Return ∷ []
-body_tasks (OfWorker stmts) = execs stmts []
+body_tasks (OfWorker stmts ends) = execs stmts (at_end ends)
 body_tasks (OfAnonymous value) = Eval value ∷ Do Return ∷ []
-body_tasks (OfInitialiser values) = initialises values
+body_tasks (OfInitialiser values) = initialises values (at_end true)
 
 -- a tick is spent at the entry
 abbrev pub entered : List Value → UnitTree → Doing
@@ -79,9 +84,9 @@ abbrev pub worker_facts : TypedWorker → WorkerFacts
 worker_facts w = record { unit = w.unit.number; captured = map (λ c. c.slot) w.captured }
 
 abbrev pub workers_in : UnitBody → List WorkerFacts
-workers_in (OfFunction (BlockBody initial workers rest close)) = map worker_facts workers.items
+workers_in (OfFunction (BlockBody initial workers rest ends close)) = map worker_facts workers.items
 workers_in (OfFunction (ValueBody value)) = []
-workers_in (OfWorker stmts) = []
+workers_in (OfWorker stmts ends) = []
 workers_in (OfAnonymous value) = []
 workers_in (OfInitialiser values) = []
 
@@ -116,10 +121,3 @@ trees atoms fillers p =
       catch = λ d e. caught d.local e d.tasks;
       enter = λ unit args. option_map (entered args) (unit_at p unit);
     }
-
--- under this order and with so many ticks, a run of the package has this outcome, in so many steps; `inherent` are the atoms
--- with which it makes structures, functions and futures
-abbrev pub TreesAllow : Answers → List AtomDef → List ℕ → TypedPackage → List Text → List ℕ → List ℕ → ℕ → ℕ → Outcome → Type 0
-TreesAllow natives atoms inherent p words input order ticks n o =
-    (fillers : ℕ → List Filler) × KnowsFillers (facts_of atoms fillers p) inherent
-    × IsAllowed natives (trees atoms fillers p) words input order ticks n o

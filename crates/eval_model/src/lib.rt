@@ -2,16 +2,21 @@
 //!
 //! The definitions, in the order in which a reader needs them, are files of `specs/`:
 //!
-//! - `Constructs`, the table of the constructs that evaluate all their operands: which operations each then does.
 //! - `Tasks`, what a frame keeps.
 //! - `Expressions`, `Loops` and `Statements`: what is to be done for each construct, a line for each.
 //! - `Trees`, the machine: what comes next in a frame, where a panic goes on, how a unit begins, and what is known of a
 //!   package.
-//! - `Laws`.
+//! - `Inherent`, the atoms with which a package makes structures, functions and futures; `Allowed`, what may come of it.
+//! - `Ways`, `Walk` and `TaskWalk`: which operations each construct does one behind another, and where its ways part and meet,
+//!   with what a point is left open.
+//! - `Cases`, worked cases; `Laws`.
 //!
-//! Beside them stand the laws, [`trees_have_one_next`] and [`trees_settle`].
+//! Beside them stand [`definitions_come_to_cases`] and the laws, [`trees_have_one_next`] and [`trees_settle`]; [`frames_keep_ways`] and [`each_tree_has_a_way`], that
+//! ways through trees agree with what a frame does.
 #![tactic(auto)]
 
+mod cases;
 mod laws;
 
-pub use laws::{trees_have_one_next, trees_settle};
+pub use cases::definitions_come_to_cases;
+pub use laws::{AnyWays, each_tree_has_a_way, frames_keep_ways, trees_have_one_next, trees_settle};

@@ -5,6 +5,7 @@
 //! - `(function SLOTS PARAMS S .. WORKER .. S ..)`: its slots, how many of them are parameters, and its parts. The first
 //!   function is `main`. `(function SLOTS PARAMS ARROW FUTURE ..)` has atoms of its own.
 //! - `(worker SLOTS CAPTURED .. S ..)`: its slots, and the slots of its function that it captures.
+//! - `never`, last in either: the end of its statements is not reached.
 //! - `(initial N E)`: the initial value of a module variable; atoms.
 
 use crate::exprs::expr_form;
@@ -84,7 +85,8 @@ fn function(alloc: Global, parts: &mut Parts) -> Read<Draft> {
         unit,
         initial: parts.some_stmts()?,
         workers: parts.workers()?,
-        rest: parts.stmts()?,
+        rest: parts.some_stmts()?,
+        ends: parts.ends()?,
     })
 }
 
@@ -94,7 +96,8 @@ fn worker(alloc: Global, parts: &mut Parts) -> Read<TypedWorker> {
         name: Name::new(alloc, "W")?,
         unit: unit_with(alloc, slots, 0)?,
         captured: Row::of(parts.captured()?),
-        stmts: parts.stmts()?,
+        stmts: parts.some_stmts()?,
+        ends: parts.ends()?,
         close: HERE,
         at: HERE,
     })

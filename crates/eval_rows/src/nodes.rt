@@ -22,6 +22,7 @@ pub struct Draft {
     pub initial: Vec<TypedStmt>,
     pub workers: Vec<TypedWorker>,
     pub rest: Vec<TypedStmt>,
+    pub ends: bool,
 }
 
 /// What a word or a form stands for.
@@ -158,6 +159,18 @@ impl Parts {
         Ok(stmts)
     }
 
+    /// Whether the end of the statements before it is reached: not where `never` comes next.
+    pub fn ends(&mut self) -> Read<bool> {
+        if !self.has_word() {
+            return Ok(true);
+        }
+        let word = self.word()?;
+        if word.as_str() != "never" {
+            return refuse(Misread::NotAForm);
+        }
+        Ok(false)
+    }
+
     /// The workers that come next.
     pub fn workers(&mut self) -> Read<Vec<TypedWorker>> {
         let mut workers = Vec::new(self.alloc);
@@ -196,7 +209,12 @@ impl Parts {
             }
             let slot = self.number()?;
             let ty = shared(self.alloc, type_of(self.alloc, "int")?)?;
-            captured.push(Captured { slot, ty, at: HERE })?;
+            captured.push(Captured {
+                slot,
+                narrowed: false,
+                ty,
+                at: HERE,
+            })?;
         }
         Ok(captured)
     }

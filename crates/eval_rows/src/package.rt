@@ -118,6 +118,7 @@ fn function_of(draft: Draft, number: u32, next: &mut u32) -> Function {
         initial,
         mut workers,
         rest,
+        ends,
     } = draft;
     unit.number = number;
     for worker in workers.iter_mut() {
@@ -128,6 +129,7 @@ fn function_of(draft: Draft, number: u32, next: &mut u32) -> Function {
         initial,
         workers,
         rest,
+        ends,
         close: HERE,
     };
     Function { unit, body }
@@ -202,7 +204,7 @@ fn units(alloc: Global, package: &Numbered) -> Read<Vec<Unit<'_>>> {
         for worker in workers_of(&f.body) {
             units.push(Unit {
                 unit: &worker.unit,
-                body: Body::Worker(worker.stmts.as_slice()),
+                body: Body::Worker(worker.stmts.as_slice(), worker.ends),
             })?;
         }
     }

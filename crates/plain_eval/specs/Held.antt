@@ -9,8 +9,8 @@ use Rattle.eval_model.specs.Loops.{raises}
 use Rattle.eval_model.specs.Statements.{match_rows}
 use Rattle.eval_model.specs.Tasks as model
 use Rattle.eval_model.specs.Tasks.{MatchRow}
-use Rattle.plain_run.specs.declared.op.Op.{Op}
-use Rattle.plain_run.specs.Operation.{operation_of, type_of}
+use Rattle.held_operations.specs.declared.op.Op.{Op}
+use Rattle.held_operations.specs.Operation.{operation_of, type_of}
 use Rattle.plain_eval.specs.declared.todo.Branch.{Branch}
 use Rattle.plain_eval.specs.declared.todo.Branch.TheVariants as branch
 use Rattle.plain_eval.specs.declared.todo.Loop.{Loop}

@@ -6,7 +6,7 @@ use Rattle.plain_eval.specs.declared.units.Unit.{Unit}
 
 abbrev pub body_of : Body → UnitBody
 body_of (body.Function f) = OfFunction f.now
-body_of (body.Worker stmts) = OfWorker stmts.now
+body_of (body.Worker stmts ends) = OfWorker stmts.now ends
 body_of (body.Anonymous value) = OfAnonymous value.now
 body_of (body.Initialiser values) = OfInitialiser values.now
 

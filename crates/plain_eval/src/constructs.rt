@@ -3,15 +3,15 @@
 
 ghost use Rattle.std.specs.Prelude.{◌≡◌, ◌-◌, Bool, OnOk};
 ghost use Rattle.operations.specs.declared.operation.Operation.TheVariants.{MakeError, MakeFunction, MakeList, MakeMapping, WaitAll};
-ghost use Rattle.eval_model.specs.Constructs.{call_operations, library_operations, operations_of, operator_operations, perform_operations, read_operations, start_operations, wait_operations};
+ghost use Rattle.held_operations.specs.Constructs.{call_operations, library_operations, operations_of, operator_operations, perform_operations, read_operations, start_operations, wait_operations};
 ghost use Rattle.eval_model.specs.Tasks.{dos as dos_of};
 ghost use Rattle.plain_eval.specs.Held.{tasks_of};
-ghost use Rattle.plain_run.specs.Operation.{operation_of};
+ghost use Rattle.held_operations.specs.Operation.{operation_of};
 
 use crate::todo::{Task, dos};
 use bal_base::Memory;
+use held_operations::{Op, TestedType};
 use operations::{Awaited, LibraryCall};
-use plain_run::{Op, TestedType};
 use typed_tree::{Callee, Operator, PerformForm, Read, SharedTy, StrictForm};
 
 /// The operations of an operator.

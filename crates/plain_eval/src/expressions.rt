@@ -1,20 +1,20 @@
 //! The evaluation of expressions and actions.
 #![tactic(auto, using(crate::proofs::Holding::holding, typed_tree::proofs::ExprLayers::expr_layers))]
 
-ghost use Rattle.std.specs.Prelude.{◌≡◌, ◌∷◌, [], Bool, IfOk, OnOk, length, map, option_map, reverse};
+ghost use Rattle.std.specs.Prelude.{◌≡◌, ◌∷◌, [], Bool, IfOk, OnOk, length, option_map, reverse};
 ghost use Rattle.operations.specs.declared.operation.Constant.TheVariants as constant;
-ghost use Rattle.operations.specs.declared.operation.Operation.TheVariants.{Const, Load, MakeFunction, Store, Test};
+ghost use Rattle.operations.specs.declared.operation.Operation.TheVariants.{Const, Load, Store, Test};
 ghost use Rattle.typed_tree.specs.SharedTypes.{sem_of};
-ghost use Rattle.eval_model.specs.Constructs.{operations_of};
-ghost use Rattle.eval_model.specs.Expressions.{check_ends, error_type, eval as eval_of, function_operations, narrowed_to as narrowed_to_of, nil_type};
-ghost use Rattle.eval_model.specs.Tasks.{Choose, Eval, Get, Guard, Kept, These, Whole, dos as dos_of, evals as evals_of};
+ghost use Rattle.held_operations.specs.Constructs.{operations_of};
+ghost use Rattle.eval_model.specs.Expressions.{captures as captures_of, check_ends, error_type, eval as eval_of, makes_function, narrowed_to as narrowed_to_of, nil_type};
+ghost use Rattle.eval_model.specs.Tasks.{Choose, Do, Eval, Get, Guard, Kept, These, Whole, dos as dos_of, evals as evals_of};
 ghost use Rattle.plain_eval.specs.Held.{branch_of, tasks_of};
-ghost use Rattle.plain_run.specs.Operation.{operation_of, type_of};
+ghost use Rattle.held_operations.specs.Operation.{operation_of, type_of};
 
 use crate::constructs::strict;
 use crate::todo::{Branch, Task, dos, evals, first};
 use bal_base::Memory;
-use plain_run::{Op, TestedType};
+use held_operations::{Op, TestedType};
 use std::alloc::Global;
 use typed_tree::{AnonymousFunction, Captured, SharedTy, StrictForm, TypedExpr};
 use value_model::Value;
@@ -50,29 +50,29 @@ fn kept<'a>(tasks: &mut Vec<Task<'a>>, own: u32, ty: TestedType<'a>) -> Result<(
 }
 
 /// The captured values from their slots.
-fn loads<'a>(tasks: &mut Vec<Task<'a>>, captured: &[Captured]) -> Result<(), Memory>
-    ensures { OnOk result (tasks_of tasks.new.items ≡ dos_of (map (λ c. Load c.slot) captured.now) (tasks_of tasks.old.items)) }
+fn captures<'a>(tasks: &mut Vec<Task<'a>>, captured: &'a [Captured]) -> Result<(), Memory>
+    ensures { OnOk result (tasks_of tasks.new.items ≡ captures_of captured.now (tasks_of tasks.old.items)) }
 {
     match captured {
         [] => Ok(()),
         [c, rest @ ..] => {
-            loads(tasks, rest)?;
-            first(tasks, Task::Do(Op::Load(c.slot as u64)))
+            captures(tasks, rest)?;
+            local(tasks, c.slot, c.narrowed, &c.ty)
         }
     }
 }
 
 /// A function value with what it captures.
-fn function<'a>(tasks: &mut Vec<Task<'a>>, f: &AnonymousFunction) -> Result<(), Memory>
-    ensures { OnOk result (tasks_of tasks.new.items ≡ dos_of (function_operations f.now) (tasks_of tasks.old.items)) }
+fn function<'a>(tasks: &mut Vec<Task<'a>>, f: &'a AnonymousFunction) -> Result<(), Memory>
+    ensures { OnOk result (tasks_of tasks.new.items ≡ captures_of f.now.captured (Do (makes_function f.now) ∷ tasks_of tasks.old.items)) }
 {
     let captured = f.captured.as_slice();
     let made = Op::MakeFunction {
         unit: f.unit.number,
         count: captured.len() as u64,
     };
-    dos(tasks, &[made])?;
-    loads(tasks, captured)
+    first(tasks, Task::Do(made))?;
+    captures(tasks, captured)
 }
 
 /// What an error ends: `checkpanic` panics with it, and `check` returns it.

@@ -5,12 +5,12 @@ ghost use Rattle.std.specs.Prelude.{◌≡◌, ◌≤◌, IfOk, OnOk, Some, leng
 ghost use Rattle.operations.specs.declared.operation.Operation.TheVariants.{Workers};
 ghost use Rattle.run_model.specs.Local.{acts, Now, captures as captures_of, constant_value, futures_in, dropped, loaded, pushed, stored, takes as takes_of, twice};
 ghost use Rattle.plain_eval.specs.Frames.{TakesLast, act_of, local_of};
-ghost use Rattle.plain_run.specs.Operation.{operation_of};
+ghost use Rattle.held_operations.specs.Operation.{operation_of};
 
 use crate::frame::Asked;
 use bal_base::Memory;
+use held_operations::Op;
 use operations::Constant;
-use plain_run::Op;
 use std::alloc::Global;
 use value_model::Value;
 

@@ -10,8 +10,8 @@ ghost use Rattle.plain_eval.specs.Held.{Takes, loop_of, tasks_of};
 
 use crate::todo::{Branch, Loop, Task, dos, execs, first};
 use bal_base::Memory;
+use held_operations::Op;
 use operations::LibraryCall;
-use plain_run::Op;
 use typed_tree::{RangeEnd, Source, TypedExpr, TypedStmt};
 
 /// The int in the slot is one more.

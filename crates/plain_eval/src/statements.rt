@@ -4,17 +4,17 @@
 ghost use Rattle.std.specs.Prelude.{◌≡◌, ◌∷◌, ◌++◌, OnOk, map};
 ghost use Rattle.operations.specs.declared.operation.Operation.TheVariants.{Load, Store};
 ghost use Rattle.eval_model.specs.Statements.{branch as branch_of_model, exec as exec_of, match_rows, reads_member as reads_member_of, returns as returns_of, rows as rows_of, sets_member as sets_member_of, updates as updates_of};
-ghost use Rattle.eval_model.specs.Constructs.{perform_operations};
+ghost use Rattle.held_operations.specs.Constructs.{perform_operations};
 ghost use Rattle.eval_model.specs.Tasks.{Do, Eval, dos as dos_of, evals as evals_of};
 ghost use Rattle.plain_eval.specs.Held.{branch_of, pattern_row, tasks_of};
-ghost use Rattle.plain_run.specs.Operation.{operation_of};
+ghost use Rattle.held_operations.specs.Operation.{operation_of};
 
 use crate::constructs::{operator, perform, read};
 use crate::expressions::{chooses, local};
 use crate::loops::{begins_loop, behind_loop, from_loop, raises, round};
 use crate::todo::{Branch, Loop, Task, dos, evals, execs, first};
 use bal_base::Memory;
-use plain_run::{Op, TestedType};
+use held_operations::{Op, TestedType};
 use typed_tree::{
     Operator, PerformForm, Read, TypedClause, TypedExpr, TypedPattern, TypedStmt, UpdateTarget,
 };

@@ -4,10 +4,10 @@
 ghost use Rattle.std.specs.Prelude.{◌≡◌, ◌∷◌, OnOk, map};
 ghost use Rattle.eval_model.specs.Tasks.{dos as dos_of, evals as evals_of, execs as execs_of};
 ghost use Rattle.plain_eval.specs.Held.{task_of, tasks_of};
-ghost use Rattle.plain_run.specs.Operation.{operation_of};
+ghost use Rattle.held_operations.specs.Operation.{operation_of};
 
 use bal_base::Memory;
-use plain_run::{Op, TestedType};
+use held_operations::{Op, TestedType};
 use typed_tree::{RangeEnd, TypedClause, TypedExpr, TypedPattern, TypedStmt};
 use value_model::Value;
 

@@ -3,9 +3,9 @@
 
 ghost use Rattle.std.specs.Prelude.{◌≡◌, ◌∷◌, ◌++◌, [], IfOk, None, OnOk, Some, length, map, replicate};
 ghost use Rattle.operations.specs.declared.operation.Operation.TheVariants.{Return};
-ghost use Rattle.typed_tree.specs.Units.{OfFunction};
+ghost use Rattle.typed_tree.specs.Units.{OfFunction, OfInitialiser, OfWorker};
 ghost use Rattle.eval_model.specs.Tasks.{Do, Eval};
-ghost use Rattle.eval_model.specs.Trees.{body_tasks as body_tasks_of, entered, initialises as initialises_of, starts_named as starts_named_of};
+ghost use Rattle.eval_model.specs.Trees.{at_end as at_end_of, body_tasks as body_tasks_of, entered, initialises as initialises_of, starts_named as starts_named_of};
 ghost use Rattle.machine_model.specs.Machine.{first_slots as first_slots_of};
 ghost use Rattle.plain_eval.specs.Frames.{doing_of};
 ghost use Rattle.plain_eval.specs.Held.{tasks_of};
@@ -15,7 +15,7 @@ use crate::frame::Frame;
 use crate::local::Held;
 use crate::todo::{Task, execs, first};
 use bal_base::Memory;
-use plain_run::Op;
+use held_operations::Op;
 use std::alloc::Global;
 use typed_tree::{Initial, SharedTy, TypedBody, TypedExpr, TypedStmt, TypedUnit, TypedWorker};
 use value_model::Value;
@@ -24,7 +24,8 @@ use value_model::Value;
 #[derive(Clone, Copy)]
 pub enum Body<'a> {
     Function(&'a TypedBody),
-    Worker(&'a [TypedStmt]),
+    /// The statements of a worker, and whether their end is reached.
+    Worker(&'a [TypedStmt], bool),
     /// The value of an anonymous function.
     Anonymous(&'a TypedExpr),
     Initialiser(&'a [Initial]),
@@ -58,10 +59,44 @@ fn body_tasks<'a>(tasks: &mut Vec<Task<'a>>, body: Body<'a>) -> Result<(), Memor
 {
     match body {
         Body::Function(f) => function_tasks(tasks, f),
-        Body::Worker(stmts) => execs(tasks, stmts),
+        Body::Worker(stmts, ends) => worker_tasks(tasks, stmts, ends),
         Body::Anonymous(value) => value_tasks(tasks, value),
-        Body::Initialiser(values) => initialises(tasks, values),
+        Body::Initialiser(values) => initialiser_tasks(tasks, values),
     }
+}
+
+/// Nil is returned, where the end is reached.
+fn at_end<'a>(tasks: &mut Vec<Task<'a>>, ends: bool) -> Result<(), Memory>
+    requires { tasks.old.items ≡ [] }
+    ensures { OnOk result (tasks_of tasks.new.items ≡ at_end_of ends) }
+{
+    if !ends {
+        return Ok(());
+    }
+    first(tasks, Task::Do(Op::Return))?;
+    first(tasks, Task::Do(Op::Nil))
+}
+
+/// What a worker does.
+fn worker_tasks<'a>(
+    tasks: &mut Vec<Task<'a>>,
+    stmts: &'a [TypedStmt],
+    ends: bool,
+) -> Result<(), Memory>
+    requires { tasks.old.items ≡ [] }
+    ensures { OnOk result (tasks_of tasks.new.items ≡ body_tasks_of (OfWorker stmts.now ends)) }
+{
+    at_end(tasks, ends)?;
+    execs(tasks, stmts)
+}
+
+/// What an initialiser does.
+fn initialiser_tasks<'a>(tasks: &mut Vec<Task<'a>>, values: &'a [Initial]) -> Result<(), Memory>
+    requires { tasks.old.items ≡ [] }
+    ensures { OnOk result (tasks_of tasks.new.items ≡ body_tasks_of (OfInitialiser values.now)) }
+{
+    at_end(tasks, true)?;
+    initialises(tasks, values)
 }
 
 /// What a function does.
@@ -74,8 +109,10 @@ fn function_tasks<'a>(tasks: &mut Vec<Task<'a>>, f: &'a TypedBody) -> Result<(),
             initial,
             workers,
             rest,
+            ends,
             ..
         } => {
+            at_end(tasks, *ends)?;
             execs(tasks, rest)?;
             starts_named(tasks, workers)?;
             execs(tasks, initial)
@@ -104,8 +141,7 @@ fn starts_named<'a>(tasks: &mut Vec<Task<'a>>, workers: &[TypedWorker]) -> Resul
 
 /// The variables get their initial values.
 fn initialises<'a>(tasks: &mut Vec<Task<'a>>, values: &'a [Initial]) -> Result<(), Memory>
-    requires { tasks.old.items ≡ [] }
-    ensures { OnOk result (tasks_of tasks.new.items ≡ initialises_of values.now) }
+    ensures { OnOk result (tasks_of tasks.new.items ≡ initialises_of values.now (tasks_of tasks.old.items)) }
 {
     match values {
         [] => Ok(()),

@@ -6,9 +6,9 @@ use Rattle.plain_run.specs.declared.effect.Performed.{Performed}
 use Rattle.plain_run.specs.declared.facts.Facts.{Facts}
 use Rattle.plain_run.specs.declared.held.Asker.{Asker}
 use Rattle.plain_run.specs.declared.held.Common.{Common}
-use Rattle.plain_run.specs.declared.op.Op.{Op}
+use Rattle.held_operations.specs.declared.op.Op.{Op}
 use Rattle.plain_run.specs.Effects.{IsPerformed}
-use Rattle.plain_run.specs.Operation.{operation_of}
+use Rattle.held_operations.specs.Operation.{operation_of}
 use Rattle.plain_run.proofs.Given.{if-ok}
 
 -- `Cause` says why an operation is not told

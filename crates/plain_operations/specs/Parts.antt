@@ -4,9 +4,9 @@ use Rattle.typed_tree.specs.SharedTypes.{sem_of}
 use Rattle.value_model.specs.declared.value.Value.{Value}
 use Rattle.plain_run.specs.declared.facts.Facts.{Facts}
 use Rattle.plain_run.specs.declared.held.Common.{Common}
-use Rattle.plain_run.specs.Operation.{type_of}
-use Rattle.plain_run.specs.declared.op.Op.{Op}
-use Rattle.plain_run.specs.declared.op.Op.TheVariants as op
+use Rattle.held_operations.specs.Operation.{type_of}
+use Rattle.held_operations.specs.declared.op.Op.{Op}
+use Rattle.held_operations.specs.declared.op.Op.TheVariants as op
 use Rattle.plain_tests.specs.Tells.{AreBeyond}
 use Rattle.plain_stores.specs.Questions.{SetItemIsBeyond, SetKeyIsBeyond}
 use Rattle.plain_library.specs.Causes.{IsCallBeyond}

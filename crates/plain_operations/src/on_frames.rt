@@ -1,12 +1,13 @@
 //! Slots, module variables, ticks, calls and the ends of frames.
 ghost use Rattle.std.specs.Prelude.{IfOk};
 ghost use Rattle.plain_run.specs.Effects.{IsPerformed, Stays};
-ghost use Rattle.plain_run.specs.Operation.{operation_of};
+ghost use Rattle.held_operations.specs.Operation.{operation_of};
 ghost use Rattle.plain_operations.specs.Parts.{IsBeforeFrames, part_of};
 
 use bal_base::Memory;
+use held_operations::Op;
 use plain_run::{
-    Asker, Common, Facts, Op, Performed, perform_call, perform_load, perform_load_module,
+    Asker, Common, Facts, Performed, perform_call, perform_load, perform_load_module,
     perform_panic, perform_return, perform_store_module, perform_tick,
 };
 use std::alloc::Global;

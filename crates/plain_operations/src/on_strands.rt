@@ -1,13 +1,14 @@
 //! Calls of function values, strands, workers, messages and waits.
 ghost use Rattle.std.specs.Prelude.{IfOk};
 ghost use Rattle.plain_run.specs.Effects.{IsPerformed, Stays};
-ghost use Rattle.plain_run.specs.Operation.{operation_of};
+ghost use Rattle.held_operations.specs.Operation.{operation_of};
 ghost use Rattle.plain_operations.specs.Parts.{IsBeforeStrands, part_of};
 
 use crate::on_structures::on_structures;
 use bal_base::Memory;
+use held_operations::Op;
 use plain_calls::{perform_call_value, perform_start, perform_start_value, perform_workers};
-use plain_run::{Asker, Common, Facts, Op, Performed};
+use plain_run::{Asker, Common, Facts, Performed};
 use plain_strands::{
     perform_done, perform_flush, perform_post, perform_receive, perform_send, perform_wait_all,
     perform_wait_any, perform_wait_future, perform_wait_worker,

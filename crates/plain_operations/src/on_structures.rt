@@ -1,12 +1,13 @@
 //! Operations that make structures, errors and functions, and those that read members and characters.
 ghost use Rattle.std.specs.Prelude.{IfOk};
 ghost use Rattle.plain_run.specs.Effects.{IsPerformed, Stays};
-ghost use Rattle.plain_run.specs.Operation.{operation_of};
+ghost use Rattle.held_operations.specs.Operation.{operation_of};
 ghost use Rattle.plain_operations.specs.Parts.{IsBeforeStructures, part_of};
 
 use crate::on_values::on_values;
 use bal_base::Memory;
-use plain_run::{Asker, Common, Facts, Op, Performed, perform_make_function, perform_make_list};
+use held_operations::Op;
+use plain_run::{Asker, Common, Facts, Performed, perform_make_function, perform_make_list};
 use plain_structures::{
     perform_get_char, perform_get_field, perform_get_item, perform_get_key, perform_get_optional,
     perform_make_error, perform_make_mapping,

@@ -1,13 +1,14 @@
 //! Ints, booleans and strings, and what is the same.
 ghost use Rattle.std.specs.Prelude.{IfOk};
 ghost use Rattle.plain_run.specs.Effects.{IsPerformed, Stays};
-ghost use Rattle.plain_run.specs.Operation.{operation_of};
+ghost use Rattle.held_operations.specs.Operation.{operation_of};
 ghost use Rattle.plain_operations.specs.Parts.{IsBeforeValues, part_of};
 
 use crate::on_frames::on_frames;
 use bal_base::Memory;
+use held_operations::Op;
 use plain_run::{
-    Asker, Common, Comparison, Facts, Ints, Op, Performed, perform_compare, perform_concat,
+    Asker, Common, Comparison, Facts, Ints, Performed, perform_compare, perform_concat,
     perform_ints, perform_negate, perform_not, perform_same,
 };
 use std::alloc::Global;

@@ -1,14 +1,15 @@
 //! The table of operations, part by part: each part has its own operations, and asks the next one for all others.
 ghost use Rattle.std.specs.Prelude.{IfOk};
 ghost use Rattle.plain_run.specs.Effects.{IsPerformed, Stays};
-ghost use Rattle.plain_run.specs.Operation.{operation_of};
+ghost use Rattle.held_operations.specs.Operation.{operation_of};
 ghost use Rattle.plain_operations.specs.Parts.{IsUntold};
 
 use crate::on_strands::on_strands;
 use bal_base::Memory;
+use held_operations::Op;
 use plain_equality::perform_equal;
 use plain_library::perform_library;
-use plain_run::{Asker, Common, Facts, Op, Performed};
+use plain_run::{Asker, Common, Facts, Performed};
 use plain_stores::{perform_set_item, perform_set_key};
 use plain_tests::{perform_cast, perform_test};
 use std::alloc::Global;

@@ -4,7 +4,6 @@
 //! - [`Common`] and its parts: what a run holds. `specs/Held.antt` says what it stands for.
 //! - [`Facts`] and its parts: what is known of the program; `specs/Facts.antt`.
 //! - [`Performed`] and [`Effect`]: what is answered for an operation; `specs/Effects.antt`, `IsPerformed`.
-//! - [`Op`]: operations, with references to what a tree holds; `specs/Operation.antt`.
 //! - [`perform_ints`], [`perform_negate`] and [`perform_not`]: ints and booleans.
 //! - [`perform_compare`] and [`perform_same`]: comparisons; [`perform_concat`]: strings.
 //! - [`perform_load`], [`perform_load_module`], [`perform_store_module`] and [`perform_tick`]: slots, module variables and ticks.
@@ -27,7 +26,6 @@ mod held;
 mod ints;
 mod making;
 mod needs;
-mod op;
 mod strands;
 mod strings;
 mod values;
@@ -46,7 +44,6 @@ pub use held::{
 };
 pub use making::{MOST_ITEMS, gives_function, gives_structure, new_structure, size_of};
 pub use needs::{channel, has_ended, has_success, is_met, is_success, strand_end, worker_end};
-pub use op::{Op, TestedType};
 pub use strands::{block, end_strand, end_worker, settle};
 pub use strings::{MOST_CODE_POINTS, gives_text, perform_concat};
 pub use values::{

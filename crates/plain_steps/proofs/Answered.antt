@@ -13,13 +13,13 @@ use Rattle.eval_model.specs.Tasks.{Doing}
 use Rattle.plain_run.specs.Facts.{facts_of}
 use Rattle.plain_run.specs.Held.{asker_of, common_of, role_of}
 use Rattle.plain_operations.specs.Parts.{IsUntold}
-use Rattle.plain_run.specs.Operation.{operation_of}
+use Rattle.held_operations.specs.Operation.{operation_of}
 use Rattle.plain_run.specs.Effects.{EffectStays, IsPerformed, effect_of}
 use Rattle.plain_run.specs.declared.effect.Performed.TheVariants as effects_done
 use Rattle.plain_run.specs.declared.effect.Effect.{Effect as HeldEffect}
 use Rattle.plain_run.specs.declared.effect.Effect.TheVariants as effects
 use Rattle.plain_run.specs.declared.held.Common.{Common as HeldCommon}
-use Rattle.plain_run.specs.declared.op.Op.{Op}
+use Rattle.held_operations.specs.declared.op.Op.{Op}
 use Rattle.plain_steps.specs.declared.carrying.Next.TheVariants.{Moved}
 use Rattle.plain_steps.specs.declared.carrying.Stepped.{Stepped}
 use Rattle.plain_steps.specs.declared.carrying.Stepped.TheVariants.{Did, NeedsTick, Limit, NoUnit, Stuck, Untold}

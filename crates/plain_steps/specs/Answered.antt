@@ -12,8 +12,8 @@ use Rattle.eval_model.specs.Tasks.{Doing}
 use Rattle.plain_run.specs.Held.{common_of}
 use Rattle.plain_run.specs.declared.held.Common.{Common}
 use Rattle.plain_operations.specs.Parts.{IsUntold}
-use Rattle.plain_run.specs.Operation.{operation_of}
-use Rattle.plain_run.specs.declared.op.Op.{Op}
+use Rattle.held_operations.specs.Operation.{operation_of}
+use Rattle.held_operations.specs.declared.op.Op.{Op}
 use Rattle.plain_steps.specs.declared.carrying.Stepped.{Stepped}
 use Rattle.plain_steps.specs.declared.carrying.Stepped.TheVariants.{Did, NeedsTick, Limit, NoUnit, Stuck, Untold}
 use Rattle.plain_steps.specs.declared.held.Program.{Program}

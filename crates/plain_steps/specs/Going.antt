@@ -11,9 +11,9 @@ use Rattle.machine_model.specs.Runs.{Phase, Picking, Reaches, next_operation}
 use Rattle.eval_model.specs.Tasks.{Doing}
 use Rattle.plain_operations.specs.Parts.{IsUntold}
 use Rattle.plain_run.specs.Held.{common_of}
-use Rattle.plain_run.specs.Operation.{operation_of}
+use Rattle.held_operations.specs.Operation.{operation_of}
 use Rattle.plain_run.specs.declared.held.Common.{Common as HeldCommon}
-use Rattle.plain_run.specs.declared.op.Op.{Op}
+use Rattle.held_operations.specs.declared.op.Op.{Op}
 use Rattle.plain_steps.specs.Answered.{MissesUnit}
 use Rattle.plain_steps.specs.States.{machine_of, state_of}
 use Rattle.plain_steps.specs.declared.carrying.Next.TheVariants.{Moved, Blocked, Ended}

@@ -5,13 +5,14 @@ ghost use Rattle.typed_tree.specs.SharedTypes.{sem_of};
 ghost use Rattle.plain_run.specs.declared.held.Asker.{Asker as AskerOf};
 ghost use Rattle.plain_run.specs.Came.{WorldStays, came_of};
 ghost use Rattle.plain_run.specs.Effects.{IsPerformed, Stays};
-ghost use Rattle.plain_run.specs.Operation as operations;
+ghost use Rattle.held_operations.specs.Operation as operations;
 ghost use Rattle.plain_tests.specs.Tells.{AreBeyond, IsCast, Tells};
 
 use crate::belonging::belongs;
 use bal_base::Memory;
+use held_operations::TestedType;
 use operations::Constant;
-use plain_run::{Came, Common, Facts, Heap, Performed, TestedType, World, lifted, panics, told};
+use plain_run::{Came, Common, Facts, Heap, Performed, World, lifted, panics, told};
 use std::alloc::Global;
 use type_model::{BasicSet, SemType};
 use typed_tree::SharedTy;

@@ -6,6 +6,7 @@ pub mod Effects
 pub mod Equality
 pub mod Facts
 pub mod Fillers
+pub mod Inherent
 pub mod Kids
 pub mod Laws
 pub mod Levels

@@ -8,7 +8,7 @@
 //!
 //! - `Commands`: what each instruction means, an operation or where to go on; `CodeMachine`: the machine of a code, over
 //!   the machines of `machine_model`.
-//! - `Places`: what is known at a place; `Talk`: what an operation says to workers; `Flow`: the typing of one place; `Messages`: those between workers; `Uses`: what an operation uses; `Tables`: the
+//! - `Places`: what is known at a place; `Flow`: the typing of one place; `Messages`: those between workers; `Tables`: the
 //!   fields of a code; `WellTyped`: all of these.
 //! - `Good`: what holds of each state that well-typed code reaches.
 //! - `Laws`.

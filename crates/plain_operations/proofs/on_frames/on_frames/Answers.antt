@@ -1,5 +1,5 @@
 use Rattle.std.proofs.Common.{refl}
-use Rattle.plain_run.specs.declared.op.Op.TheVariants as op
+use Rattle.held_operations.specs.declared.op.Op.TheVariants as op
 use Rattle.plain_operations.specs.Parts.{IsBeforeFrames, part_of}
 use Rattle.plain_operations.proofs.Arms.{arm, arm-any, arm-one}
 use Rattle.plain_run.proofs.Given.{if-ok}

@@ -1,4 +1,4 @@
-use Rattle.plain_run.specs.declared.op.Op.TheVariants as op
+use Rattle.held_operations.specs.declared.op.Op.TheVariants as op
 use Rattle.plain_operations.specs.Parts.{IsBeforeStrands, part_of}
 use Rattle.plain_operations.proofs.Arms.{arm-any, arm-asked, arm-known, arm-one}
 use Rattle.plain_operations.proofs.on_strands.on_strands.Goals as goal

@@ -1,4 +1,4 @@
-use Rattle.plain_run.specs.declared.op.Op.TheVariants as op
+use Rattle.held_operations.specs.declared.op.Op.TheVariants as op
 use Rattle.plain_operations.specs.Parts.{IsBeforeStructures, part_of}
 use Rattle.plain_operations.proofs.Arms.{arm-any, arm-one}
 use Rattle.plain_operations.proofs.on_structures.on_structures.Goals as goal

@@ -1,4 +1,4 @@
-use Rattle.plain_run.specs.declared.op.Op.TheVariants as op
+use Rattle.held_operations.specs.declared.op.Op.TheVariants as op
 use Rattle.plain_operations.specs.Parts.{IsBeforeValues, part_of}
 use Rattle.plain_operations.proofs.Arms.{arm, arm-any, arm-one}
 use Rattle.plain_operations.proofs.on_values.on_values.Goals as goal

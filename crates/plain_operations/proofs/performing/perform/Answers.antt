@@ -1,4 +1,4 @@
-use Rattle.plain_run.specs.declared.op.Op.TheVariants as op
+use Rattle.held_operations.specs.declared.op.Op.TheVariants as op
 use Rattle.plain_operations.specs.Parts.{IsUntold}
 use Rattle.plain_operations.proofs.Arms.{arm, arm-any, arm-asked}
 use Rattle.plain_operations.proofs.performing.perform.Goals as goal

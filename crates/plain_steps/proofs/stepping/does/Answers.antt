@@ -3,7 +3,7 @@ use Rattle.plain_eval.specs.Frames.{doing_of}
 use Rattle.plain_run.specs.Effects.{IsPerformed, Stays, effect_of}
 use Rattle.plain_run.specs.Held.{common_of}
 use Rattle.plain_operations.specs.Parts.{IsUntold}
-use Rattle.plain_run.specs.Operation.{operation_of}
+use Rattle.held_operations.specs.Operation.{operation_of}
 use Rattle.plain_run.specs.declared.held.Asker.{Asker}
 use Rattle.plain_steps.specs.Answered.{over}
 use Rattle.plain_steps.specs.Steps.{asked_of}

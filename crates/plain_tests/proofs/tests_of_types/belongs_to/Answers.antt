@@ -1,5 +1,5 @@
 use Rattle.std.proofs.Common.{◌≡◌, IfOk, rules, subst, sym}
-use Rattle.plain_run.specs.Operation.{type_of}
+use Rattle.held_operations.specs.Operation.{type_of}
 use Rattle.plain_tests.specs.Tells.{Tells}
 use Rattle.plain_tests.proofs.tests_of_types.belongs_to.Goals as goal
 

@@ -2,7 +2,7 @@ use Rattle.std.proofs.Common.{◌∷◌, [], subst, sym}
 use Rattle.operations.specs.declared.operation.Operation.TheVariants as operation
 use Rattle.plain_run.proofs.Operands.{one-item}
 use Rattle.plain_run.specs.Effects.{IsPerformed}
-use Rattle.plain_run.specs.Operation.{type_of}
+use Rattle.held_operations.specs.Operation.{type_of}
 use Rattle.plain_tests.specs.Tells.{AreBeyond, Tells}
 use Rattle.plain_tests.proofs.Doing.{test-done}
 use Rattle.plain_tests.proofs.tests_of_types.perform_test.Goals as goal

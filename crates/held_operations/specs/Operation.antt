@@ -6,10 +6,10 @@ use Rattle.operations.specs.declared.operation.Constant.TheVariants as constant
 use Rattle.operations.specs.declared.operation.Operation.{Operation}
 use Rattle.operations.specs.declared.operation.Operation.TheVariants as operation
 use Rattle.typed_tree.specs.SharedTypes.{sem_of}
-use Rattle.plain_run.specs.declared.op.Op.{Op}
-use Rattle.plain_run.specs.declared.op.Op.TheVariants as op
-use Rattle.plain_run.specs.declared.op.TestedType.{TestedType}
-use Rattle.plain_run.specs.declared.op.TestedType.TheVariants as tested
+use Rattle.held_operations.specs.declared.op.Op.{Op}
+use Rattle.held_operations.specs.declared.op.Op.TheVariants as op
+use Rattle.held_operations.specs.declared.op.TestedType.{TestedType}
+use Rattle.held_operations.specs.declared.op.TestedType.TheVariants as tested
 
 -- the type of one constant
 abbrev pub singleton : Constant → SemType
