@@ -1,0 +1,4 @@
+pub mod Counts
+pub mod Numberings
+pub mod Paired
+pub mod Plans
