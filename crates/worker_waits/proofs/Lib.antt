@@ -1,0 +1,4 @@
+pub mod Left
+pub mod LeftStmts
+pub mod NoRing
+pub mod NoStall

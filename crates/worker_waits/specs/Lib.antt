@@ -1,0 +1,4 @@
+pub mod Laws
+pub mod Left
+pub mod Standing
+pub mod Waiting

@@ -1,0 +1,25 @@
+//! Laws of workers that wait. These calls do nothing: their clauses are laws.
+ghost use Rattle.worker_waits.specs.Laws.{EndsAll, EvalKeepsEvents, ExecKeepsEvents, RingsNever, SilenceShowsNothing};
+
+use machine_model::AnyMachine;
+
+/// Where the workers of an activation stand among events that are paired and numbered, no workers of it wait for one another.
+pub fn workers_in_no_ring<M: AnyMachine>()
+    ensures { RingsNever M.machine }
+{}
+
+/// Where only workers were started, and none wait for one another, all strands have ended when none is ready.
+pub fn workers_end_all<M: AnyMachine>()
+    ensures { EndsAll M.machine }
+{}
+
+/// What is left to be made stays the same, where an expression is taken apart.
+pub fn expressions_keep_events()
+    ensures keeps { EvalKeepsEvents }
+    ensures silent { SilenceShowsNothing }
+{}
+
+/// And so it does where statements are taken apart.
+pub fn statements_keep_events()
+    ensures { ExecKeepsEvents }
+{}
