@@ -1,12 +1,11 @@
 -- The ways through a tree are ways through what a frame has to do for it.
-use Rattle.std.proofs.Common.{◌≡◌, ℕ, ◌+◌, ◌++◌, List, [], ◌∷◌, Option, Some, None, refl, sym, subst, ap, ◌∙◌, map, Bool, true, false}
+use Rattle.std.proofs.Common.{◌≡◌, ℕ, ◌+◌, ◌++◌, List, [], ◌∷◌, Option, Some, None, refl, sym, subst, map, true, false}
 use Rattle.std.specs.Prelude.{length, negsuc}
-use Rattle.type_model.specs.declared.basic.SemType.{SemType}
 use Rattle.operations.specs.declared.library.LibraryCall.TheVariants.{ListLength}
 use Rattle.operations.specs.declared.operation.Constant.{Constant}
 use Rattle.operations.specs.declared.operation.Constant.TheVariants as constant
 use Rattle.operations.specs.declared.operation.Operation.{Operation}
-use Rattle.operations.specs.declared.operation.Operation.TheVariants.{Const, Load, Store, Tick, Less, LessEqual, GetItem, Library, Test, Return as ReturnOp}
+use Rattle.operations.specs.declared.operation.Operation.TheVariants.{Const, Load, Store, Less, LessEqual, GetItem, Library, Test, Return as ReturnOp}
 use Rattle.value_model.specs.declared.value.Value.{Value}
 use Rattle.typed_tree.specs.declared.expr.TypedExpr.{TypedExpr, out-TypedExpr, Strict', Implied, Local as Variable, And', Or', Conditional', Elvis', Check', Trap', Function', Parens', Row_of-TypedExpr, end_of-TypedExpr, more_of-TypedExpr, items-the_row-TypedExpr as exprs_in, items_shown-the_row-TypedExpr-0 as exprs-shown}
 use Rattle.typed_tree.specs.declared.form.Operator.{Operator}
@@ -25,13 +24,13 @@ use Rattle.std.specs.formers.vec.Vec
 use Rattle.typed_tree.specs.declared.unit.Captured.{Captured}
 use Rattle.typed_tree.specs.SharedTypes.{sem_of}
 use Rattle.held_operations.specs.Constructs.{operations_of, operator_operations, perform_operations}
-use Rattle.eval_model.specs.Expressions.{captures, check_ends, error_type, eval, makes_function, narrowed_to, nil_type}
+use Rattle.eval_model.specs.Expressions.{captures, check_ends, error_type, eval, nil_type}
 use Rattle.eval_model.specs.Loops.{begins_loop, behind_loop, from_loop, raises, round, tries as eval_tries, turn}
 use Rattle.held_operations.specs.Operation.{singleton}
 use Rattle.eval_model.specs.Statements.{branch, exec, match_rows, reads_member, rows, tries_row, updates}
 use Rattle.eval_model.specs.Tasks.{Loop, AsLongAs, OverRange, OverList, MatchRow, Branch, Whole, These, Kept, Block, Round, Rows, Task, Eval, Exec, Do, Get, Choose, Turn, Guard, dos, evals, execs}
-use Rattle.eval_model.specs.Walk.{CapturesOver, OpsOver, KeptOver, ForkOver, ExprOver, RowOver, ExprsOver, UpdateOver, TriesOver, PreparesOver, LoopOver, loop_of, BeginsOver, PatternOver, PatternsOver, StmtOver, StmtsOver, ClausesOver, BlockOver}
-use Rattle.eval_model.specs.TaskWalk.{body_of, ThenOver, TurnsOver, RoundOver, MatchRowOver, RowsOver, BranchOver, ChoiceOver, TaskOver, TasksOver}
+use Rattle.eval_model.specs.Walk.{CapturesOver, OpsOver, ForkOver, ExprOver, RowOver, ExprsOver, UpdateOver, TriesOver, PreparesOver, LoopOver, loop_of, BeginsOver, PatternOver, PatternsOver, StmtOver, StmtsOver, ClausesOver, BlockOver}
+use Rattle.eval_model.specs.TaskWalk.{body_of, ThenOver, TurnsOver, RoundOver, MatchRowOver, RowsOver, BranchOver, TasksOver}
 use Rattle.eval_model.specs.Laws.{ChoiceKeepsWays, EvalKeepsWays, ExecKeepsWays, TurnKeepsWays}
 use Rattle.eval_model.specs.Ways.{Ways, Turns, AreWays}
 

@@ -16,7 +16,7 @@ use Rattle.typed_tree.specs.declared.stmt.UpdateTarget.TheVariants.{Local, Varia
 use Rattle.typed_tree.specs.declared.unit.TypedBody.TheVariants.{Block as BlockBody, Expr as ValueBody}
 use Rattle.typed_tree.specs.ExprLayers.{TypedExprOf, of_typed_expr}
 use Rattle.typed_tree.specs.Listed.{Listed, nothing, one, ◌&◌, joined, if_boxed, members}
-use Rattle.typed_tree.specs.StmtLayers.{TypedStmtOf, TypedClauseOf, TypedStmtSteps, of_typed_stmt}
+use Rattle.typed_tree.specs.StmtLayers.{TypedStmtOf, TypedClauseOf, of_typed_stmt}
 use Rattle.typed_tree.specs.Units.{UnitBody, OfFunction, OfWorker, OfAnonymous, OfInitialiser, UnitTree, unit_at, units_of}
 use Rattle.held_operations.specs.Constructs.{operations_of}
 use Rattle.run_model.specs.Inherent.{IsInherent}

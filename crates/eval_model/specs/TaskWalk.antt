@@ -1,5 +1,5 @@
 -- The ways through what a frame of a tree still has to do.
-use Rattle.std.specs.Prelude.{◌≡◌, ◌+◌, ℕ, List, [], ◌∷◌, Option, Some, None, true, false}
+use Rattle.std.specs.Prelude.{◌≡◌, ℕ, List, [], ◌∷◌, Option, Some, None, true, false}
 use Rattle.operations.specs.declared.operation.Constant.{Constant}
 use Rattle.operations.specs.declared.operation.Operation.TheVariants.{Load, Test}
 use Rattle.typed_tree.specs.declared.stmt.TypedStmt.{TypedStmt}

@@ -14,7 +14,7 @@ use Rattle.typed_tree.specs.Units.{UnitBody, OfFunction, OfWorker, OfAnonymous, 
 use Rattle.run_model.specs.Facts.{Facts, UnitFacts, WorkerFacts}
 use Rattle.run_model.specs.Levels.{numbers_from}
 use Rattle.run_model.specs.Local.{Local, acts, with_stack}
-use Rattle.machine_model.specs.Machine.{Ask, On, Does, Stuck, Launch, Machine, asks, captured_slots, first_slots, words_of}
+use Rattle.machine_model.specs.Machine.{Ask, On, Stuck, Launch, Machine, asks, captured_slots, first_slots, words_of}
 use Rattle.eval_model.specs.Expressions.{eval}
 use Rattle.eval_model.specs.Loops.{turn}
 use Rattle.eval_model.specs.Statements.{branch, exec}

@@ -1,6 +1,6 @@
 -- The ways through a tree: which operations are done one behind another, and where ways part and meet. What a point is, is
 -- left open: a place of code, what is known of slots there, or the types of the operands that are there.
-use Rattle.std.specs.Prelude.{◌≡◌, ◌+◌, ◌++◌, ℕ, List, [], ◌∷◌, Option, Some, None, Bool, true, false, IsSomeAnd, length, negsuc}
+use Rattle.std.specs.Prelude.{◌+◌, ◌++◌, ℕ, List, [], ◌∷◌, Option, Some, None, true, false, IsSomeAnd, length, negsuc}
 use Rattle.type_model.specs.declared.basic.SemType.{SemType}
 use Rattle.operations.specs.declared.library.LibraryCall.TheVariants.{ListLength}
 use Rattle.operations.specs.declared.operation.Constant.{Constant}

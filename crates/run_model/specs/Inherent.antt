@@ -1,6 +1,6 @@
 -- With which atoms a program makes its structures, functions and futures: those that it names, and those with which gaps of its
 -- lists are filled.
-use Rattle.std.specs.Prelude.{◌≡◌, ◌++◌, ℕ, List, [], ◌∷◌, Option, Some, Contains, map, option_to_list, slice_get, ⊤}
+use Rattle.std.specs.Prelude.{◌≡◌, ◌++◌, ℕ, List, [], ◌∷◌, Some, Contains, map, option_to_list, slice_get, ⊤}
 use Rattle.type_model.specs.declared.basic.Ty.{Ty}
 use Rattle.type_model.specs.declared.basic.Choice.{Choice}
 use Rattle.type_model.specs.declared.atoms.AtomDef.{AtomDef}

@@ -1,7 +1,7 @@
 -- Small crews: which have a numbering.
-use Rattle.std.proofs.Common.{◌≡◌, ◌<◌, ℕ, zero, suc, ◌+◌, ◌*◌, List, [], ◌∷◌, Some, refl, arith}
+use Rattle.std.proofs.Common.{◌<◌, ℕ, zero, suc, ◌+◌, ◌*◌, [], ◌∷◌, Some, refl, arith}
 use Rattle.std.specs.Prelude.{length}
-use Rattle.typed_tree.specs.declared.event.EventKind.TheVariants.{Send, Receive, Flush, Wait, End}
+use Rattle.typed_tree.specs.declared.event.EventKind.TheVariants.{Send, Receive, Flush, End}
 use Rattle.worker_pairing.specs.Cases.{FlushesNothing, RingHasNone, WaitsForItself}
 use Rattle.worker_pairing.specs.Events.{Crew, Needs, events_of}
 

@@ -5,7 +5,7 @@ use Rattle.std.proofs.lemmas.Bool.{cases_lt, eq-eqb, eqb-true, false≢true, fal
 use Rattle.typed_tree.specs.declared.event.EventKind.{EventKind}
 use Rattle.typed_tree.specs.declared.event.EventKind.TheVariants.{Send, Post, Done, Receive, Flush, Wait, End}
 use Rattle.worker_pairing.specs.Events.{before, receives_from, sends_to}
-use Rattle.worker_pairing.specs.Faults.{has_no_peer, is_left, is_other, names_other, is_unpaired, kinds_of, place_on, other_side, received_in, route, sent_in}
+use Rattle.worker_pairing.specs.Faults.{is_left, is_other, names_other, is_unpaired, kinds_of, place_on, other_side, received_in, route, sent_in}
 use Rattle.worker_pairing.specs.Laws.{AllPaired, PairsUp}
 use Rattle.worker_pairing.specs.Marks.{Members, Numbered, Saying, in_text, in_turn, is_initial, kinds, numbered_from}
 use Rattle.worker_pairing.proofs.Counts.{nth-there}

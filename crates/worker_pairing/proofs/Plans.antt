@@ -1,17 +1,15 @@
 -- Where checks of each in turn let all through, none is bad; and where a plan comes, messages pair up.
-use Rattle.std.proofs.Common.{◌≡◌, ℕ, zero, suc, List, [], ◌∷◌, refl, sym, subst, Bool, true, false, arith}
+use Rattle.std.proofs.Common.{◌≡◌, zero, suc, List, [], ◌∷◌, refl, subst, Bool, true, false, arith}
 use Rattle.std.specs.Prelude.{Contains}
 use Rattle.bal_base.specs.declared.fault.Fault.{Fault}
-use Rattle.bal_base.specs.declared.place.Place.{Place}
 use Rattle.type_model.specs.declared.answers.TypeLimit.{TypeLimit}
 use Rattle.type_model.specs.declared.atoms.AtomDef.{AtomDef}
 use Rattle.type_model.specs.Calls.{Asked}
 use Rattle.typed_tree.specs.declared.event.Plan.{Plan}
-use Rattle.checks.specs.Checks.{Check, Gives, gives, gives_some, refuses, either, ◌▷◌}
-use Rattle.worker_pairing.specs.Events.{ArePaired, IsNumbering}
-use Rattle.worker_pairing.specs.Faults.{Atoms, IsPlan, crew_of, has_no_peer, is_unpaired, none_bad, ordered, plans, rank_in}
+use Rattle.checks.specs.Checks.{Check, Gives, refuses, either, ◌▷◌}
+use Rattle.worker_pairing.specs.Faults.{Atoms, IsPlan, has_no_peer, is_unpaired, none_bad, ordered}
 use Rattle.worker_pairing.specs.Laws.{PlansPairUp}
-use Rattle.worker_pairing.specs.Marks.{Members, Numbered, in_text}
+use Rattle.worker_pairing.specs.Marks.{Members, in_text}
 use Rattle.worker_pairing.proofs.Paired.{pairs-up}
 
 -- what stands in front of a chain gave something, and what stands behind it the rest

@@ -1,12 +1,12 @@
 -- Worked cases of the definitions, reasoned out by hand.
-use Rattle.std.specs.Prelude.{◌≡◌, ℕ, Bool, true, false, List, [], ◌∷◌, Option, Some, None, map}
+use Rattle.std.specs.Prelude.{◌≡◌, ℕ, Bool, true, false, [], ◌∷◌, Some, None, map}
 use Rattle.bal_base.specs.declared.fault.Kept.TheVariants as kept
 use Rattle.bal_base.specs.declared.place.Place.{Place}
 use Rattle.typed_tree.specs.declared.event.EventKind.{EventKind}
-use Rattle.typed_tree.specs.declared.event.EventKind.TheVariants.{Send, Post, Done, Receive, Flush, Wait, End}
+use Rattle.typed_tree.specs.declared.event.EventKind.TheVariants.{Send, Post, Receive, Flush, Wait, End}
 use Rattle.typed_tree.specs.Listed.{Listed, nothing, one, ◌&◌}
 use Rattle.worker_pairing.specs.Events.{Crew, IsOrderable}
-use Rattle.worker_pairing.specs.Faults.{counts, crew_of, has_no_peer, is_conditional, is_unpaired, pairs_of, pair_with, rank_in, route}
+use Rattle.worker_pairing.specs.Faults.{counts, crew_of, has_no_peer, is_unpaired, pairs_of, pair_with, rank_in, route}
 use Rattle.worker_pairing.specs.Marks.{Mark, Says, Early, Returns, Member, Members, Numbered, Saying, in_text, member_of, nil_type, set_apart}
 
 abbrev pub here : ℕ → Place

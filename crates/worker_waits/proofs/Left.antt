@@ -1,5 +1,5 @@
 -- What is left to be made stays the same while trees are taken apart.
-use Rattle.std.proofs.Common.{◌≡◌, ℕ, ◌++◌, List, [], ◌∷◌, Option, Some, None, length, map, refl, sym, subst, ap, ◌∙◌, arith, true, false}
+use Rattle.std.proofs.Common.{◌≡◌, ℕ, List, [], ◌∷◌, Option, Some, None, refl, sym, subst, ap, ◌∙◌, arith, true, false}
 use denote.Hole.Carrier
 use Rattle.operations.specs.declared.operation.Operation.{Operation}
 use Rattle.value_model.specs.declared.value.Value.{Value}

@@ -4,7 +4,7 @@ use Rattle.std.specs.Global.{Box}
 use Rattle.operations.specs.declared.operation.Operation.{Operation}
 use Rattle.operations.specs.declared.operation.Operation.TheVariants as op
 use Rattle.typed_tree.specs.declared.event.EventKind.{EventKind}
-use Rattle.typed_tree.specs.declared.event.EventKind.TheVariants.{Send, Post, Done, Receive, Flush, Wait, End}
+use Rattle.typed_tree.specs.declared.event.EventKind.TheVariants.{Send, Post, Done, Receive, Flush, Wait}
 use Rattle.typed_tree.specs.declared.expr.TypedExpr.{TypedExpr}
 use Rattle.typed_tree.specs.declared.expr.TypedExpr.TheOpen as layer
 use Rattle.typed_tree.specs.declared.form.StrictForm.{StrictForm}

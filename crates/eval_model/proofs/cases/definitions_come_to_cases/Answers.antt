@@ -1,4 +1,4 @@
-use Rattle.std.proofs.Common.{◌≡◌, [], ◌++◌, ◌∷◌, refl, subst, ap, ◌∙◌, List}
+use Rattle.std.proofs.Common.{[], ◌++◌, ◌∷◌, refl, subst, ap, ◌∙◌, List}
 use Rattle.operations.specs.declared.operation.Operation.{Operation}
 use Rattle.operations.specs.declared.operation.Operation.TheVariants.{Store}
 use Rattle.eval_model.specs.Cases.{done_so_far}
