@@ -70,11 +70,12 @@ fn at_end<'a>(tasks: &mut Vec<Task<'a>>, ends: bool) -> Result<(), Memory>
     requires { tasks.old.items ≡ [] }
     ensures { OnOk result (tasks_of tasks.new.items ≡ at_end_of ends) }
 {
-    if !ends {
-        return Ok(());
+    if ends {
+        first(tasks, Task::Do(Op::Return))?;
+        first(tasks, Task::Do(Op::Nil))
+    } else {
+        Ok(())
     }
-    first(tasks, Task::Do(Op::Return))?;
-    first(tasks, Task::Do(Op::Nil))
 }
 
 /// What a worker does.
