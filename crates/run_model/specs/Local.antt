@@ -56,15 +56,16 @@ taken op l (suc n) args [] = Never
 abbrev pub takes : Operation → Local → ℕ → Act
 takes op l n = taken op l n [] l.stack
 
--- what is in these slots; the first one that was never stored is loaded instead
+-- what is in a slot, with which it goes on; a slot that was never stored is loaded instead
+abbrev pub captured_from : Local → ℕ → Option (Option Value) → (Value → Act) → Act
+captured_from l slot (Some (Some v)) go = go v
+captured_from l slot (Some None) go = Later (Load slot) [] l
+captured_from l slot None go = Never
+
+-- what is in these slots, or the first load of one that was never stored
 abbrev pub captures : Operation → Local → List ℕ → List Value → Act
 captures op l [] vs = Later op vs l
-captures op l (slot ∷ slots) vs = by (slice_get l.slots slot) (λ v. captures op l slots (vs ++ v ∷ []))
-  where
-    by : Option (Option Value) → (Value → Act) → Act
-    by (Some (Some v)) go = go v
-    by (Some None) go = Later (Load slot) [] l
-    by None go = Never
+captures op l (slot ∷ slots) vs = captured_from l slot (slice_get l.slots slot) (λ v. captures op l slots (vs ++ v ∷ []))
 
 -- the futures among the names of a wait, which are operands
 abbrev pub futures_in : List (Option ℕ) → ℕ
