@@ -1,19 +1,20 @@
 -- The typing of one place: its operands, where it goes on, and what must be known there.
-use Rattle.std.specs.Prelude.{◌≡◌, ◌≤◌, ◌++◌, ◌+◌, ℕ, suc, List, [], ◌∷◌, Option, Some, None, IsSomeAnd, All, Contains, get_or, length, option_map, option_to_list, replicate, slice_set}
+use Rattle.std.specs.Prelude.{◌≡◌, ◌≢◌, ◌≤◌, ◌++◌, ◌+◌, ℕ, suc, List, [], ◌∷◌, Option, Some, None, IsSomeAnd, All, Contains, get_or, length, option_map, option_to_list, replicate, slice_set}
 use Rattle.std.specs.List.{AllZip}
 use Rattle.type_model.specs.declared.basic.BasicSet.TheVariants.{ErrorAll}
 use Rattle.type_model.specs.declared.basic.SemType.{SemType, Basic}
+use Rattle.type_model.specs.Defined.{IsDefined}
 use Rattle.type_model.specs.Inclusion.{HaveSameShapes}
 use Rattle.operations.specs.declared.operation.Operation.{Operation}
 use Rattle.operations.specs.declared.operation.Operation.TheVariants as op
 use Rattle.operations.specs.Kinds.{IsBoolean}
 use Rattle.operations.specs.Rows.{AreBelow, IsWithin}
+use Rattle.operations.specs.Talk.{Talk, Sends, Receives, Flushes, StartsWorkers, AwaitsWorkers, NoTalk, talk_of}
 use Rattle.operations.specs.Typing.{OpTyped}
 use Rattle.machine_model.specs.Following.{EndsFrame}
 use Rattle.stack_code.specs.declared.code.Code.{Code}
 use Rattle.stack_code.specs.declared.code.Unit.{Unit as CodeUnit}
 use Rattle.stack_code.specs.Commands.{Command, Do, GoTo, GoToIfNot, OpenTrap, CloseTrap, command_at}
-use Rattle.operations.specs.Talk.{Talk, Sends, Receives, Flushes, StartsWorkers, AwaitsWorkers, NoTalk, talk_of}
 use Rattle.stack_code.specs.Places.{Station, Tally, IsIn, crew, stack_at, surroundings, tally_at, traps_at}
 
 -- ---- numbers of messages
@@ -42,14 +43,23 @@ tally_then workers NoTalk tally = tally
 abbrev pub tally_behind : ℕ → Operation → Option Tally → Option Tally
 tally_behind workers operation tally = tally_then workers (talk_of operation) tally
 
--- and behind a place with this command
-abbrev pub tally_after : ℕ → Option Command → Option Tally → Option Tally
-tally_after workers (Some (Do operation)) tally = tally_behind workers operation tally
-tally_after workers (Some (GoTo to)) tally = tally
-tally_after workers (Some (GoToIfNot to)) tally = tally
-tally_after workers (Some (OpenTrap to)) tally = tally
-tally_after workers (Some CloseTrap) tally = tally
-tally_after workers None tally = tally
+-- what they are where a panic lands: a send or a receive that failed counts, and workers that could not be started don't
+abbrev pub tally_thrown : Talk → Option Tally → Option Tally
+tally_thrown (Sends w) tally = option_map (sent_one w) tally
+tally_thrown (Receives w) tally = option_map (received_one w) tally
+tally_thrown (Flushes w) tally = tally
+tally_thrown StartsWorkers tally = tally
+tally_thrown (AwaitsWorkers ws) tally = tally
+tally_thrown NoTalk tally = tally
+
+-- and where a panic of a place with this command lands
+abbrev pub tally_landing : Option Command → Option Tally → Option Tally
+tally_landing (Some (Do operation)) tally = tally_thrown (talk_of operation) tally
+tally_landing (Some (GoTo to)) tally = tally
+tally_landing (Some (GoToIfNot to)) tally = tally
+tally_landing (Some (OpenTrap to)) tally = tally
+tally_landing (Some CloseTrap) tally = tally
+tally_landing None tally = tally
 
 -- the named workers are started from a place without numbers
 abbrev pub IsBeforeWorkers : Operation → Option Tally → Type 0
@@ -92,11 +102,15 @@ module _ (code : Code) (u : CodeUnit) (station : Station) where
       (own : List SemType) × (error : SemType) × (stack_at code to ≡ own ++ error ∷ []) × AreSame code own (stack_at code t)
       × HaveSameShapes code.atoms error (Basic ErrorAll)
 
-  -- and it has the numbers behind each place in the trap's reach
+  -- and it has the numbers with which a panic comes from each place in the trap's reach
   abbrev pub HasTalliesOf : ℕ → ℕ → Type 0
   HasTalliesOf t to =
       (q : ℕ) → IsIn u q → IsSomeAnd (traps_at code u q) (λ traps. Contains traps t) →
-      tally_after workers_here (command_at code q) (tally_at code q) ≡ tally_at code to
+      tally_landing (command_at code q) (tally_at code q) ≡ tally_at code to
+
+  -- a trap is open, which can be closed
+  abbrev pub IsInTrap : ℕ → Type 0
+  IsInTrap p = IsSomeAnd (traps_at code u p) (λ traps. traps ≢ [])
 
   -- ---- one place
 
@@ -127,21 +141,21 @@ module _ (code : Code) (u : CodeUnit) (station : Station) where
   IsTypedBy p (GoTo to) = LandsAt p to × GoesOnAt to (stack_at code p) (tally_at code p)
   IsTypedBy p (GoToIfNot to) = BranchesTyped p to
   IsTypedBy p (OpenTrap to) = LandsAt p to × IsLandingOf p to × HasTalliesOf p to × GoesOnAt (p + 1) (stack_at code p) (tally_at code p)
-  IsTypedBy p CloseTrap = GoesOnAt (p + 1) (stack_at code p) (tally_at code p)
+  IsTypedBy p CloseTrap = IsInTrap p × GoesOnAt (p + 1) (stack_at code p) (tally_at code p)
 
-  -- all that the instruction names is there, and what it takes and gives is typed
-  abbrev pub IsTypedAt : ℕ → Type 0
-  IsTypedAt p = IsSomeAnd (command_at code p) (IsTypedBy p) × BeginsBelow p
+  -- all that the instruction and the map name is there, and what it takes and gives is typed
+  pub record IsTypedAt (p : ℕ) : Type 0 where
+    pub command : IsSomeAnd (command_at code p) (IsTypedBy p)
+    pub begins : BeginsBelow p
+    pub defined : All (IsDefined code.atoms) (stack_at code p)
 
-  -- ---- the whole unit
+  -- ---- the ends of the unit
 
   abbrev pub HasEntry : (named : Type 0) → Type 0
   HasEntry named =
       (command_at code u.first ≡ Some (Do op.Tick)) × (stack_at code u.first ≡ [])
       × (named → tally_at code u.first ≡ Some (no_messages workers_here)) × ((¬ named) → tally_at code u.first ≡ None)
 
-  pub record IsTypedUnit (named : Type 0) : Type 0 where
-    pub entry : HasEntry named
-    pub places : (p : ℕ) → IsIn u p → IsTypedAt p
-    -- each trap that was opened is closed
-    pub traps : traps_at code u u.end ≡ Some []
+  -- its first place is an entry, and behind its last one each trap that was opened is closed
+  abbrev pub IsBoundedAt : (named : Type 0) → ℕ → Type 0
+  IsBoundedAt named p = (p ≡ u.first → HasEntry named) × (p + 1 ≡ u.end → traps_at code u u.end ≡ Some [])

@@ -1,9 +1,13 @@
+pub mod Activations
 pub mod CodeMachine
 pub mod Commands
 pub mod Flow
+pub mod Frames
 pub mod Good
 pub mod Laws
 pub mod Messages
 pub mod Places
 pub mod Tables
+pub mod Values
 pub mod WellTyped
+pub mod Worked

@@ -1,14 +1,15 @@
--- Messages between the workers of a function: which send is paired with which receive, and what a return may leave.
+-- Messages between the workers of a function, place by place: which send is paired with which receive, and what a return may
+-- leave.
 use Rattle.std.specs.Prelude.{◌≡◌, ◌≢◌, ◌⊎◌, ◌≤◌, ◌<◌, ◌++◌, ◌+◌, ℕ, List, [], ◌∷◌, Some, None, IsSomeAnd, All, get_or, length, slice_get}
 use Rattle.type_model.specs.declared.basic.SemType.{SemType}
+use Rattle.type_model.specs.Membership.{In}
 use Rattle.operations.specs.declared.operation.Operation.{Operation}
 use Rattle.operations.specs.declared.operation.Operation.TheVariants as op
 use Rattle.operations.specs.Kinds.{IsError}
 use Rattle.operations.specs.Rows.{IsWithin}
-use Rattle.type_model.specs.Membership.{In}
+use Rattle.operations.specs.Talk.{Talk, Sends, Receives, Flushes, StartsWorkers, AwaitsWorkers, NoTalk, talk_of}
 use Rattle.stack_code.specs.declared.code.Code.{Code}
 use Rattle.stack_code.specs.Commands.{Command, Do, GoTo, GoToIfNot, OpenTrap, CloseTrap, command_at}
-use Rattle.operations.specs.Talk.{Talk, Sends, Receives, Flushes, StartsWorkers, AwaitsWorkers, NoTalk, talk_of}
 use Rattle.stack_code.specs.Places.{Station, Tally, IsInUnit, IsStation, crew, stack_at, tally_at}
 
 -- ---- what operations name
@@ -75,11 +76,6 @@ module _ (code : Code) where
   abbrev pub NamesAwaited : ℕ → Operation → Type 0
   NamesAwaited p operation = All (λ w. (w ≢ 0) × (tally_at code p ≢ None)) (awaited_in (talk_of operation))
 
-  abbrev pub NamesWorkers : Type 0
-  NamesWorkers =
-      (f v p : ℕ) → IsOf (worker f v) p → (operation : Operation) → command_at code p ≡ Some (Do operation) →
-      NamesPeers (worker f v) p operation × NamesAwaited p operation
-
   -- ---- pairs
 
   -- at the place the worker v of a function f sends its n-th message to w
@@ -90,27 +86,31 @@ module _ (code : Code) where
   abbrev pub ReceivesAt : (f v w n p : ℕ) → Type 0
   ReceivesAt f v w n p = IsOf (worker f w) p × DoesAt p (IsReceive v) × IsSomeAnd (tally_at code p) (λ t. slice_get t.received v ≡ Some n)
 
-  -- each send has a receive of its number, and each receive a send
-  abbrev pub ArePaired : Type 0
-  ArePaired =
-      ((f v w n p : ℕ) → SendsAt f v w n p → (q : ℕ) × ReceivesAt f v w n q)
-      × ((f v w n q : ℕ) → ReceivesAt f v w n q → (p : ℕ) × SendsAt f v w n p)
-
   abbrev pub IsBelow : SemType → SemType → Type 0
   IsBelow s t = IsWithin code.atoms (λ x. In code.atoms x t) s
 
-  -- what is sent is below what stands behind the receive
-  abbrev pub MessagesFit : Type 0
-  MessagesFit =
-      (f v w n p q : ℕ) → SendsAt f v w n p → ReceivesAt f v w n q →
-      (s t : SemType) → IsLast (stack_at code p) s → IsLast (stack_at code (q + 1)) t → IsBelow s t
+  -- what is sent at p is below what stands behind the receive at q
+  abbrev pub MessageFits : (p q : ℕ) → Type 0
+  MessageFits p q = (s t : SemType) → IsLast (stack_at code p) s → IsLast (stack_at code (q + 1)) t → IsBelow s t
+
+  -- a send has a receive of its number, and its message is below what stands behind each of these
+  abbrev pub SendsWell : ℕ → Type 0
+  SendsWell p =
+      (f v w n : ℕ) → SendsAt f v w n p →
+      ((q : ℕ) × ReceivesAt f v w n q) × ((q : ℕ) → ReceivesAt f v w n q → MessageFits p q)
+
+  -- a receive has a send of its number, and so have all these
+  abbrev pub ReceivesWell : ℕ → Type 0
+  ReceivesWell q =
+      (f v w n : ℕ) → ReceivesAt f v w n q →
+      ((p : ℕ) × SendsAt f v w n p) × ((p : ℕ) → SendsAt f v w n p → MessageFits p q)
 
   -- ---- returns
 
   -- each send and receive of the worker is among those that were made
   abbrev pub HasAll : Station → Tally → Type 0
   HasAll station tally =
-      (p w n : ℕ) → IsOf station p →
+      (p w : ℕ) → IsOf station p →
       (DoesAt p (IsSend w) → IsSomeAnd (tally_at code p) (λ t. get_or t.sent w 0 < get_or tally.sent w 0))
       × (DoesAt p (IsReceive w) → IsSomeAnd (tally_at code p) (λ t. get_or t.received w 0 < get_or tally.received w 0))
 
@@ -127,13 +127,10 @@ module _ (code : Code) where
       ⊎ ((t : SemType) → IsLast (stack_at code p) t →
       IsWithin code.atoms IsError t × ((w q : ℕ) → Leaves f v w q tally → (s : SemType) → IsLast (stack_at code (q + 1)) s → IsBelow t s))
 
-  abbrev pub ReturnsFit : Type 0
-  ReturnsFit =
-      (f v p : ℕ) (tally : Tally) → IsOf (worker f v) p → command_at code p ≡ Some (Do op.Return) → tally_at code p ≡ Some tally →
-      ReturnsWell f v p tally
+  -- ---- one place
 
-  pub record AreMessages : Type 0 where
-    pub workers : NamesWorkers
-    pub pairs : ArePaired
-    pub fit : MessagesFit
-    pub returns : ReturnsFit
+  pub record TalksWell (p : ℕ) : Type 0 where
+    pub workers : (f v : ℕ) (operation : Operation) → IsOf (worker f v) p → command_at code p ≡ Some (Do operation) → NamesPeers (worker f v) p operation × NamesAwaited p operation
+    pub sends : SendsWell p
+    pub receives : ReceivesWell p
+    pub returns : (f v : ℕ) (tally : Tally) → IsOf (worker f v) p → command_at code p ≡ Some (Do op.Return) → tally_at code p ≡ Some tally → ReturnsWell f v p tally

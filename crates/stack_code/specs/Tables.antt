@@ -1,35 +1,34 @@
 -- What holds of the fields of a code beside its instructions and maps.
-use Rattle.std.specs.Prelude.{◌≡◌, ◌≢◌, ◌↔◌, ◌⊎◌, ◌≤◌, ◌<◌, ◌++◌, ◌-◌, ◌+◌, ℕ, List, [], ◌∷◌, Option, Some, None, IsSomeAnd, IsTrue, ◌==◌, All, Any, Contains, drop, filter, length, map, option_to_list, slice_get, sum_by, take, ⊤}
+use Rattle.std.specs.Prelude.{◌≡◌, ◌≢◌, ◌↔◌, ◌⊎◌, ◌<◌, ◌++◌, ◌-◌, ◌+◌, ℕ, List, [], ◌∷◌, Option, Some, None, IsSomeAnd, IsTrue, ◌==◌, All, Any, Contains, filter, length, map, option_to_list, slice_get, sum_by, take, ⊤}
 use Rattle.std.specs.List.{AllZip}
-use Rattle.bal_base.specs.declared.shape.Shape.{Shape, Nil, Bool as BoolShape, Int, Str, List', Mapping', Error', Function, Future', items-the_row-Shape as shapes_in}
+use Rattle.bal_base.specs.declared.shape.Shape.{Shape}
 use Rattle.bal_base.specs.Valid.{IsValid}
 use Rattle.type_model.specs.declared.basic.SemType.{SemType, Atom}
 use Rattle.type_model.specs.declared.basic.Ty.{Ty}
-use Rattle.type_model.specs.declared.basic.Choice.{Choice}
 use Rattle.type_model.specs.declared.atoms.AtomDef.{AtomDef}
 use Rattle.type_model.specs.declared.atoms.AtomDef.TheVariants.{List as ListAtom, Mapping as MappingAtom, Arrow, Error as ErrorAtom, Future as FutureAtom}
+use Rattle.type_model.specs.Defined.{IsClosed, IsDefined}
 use Rattle.type_model.specs.Inclusion.{HaveSameShapes}
 use Rattle.type_model.specs.Membership.{In}
+use Rattle.type_model.specs.Places.{HasDistinctFields}
+use Rattle.type_model.specs.SameType.{IsSameType}
+use Rattle.operations.specs.declared.operation.Constant.{Constant}
 use Rattle.operations.specs.declared.operation.Operation.{Operation}
 use Rattle.operations.specs.declared.operation.Operation.TheVariants as op
 use Rattle.operations.specs.Kinds.{IsError, IsNil, IsString}
-use Rattle.operations.specs.Rows.{IsWithin}
+use Rattle.operations.specs.Rows.{IsWithin, shape_of}
 use Rattle.operations.specs.Structures.{IsListAtom}
-use Rattle.value_model.specs.Stands.{IsUnmarked}
+use Rattle.operations.specs.Uses.{atoms_made, units_called, units_used, units_valued, use_of}
+use Rattle.run_model.specs.Inherent.{IsListDefinition, IsOneChoice, member_types}
 use Rattle.stack_code.specs.declared.code.Code.{Code}
 use Rattle.stack_code.specs.declared.code.Unit.{Unit as CodeUnit}
 use Rattle.stack_code.specs.declared.code.Spawn.{Spawn}
 use Rattle.stack_code.specs.declared.code.StackMap.{StackMap}
 use Rattle.stack_code.specs.Commands.{Do, command_at}
 use Rattle.stack_code.specs.Flow.{AreSame}
-use Rattle.operations.specs.Uses.{atoms_made, units_called, units_used, units_valued, use_of}
-use Rattle.stack_code.specs.Places.{IsInUnit, IsWorkerUnit, crew}
+use Rattle.stack_code.specs.Places.{IsStation, IsWorkerUnit, Station, crew, map_at}
 
 module _ (code : Code) where
-  -- every operation of the code has the property
-  abbrev pub EachOperation : (Operation → Type 0) → Type 0
-  EachOperation P = (p : ℕ) (operation : Operation) → command_at code p ≡ Some (Do operation) → P operation
-
   abbrev pub EachUnit : (ℕ → CodeUnit → Type 0) → Type 0
   EachUnit P = (n : ℕ) (u : CodeUnit) → slice_get code.units n ≡ Some u → P n u
 
@@ -63,29 +62,24 @@ module _ (code : Code) where
 
   -- ---- own atoms
 
-  -- an unmarked list with such items
-  abbrev pub IsListOf : (List Shape → Type 0) → Shape → Type 0
-  IsListOf P (List' mark _ items) = P (shapes_in _ items)
-  IsListOf P Nil = ⊥
-  IsListOf P (BoolShape b) = ⊥
-  IsListOf P (Int i) = ⊥
-  IsListOf P (Str t) = ⊥
-  IsListOf P (Mapping' mark _ fields) = ⊥
-  IsListOf P (Error' _ detail) = ⊥
-  IsListOf P (Function isolated graph) = ⊥
-  IsListOf P (Future' _ results) = ⊥
+  -- the items beyond the fixed ones have the type of the items of the rest parameter's list; there are none, where it has none
+  abbrev pub IsRestOf : Option ℕ → Option Ty → Type 0
+  IsRestOf (Some atom) rest =
+      IsListAtom code.atoms atom (λ fixed items. IsSomeAnd items (λ t. IsSomeAnd rest (λ s. HaveSameShapes code.atoms s.sem t.sem)))
+  IsRestOf None rest = rest ≡ None
 
-  -- arguments in the parameters' types, one by one; those beyond the others are items of the rest parameter's list
-  abbrev pub AreArguments : List SemType → Option ℕ → List Shape → Type 0
-  AreArguments params None args = AllZip (λ x t. In code.atoms x t) args params
-  AreArguments params (Some atom) args =
-      (length params - 1 ≤ length args) × AllZip (λ x t. In code.atoms x t) (take (length params - 1) args) (take (length params - 1) params)
-      × IsListAtom code.atoms atom (λ fixed rest. IsSomeAnd rest (λ t. All (λ x. In code.atoms x t.sem) (drop (length params - 1) args)))
+  -- the parameters that take one argument each
+  abbrev pub single_params : CodeUnit → List SemType
+  single_params u = take (length u.params - length (option_to_list u.rest)) u.params
+
+  -- the lists of arguments are those of an atom whose fixed places are the parameters, one by one, and then the rest parameter's
+  abbrev pub AreArguments : CodeUnit → SemType → Type 0
+  AreArguments u args =
+      (lists : ℕ) × (args ≡ Atom lists)
+      × IsListAtom code.atoms lists (λ fixed rest. AreSame code (map (λ t. t.sem) fixed) (single_params u) × IsRestOf u.rest rest)
 
   abbrev pub IsArrowOf : CodeUnit → AtomDef → Type 0
-  IsArrowOf u (Arrow args outcome alone) =
-      ((x : Shape) → IsValid x → IsUnmarked x → (In code.atoms x args ↔ IsListOf (AreArguments u.params u.rest) x))
-      × HaveSameShapes code.atoms outcome u.result
+  IsArrowOf u (Arrow args outcome alone) = AreArguments u args × HaveSameShapes code.atoms outcome u.result
   IsArrowOf u (ListAtom fixed rest) = ⊥
   IsArrowOf u (MappingAtom fields rest) = ⊥
   IsArrowOf u (ErrorAtom detail) = ⊥
@@ -124,13 +118,17 @@ module _ (code : Code) where
   IsWorkerWell n u =
       (u.params ≡ []) × (u.workers ≡ []) × (times_named n ≡ 1) × (¬ (IsInitialiser n)) × (code.start ≢ n) × (u.rest ≡ None)
 
-  abbrev pub IsInitialiserWell : ℕ → CodeUnit → Type 0
-  IsInitialiserWell n u = (u.params ≡ []) × (u.captured ≡ []) × (code.start ≢ n)
+  -- nothing but nil and errors is returned
+  abbrev pub ReturnsNilOrErrors : CodeUnit → Type 0
+  ReturnsNilOrErrors u = IsWithin code.atoms (λ x. IsNil x ⊎ IsError x) u.result
 
-  -- main takes nothing, or strings, and returns nothing but nil and errors
+  abbrev pub IsInitialiserWell : ℕ → CodeUnit → Type 0
+  IsInitialiserWell n u = (u.params ≡ []) × (u.captured ≡ []) × (code.start ≢ n) × ReturnsNilOrErrors u
+
+  -- main takes nothing, or strings
   abbrev pub IsMain : CodeUnit → Type 0
   IsMain u =
-      (u.captured ≡ []) × IsWithin code.atoms (λ x. IsNil x ⊎ IsError x) u.result
+      (u.captured ≡ []) × ReturnsNilOrErrors u
       × ((u.params ≡ []) × (code.words ≡ 0)
       ⊎ (length u.params ≡ 1) × (u.rest ≡ Some code.words)
       × IsListAtom code.atoms code.words (λ fixed rest. IsSomeAnd rest (λ t. (x : Shape) → IsValid x → (In code.atoms x t.sem ↔ IsString x))))
@@ -143,58 +141,73 @@ module _ (code : Code) where
       All (λ n. (¬ (IsWorkerUnit code n)) × (¬ (IsInitialiser n))) (units_used (use_of operation))
       × All (λ n. UnitAt n (λ u. u.captured ≡ [])) (units_called (use_of operation))
 
-  -- named workers are started where there are some
-  abbrev pub StartsSome : Type 0
-  StartsSome = (n p : ℕ) → IsInUnit code n p → command_at code p ≡ Some (Do op.Workers) → UnitAt n (λ u. u.workers ≢ [])
-
   -- ---- tables
 
   abbrev pub IsInherent : ℕ → Type 0
   IsInherent atom = Contains code.inherent atom
 
-  abbrev pub member_types : AtomDef → List Ty
-  member_types (ListAtom fixed rest) = fixed ++ option_to_list rest
-  member_types (MappingAtom fields rest) = map (λ f. f.ty) fields ++ option_to_list rest
-  member_types (Arrow args outcome alone) = []
-  member_types (ErrorAtom detail) = []
-  member_types (FutureAtom outcome) = []
+  -- the unit of a function value or a future: its own atoms are inherent, and are those of its arguments and its result
+  abbrev pub IsCallable : ℕ → Type 0
+  IsCallable n = UnitAt n (λ u. IsInherent u.arrow × IsInherent u.future) × (¬ (IsWorkerUnit code n)) × (¬ (IsInitialiser n))
 
-  abbrev pub IsListDefinition : AtomDef → Type 0
-  IsListDefinition (ListAtom fixed rest) = ⊤
-  IsListDefinition (MappingAtom fields rest) = ⊥
-  IsListDefinition (Arrow args outcome alone) = ⊥
-  IsListDefinition (ErrorAtom detail) = ⊥
-  IsListDefinition (FutureAtom outcome) = ⊥
-
-  -- the one atom of which a constructor may make a value of the type
-  abbrev pub IsOneChoice : Ty → ℕ → Type 0
-  IsOneChoice t atom = (c : Choice) × (t.lists ++ t.maps ≡ c ∷ []) × (c.atom ≡ atom)
-
+  -- the type is tested as it is written
   abbrev pub IsTested : SemType → Type 0
-  IsTested t = Any (HaveSameShapes code.atoms t) code.tested
+  IsTested t = Any (IsSameType t) code.tested
 
-  pub record HasTables : Type 0 where
-    pub range : All (λ a. a < length code.atoms) code.inherent
-    -- what structures are made with, and the lists of rest parameters
-    pub made : EachOperation (λ operation. All IsInherent (atoms_made (use_of operation)))
-    pub rests : EachUnit (λ n u. All IsInherent (option_to_list u.rest))
-    -- what function values and futures are made with
-    pub functions : EachOperation (λ operation. All (λ n. UnitAt n (λ u. IsInherent u.arrow × IsInherent u.future)) (units_valued (use_of operation)))
-    -- what gaps of lists are filled with
-    pub fillers : All (λ a. IsSomeAnd (slice_get code.atoms a) (λ d. IsListDefinition d → All (λ t. (b : ℕ) → IsOneChoice t b → IsInherent b) (member_types d))) code.inherent
-    -- the member types of what structures are made with
-    pub members : All (λ a. IsSomeAnd (slice_get code.atoms a) (λ d. All (λ t. IsTested t.sem) (member_types d))) code.inherent
+  -- gaps of the list are filled with what is inherent
+  abbrev pub HasFillers : AtomDef → Type 0
+  HasFillers d = IsListDefinition d → All (λ t. (b : ℕ) → IsOneChoice t b → IsInherent b) (member_types d)
 
-  pub record HasUnits : Type 0 where
+  abbrev pub HasTestedMembers : AtomDef → Type 0
+  HasTestedMembers d = All (λ t. IsTested t.sem) (member_types d)
+
+  -- ---- types
+
+  -- an int is in range, and a string has characters
+  abbrev pub IsConstant : Constant → Type 0
+  IsConstant k = IsValid (shape_of k)
+
+  abbrev pub AreDefined : List SemType → Type 0
+  AreDefined types = All (IsDefined code.atoms) types
+
+  -- every atom that is named is defined, and fields have names of their own
+  pub record HasTypes : Type 0 where
+    pub definitions : IsClosed code.atoms
+    pub fields : All HasDistinctFields code.atoms
+    pub tested : AreDefined code.tested
+    pub variables : AreDefined code.variables
+    pub units : EachUnit (λ n u. AreDefined u.params × AreDefined u.captured × AreDefined u.slots × IsDefined code.atoms u.result)
+
+  -- ---- what a place names
+
+  -- the operation at the place, if one is done there
+  abbrev pub DoesSo : ℕ → (Operation → Type 0) → Type 0
+  DoesSo p P = (operation : Operation) → command_at code p ≡ Some (Do operation) → P operation
+
+  -- what a place of the unit n names beside types, slots and places
+  pub record UsesWell (n : ℕ) (u : CodeUnit) (p : ℕ) : Type 0 where
+    -- a number for each worker of the function that the unit is a worker of
+    pub numbers : (station : Station) → IsStation code n station → HasNumbers (length (crew code station.function)) (map_at code p)
+    pub named : DoesSo p NamesUnits
+    -- named workers are started where there are some
+    pub starts : command_at code p ≡ Some (Do op.Workers) → u.workers ≢ []
+    -- what structures are made with is inherent, and of what function values and futures are made can be called
+    pub made : DoesSo p (λ operation. All IsInherent (atoms_made (use_of operation)))
+    pub functions : DoesSo p (λ operation. All IsCallable (units_valued (use_of operation)))
+
+  -- ---- all fields
+
+  pub record HasFields : Type 0 where
+    pub types : HasTypes
+    pub constants : All IsConstant code.constants
     pub places : FollowFrom 0 code.units (length code.instrs)
     pub maps : length code.maps ≡ length code.instrs
-    pub numbers : EachUnit (λ n u. (p : ℕ) (m : StackMap) → IsInUnit code n p → slice_get code.maps p ≡ Some m → (f : ℕ) → Contains (crew code f) n → HasNumbers (length (crew code f)) m)
     pub slots : EachUnit (λ n u. HasSlots u)
-    pub rests : EachUnit (λ n u. HasRest u u.rest)
+    pub rests : EachUnit (λ n u. HasRest u u.rest × All IsInherent (option_to_list u.rest))
     pub atoms : EachUnit HasOwnAtoms
     pub spawns : EachUnit (λ n u. All (CapturesWell u) u.workers)
     pub workers : EachUnit (λ n u. IsWorkerUnit code n → IsWorkerWell n u)
     pub initialisers : All (λ n. UnitAt n (IsInitialiserWell n)) code.initialisers
     pub main : UnitAt code.start IsMain
-    pub named : EachOperation NamesUnits
-    pub starts : StartsSome
+    -- the inherent atoms are atoms; what their gaps are filled with is inherent, and their member types are tested
+    pub inherent : All (λ a. IsSomeAnd (slice_get code.atoms a) (λ d. HasFillers d × HasTestedMembers d)) code.inherent
