@@ -1,0 +1,142 @@
+-- What steps of well-typed code keep, as laws.
+use Rattle.std.specs.Prelude.{◌≡◌, ◌⊎◌, ◌<◌, ℕ, Bool, List, [], ◌∷◌, Option, Some, length}
+use Rattle.type_model.specs.declared.basic.SemType.{SemType}
+use Rattle.operations.specs.declared.operation.Operation.{Operation}
+use Rattle.operations.specs.declared.operation.Operation.TheVariants as op
+use Rattle.operations.specs.Talk.{NoTalk, talk_of}
+use Rattle.operations.specs.Typing.{OpTyped}
+use Rattle.operations.specs.Rows.{Surroundings}
+use Rattle.value_model.specs.declared.filler.Filler.{Filler}
+use Rattle.value_model.specs.declared.value.Value.{Value}
+use Rattle.value_model.specs.Heap.{IsClosed}
+use Rattle.value_model.specs.Meaning.{Answers}
+use Rattle.value_model.specs.Table.{Serves, TestTable, table_of}
+use Rattle.run_model.specs.Common.{Common, Role, End, Returned, Panicked}
+use Rattle.run_model.specs.Local.{Local, acts, takes}
+use Rattle.run_model.specs.Messages.{one_sent, with_received}
+use Rattle.run_model.specs.Strands.{channel_at, with_channel, worker_end}
+use Rattle.machine_model.specs.Following.{EndsFrame}
+use Rattle.machine_model.specs.Keeping.{AreApart, AskFits, Caught}
+use Rattle.machine_model.specs.Machine.{Frame, On, goes_to}
+use Rattle.machine_model.specs.Runs.{Running}
+use Rattle.stack_code.specs.declared.code.Code.{Code}
+use Rattle.stack_code.specs.CodeMachine.{Standing, codes}
+use Rattle.stack_code.specs.Commands.{Do, command_at}
+use Rattle.stack_code.specs.Flow.{tally_then}
+use Rattle.stack_code.specs.Frames.{AwaitsResult, TallyIs, TopFits}
+use Rattle.stack_code.specs.Activations.{FitsBehind, GoodActivations}
+use Rattle.stack_code.specs.Good.{GoodCommon, IsLater, code_invariant}
+use Rattle.stack_code.specs.Messages.{IsLast}
+use Rattle.stack_code.specs.Places.{stack_at, tally_at}
+use Rattle.stack_code.specs.Tables.{UnitAt}
+use Rattle.stack_code.specs.Values.{Fits, GoodHeap, IsMadeError, code_types}
+use Rattle.stack_code.specs.WellTyped.{WellTyped}
+use Rattle.code_keeping.specs.Rows.{RowKeeps}
+
+-- ---- what a frame does by itself
+
+-- constants, slots that are loaded and stored, operands that are dropped, jumps, branches and traps: it fits where it goes on
+abbrev pub GoesOnByItself : Type 0
+GoesOnByItself =
+    (code : Code) (fillers : ℕ → List Filler) (c : Common) (f : Frame Standing) (next : Standing) →
+    WellTyped code → IsClosed c.world.heap → TopFits code c f → (codes fillers code).look f.unit f.control ≡ On next → TopFits code c (goes_to f next)
+
+-- ---- what it asks for
+
+-- what a frame of a code asks for fits, at a place with this operation, whatever comes
+abbrev pub AsksWell : (ℕ → List Filler) → Answers → Operation → Type 0
+AsksWell fillers natives o =
+    (code : Code) (c : Common) (depth : ℕ) (f : Frame Standing) →
+    WellTyped code → GoodCommon code c Running → TopFits code c f → command_at code f.control.place ≡ Some (Do o) →
+    AskFits natives (codes fillers code) (code_invariant code) c depth f ((codes fillers code).look f.unit f.control)
+
+-- an operation that takes all its operands and says nothing to workers: a panic is caught where a trap is open
+abbrev pub TakesAll : Operation → Type 0
+TakesAll o =
+    (code : Code) (place : Surroundings) (operands : List SemType) (result : Option SemType) → OpTyped code.atoms place o operands result →
+    (captured : List ℕ) (l : Local) → acts captured o l ≡ takes o l (length operands)
+
+abbrev pub StrictOperationsKeep : Answers → Type 0
+StrictOperationsKeep natives =
+    (fillers : ℕ → List Filler) (o : Operation) → talk_of o ≡ NoTalk → (¬ (EndsFrame o)) → TakesAll o →
+    ((code : Code) (place : Surroundings) → RowKeeps code fillers natives place o) → AsksWell fillers natives o
+
+-- a call: the frame awaits the result, and the unit begins
+abbrev pub CallsKeep : Answers → Type 0
+CallsKeep natives = (fillers : ℕ → List Filler) (unit count : ℕ) → AsksWell fillers natives (op.Call unit count)
+
+-- a return, also of a worker: it has made all its messages, or leaves an error that fits behind those that it didn't make
+abbrev pub ReturnsKeep : Answers → Type 0
+ReturnsKeep natives = (fillers : ℕ → List Filler) → AsksWell fillers natives op.Return
+
+-- ---- what a frame does that awaits a result
+
+abbrev pub AwaitedComes : Type 0
+AwaitedComes =
+    (code : Code) (fillers : ℕ → List Filler) (c : Common) (f : Frame Standing) (callee : ℕ) → WellTyped code → AwaitsResult code c f callee →
+    ((v : Value) → UnitAt code callee (λ u. Fits code c v u.result) → TopFits code c (goes_to f ((codes fillers code).resume f.control (v ∷ []))))
+    × ((e : Value) → IsClosed c.world.heap → IsMadeError code c e → Caught (TopFits code c) f ((codes fillers code).catch f.control e))
+
+-- ---- messages
+
+-- nothing changes of any other worker
+abbrev pub OnlyOf : Option Role → Common → Common → Type 0
+OnlyOf role c d = (q : Option Role) → AreApart q role → IsLater q c d
+
+-- a worker that stands at such an operation, in a state whose activations are good
+pub record StandsAt (code : Code) (c : Common) (f : Frame Standing) (r : Role) (o : Operation) : Type 0 where
+  pub typed : WellTyped code
+  pub role : f.role ≡ Some r
+  pub fits : TopFits code c f
+  pub command : command_at code f.control.place ≡ Some (Do o)
+  pub good : GoodActivations code c
+
+-- then all is good, the frame has the numbers behind the place, and nothing else changes
+pub record TalkedWell (code : Code) (c d : Common) (f : Frame Standing) (o : Operation) : Type 0 where
+  pub good : GoodActivations code d
+  pub numbers : TallyIs code d f.role (tally_then 0 (talk_of o) (tally_at code f.control.place))
+  pub others : OnlyOf f.role c d
+
+-- a message that fits the operand's type is sent to the worker w
+abbrev pub SendsKeep : Type 0
+SendsKeep =
+    (code : Code) (c : Common) (f : Frame Standing) (r : Role) (o : Operation) (w : ℕ) (m : Value) →
+    StandsAt code c f r o → (o ≡ op.Send w) ⊎ (o ≡ op.Post w) → ((s : SemType) → IsLast (stack_at code f.control.place) s → Fits code c m s) →
+    TalkedWell code c (with_channel c r.activation r.worker w (one_sent (channel_at c r.activation r.worker w) m)) f o
+
+-- the first message from the worker v is received, and fits behind the receive
+abbrev pub MessagesKeep : Type 0
+MessagesKeep =
+    (code : Code) (c : Common) (f : Frame Standing) (r : Role) (v : ℕ) (m : Value) (queue : List Value) →
+    StandsAt code c f r (op.Receive v) → (channel_at c r.activation v r.worker).queue ≡ m ∷ queue →
+    let d = with_received c r v queue in TalkedWell code c d f (op.Receive v) × FitsBehind code d m f.control.place
+
+-- no message is there, and the worker v has ended: its error fits behind the receive, or its panic goes on
+abbrev pub EndIsReceived : Code → Common → ℕ → End → Type 0
+EndIsReceived code d place (Returned e) = FitsBehind code d e place
+EndIsReceived code d place (Panicked e) = IsMadeError code d e
+
+abbrev pub EndsKeep : Type 0
+EndsKeep =
+    (code : Code) (c : Common) (f : Frame Standing) (r : Role) (v : ℕ) (end : End) →
+    StandsAt code c f r (op.Receive v) → (channel_at c r.activation v r.worker).queue ≡ [] → worker_end c r.activation v ≡ Some end →
+    let d = with_received c r v [] in TalkedWell code c d f (op.Receive v) × EndIsReceived code d f.control.place end
+
+-- not all that was sent to the worker w is received, and it has ended: its error fits behind the flush, or its panic goes on
+abbrev pub FlushesKeep : Type 0
+FlushesKeep =
+    (code : Code) (c : Common) (f : Frame Standing) (r : Role) (o : Operation) (w : ℕ) (end : End) →
+    StandsAt code c f r o → (o ≡ op.Flush w) ⊎ (o ≡ op.Done w) →
+    (let x = channel_at c r.activation r.worker w in x.received < x.sent) → worker_end c r.activation w ≡ Some end →
+    EndIsReceived code c f.control.place end
+
+-- ---- tables of tests
+
+-- a table of tests for the code, whatever its answers and fillers
+abbrev pub table_for : Code → List (List Bool) → List (List Filler) → TestTable
+table_for code answers fillers = table_of code.atoms code.inherent code.tested (code_types code).units answers fillers
+
+-- serves each good heap, as calls of the library ask for
+abbrev pub GoodHeapsAreServed : Type 0
+GoodHeapsAreServed =
+    (code : Code) (answers : List (List Bool)) (fillers : List (List Filler)) (c : Common) → GoodHeap code c → Serves (table_for code answers fillers) c.world.heap

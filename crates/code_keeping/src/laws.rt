@@ -1,0 +1,40 @@
+//! Laws of steps. These calls do nothing: their clauses are laws.
+ghost use Rattle.code_keeping.specs.Laws.{AwaitedComes, CallsKeep, EndsKeep, FlushesKeep, GoesOnByItself, GoodHeapsAreServed, MessagesKeep, ReturnsKeep, SendsKeep, StrictOperationsKeep};
+
+use run_model::Meaning;
+
+/// A frame of well-typed code that fits its place fits where it goes on by itself.
+pub fn goes_on_by_itself()
+    ensures { GoesOnByItself }
+{}
+
+/// What a frame asks for fits, whatever comes, where it asks for an operation that takes all its operands, as far as the
+/// operation keeps its row. A panic that is caught lands where its trap says.
+pub fn strict_operations_keep<N: Meaning>()
+    ensures { StrictOperationsKeep N.answers }
+{}
+
+/// What a frame asks for fits at a call and at a return, also at the return of a worker.
+pub fn calls_and_returns_keep<N: Meaning>()
+    ensures calls { CallsKeep N.answers }
+    ensures returns { ReturnsKeep N.answers }
+{}
+
+/// A frame that awaits a result fits with it, and where it catches a panic.
+pub fn awaited_results_come()
+    ensures { AwaitedComes }
+{}
+
+/// A send and a receive keep the activations good: of a message, and of a sender that has ended. A flush of a peer that
+/// has ended comes to what fits behind it.
+pub fn messages_keep()
+    ensures sends { SendsKeep }
+    ensures messages { MessagesKeep }
+    ensures ends { EndsKeep }
+    ensures flushes { FlushesKeep }
+{}
+
+/// A table of tests for the code serves each good heap.
+pub fn good_heaps_are_served()
+    ensures { GoodHeapsAreServed }
+{}

@@ -1,0 +1,18 @@
+//! What steps of well-typed code keep, as laws over `stack_code` and `machine_model`.
+//!
+//! - [`goes_on_by_itself`]: what a frame does by itself: constants, slots, jumps, branches and traps.
+//! - [`strict_operations_keep`]: what it asks for with an operation that takes all its operands, panics that are caught
+//!   included, by the operation's row (`specs/Rows.antt`).
+//! - [`calls_and_returns_keep`] and [`awaited_results_come`]: calls, returns, and what awaits a result.
+//! - [`messages_keep`]: sends, receives and flushes between the workers of an activation.
+//! - [`good_heaps_are_served`]: what calls of the library need of the heap.
+//!
+//! `specs/Laws.antt` states them.
+#![tactic(auto)]
+
+mod laws;
+
+pub use laws::{
+    awaited_results_come, calls_and_returns_keep, goes_on_by_itself, good_heaps_are_served,
+    messages_keep, strict_operations_keep,
+};
