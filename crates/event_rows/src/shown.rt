@@ -1,52 +1,81 @@
 //! Events, written out.
 
-use bal_base::Memory;
-use std::alloc::Global;
+use std::alloc::{AllocError, Global};
 use typed_tree::{EventKind, SeenEvent};
 
-/// The events by worker, in the form of a row.
-pub fn text_of(alloc: Global, events: &[SeenEvent]) -> Result<String, Memory> {
+/// What is told of an event.
+#[derive(Clone, Copy)]
+pub enum Form {
+    /// What it is.
+    Kinds,
+    /// Its number and its place.
+    Places,
+}
+
+/// The events by worker, in the form of a row, where the body begins at this byte.
+pub fn text_of(
+    alloc: Global,
+    events: &[SeenEvent],
+    form: Form,
+    start: usize,
+) -> Result<String, AllocError> {
     let mut text = String::new(alloc);
     let mut worker = 0;
     for e in events {
-        if !text.is_empty() {
-            text.push_str(" ")?;
-        }
-        if e.event.worker != worker {
-            text.push_str("/ ")?;
-            worker = e.event.worker;
-        }
-        text.push_str(word_of(alloc, &e.kind)?.as_str())?;
-        if e.after_early {
-            text.push_str("!")?;
+        text.push_str(between(text.is_empty(), e.event.worker == worker))?;
+        worker = e.event.worker;
+        match form {
+            Form::Kinds => write_event(&mut text, e)?,
+            Form::Places => write_place(&mut text, e, start)?,
         }
     }
     Ok(text)
 }
 
-fn word_of(alloc: Global, kind: &EventKind) -> Result<String, Memory> {
+/// What stands between an event and the one before it, if there is one.
+fn between(is_first: bool, same_worker: bool) -> &'static str {
+    match (is_first, same_worker) {
+        (true, true) => "",
+        (true, false) => "/ ",
+        (false, true) => " ",
+        (false, false) => " / ",
+    }
+}
+
+fn write_place(text: &mut String, e: &SeenEvent, start: usize) -> Result<(), AllocError> {
+    let number = e.event.number;
+    let at = (e.event.at.at as usize).saturating_sub(start);
+    write!(text, "{number}@{at}")
+}
+
+fn write_event(text: &mut String, e: &SeenEvent) -> Result<(), AllocError> {
+    write_kind(text, &e.kind)?;
+    text.push_str(if e.after_early { "!" } else { "" })
+}
+
+fn write_kind(text: &mut String, kind: &EventKind) -> Result<(), AllocError> {
     match kind {
-        EventKind::Send(peer) => named(alloc, "->", *peer),
-        EventKind::Post(peer) => named(alloc, "->>", *peer),
-        EventKind::Done(peer) => named(alloc, "done", *peer),
-        EventKind::Receive(peer) => named(alloc, "<-", *peer),
-        EventKind::Flush(peer) => named(alloc, "flush", *peer),
-        EventKind::Wait(workers) => waited(alloc, workers.as_slice()),
-        EventKind::End => Ok(String::from_str(alloc, "end")?),
+        EventKind::Send(peer) => write_peer(text, "->", *peer),
+        EventKind::Post(peer) => write_peer(text, "->>", *peer),
+        EventKind::Done(peer) => write_peer(text, "done", *peer),
+        EventKind::Receive(peer) => write_peer(text, "<-", *peer),
+        EventKind::Flush(peer) => write_peer(text, "flush", *peer),
+        EventKind::Wait(workers) => write_waited(text, workers.as_slice()),
+        EventKind::End => text.push_str("end"),
     }
 }
 
-fn named(alloc: Global, sign: &str, peer: Option<u32>) -> Result<String, Memory> {
+fn write_peer(text: &mut String, sign: &str, peer: Option<u32>) -> Result<(), AllocError> {
     match peer {
-        Some(worker) => Ok(format!(in alloc; "{sign}{worker}")?),
-        None => Ok(format!(in alloc; "{sign}?")?),
+        Some(worker) => write!(text, "{sign}{worker}"),
+        None => write!(text, "{sign}?"),
     }
 }
 
-fn waited(alloc: Global, workers: &[u32]) -> Result<String, Memory> {
-    let mut text = String::from_str(alloc, "wait")?;
+fn write_waited(text: &mut String, workers: &[u32]) -> Result<(), AllocError> {
+    text.push_str("wait")?;
     for worker in workers {
-        text.push_str(format!(in alloc; "{worker},")?.as_str())?;
+        write!(text, "{worker},")?;
     }
-    Ok(text)
+    Ok(())
 }
