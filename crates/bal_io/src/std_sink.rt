@@ -1,5 +1,5 @@
 //! The standard output and the standard error as outputs.
-ghost use Rattle.std.specs.Prelude.{◌≡◌, ◌<◌, ◌≤◌, length, take, IfOk, OnOk, OnErr, MatchResult};
+ghost use Rattle.std.specs.Prelude.{◌≡◌, true, false, ◌<◌, ◌≤◌, length, take, IfOk, OnOk, OnErr, MatchResult};
 ghost use Rattle.bal_io.specs.Content.{Appends, AppendsFront};
 ghost use Rattle.bal_io.specs.Streams.{IfKnown, stream_contents};
 
@@ -49,6 +49,28 @@ impl StdSink {
         };
         StdSink {
             stream,
+            faults: FaultCount::new(),
+        }
+    }
+}
+
+impl<O, D> StdSink<O, D> {
+    /// An output to the stream. Takes no memory.
+    pub fn to_output(stream: O) -> StdSink<O, D>
+        ensures { result ≡ record { diagnostics = false; faults = 0 } }
+    {
+        StdSink {
+            stream: Stream::Output(stream),
+            faults: FaultCount::new(),
+        }
+    }
+
+    /// An output for diagnostics to the stream. Takes no memory.
+    pub fn to_diagnostics(stream: D) -> StdSink<O, D>
+        ensures { result ≡ record { diagnostics = true; faults = 0 } }
+    {
+        StdSink {
+            stream: Stream::Diagnostics(stream),
             faults: FaultCount::new(),
         }
     }
