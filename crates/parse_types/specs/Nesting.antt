@@ -1,12 +1,16 @@
 -- How deep a token stands, in brackets and in chains.
-use Rattle.std.specs.Prelude.{ℕ, zero, suc, ◌+◌, Bool, true, false, not, nat_lt, if◌then◌else◌, List, [], ◌∷◌, length, sum, Option, None, Some}
+--
+-- The arrow of a function has `function` before it, and so it is none of a match clause, at which a count begins anew: else a
+-- function whose value is a mapping would make all forgotten that is open before it.
+use Rattle.std.specs.Prelude.{ℕ, zero, suc, ◌+◌, Bool, true, false, not, nat_lt, if◌then◌else◌, List, [], ◌∷◌, map, length, sum, Option, None, Some}
 use Rattle.std.specs.Option.{option_map_or}
 use Rattle.std.specs.List.{position_from}
 use Rattle.bal_base.specs.declared.limits.TheConstants.{MOST_NESTING}
 use Rattle.bal_base.specs.declared.token.TokenKind.{TokenKind}
 use Rattle.bal_base.specs.declared.token.TokenKind.TheVariants.{Keyword as KeywordKind, Sign as SignKind}
-use Rattle.bal_base.specs.declared.token.Keyword.TheVariants.{Else, Is}
+use Rattle.bal_base.specs.declared.token.Keyword.TheVariants.{Else, Function, Is}
 use Rattle.bal_base.specs.declared.token.Sign.TheVariants.{OpenParen, CloseParen, OpenBracket, CloseBracket, OpenBrace, CloseBrace, OpenBraceBar, CloseBraceBar, Semicolon, Comma, FatArrow}
+use Rattle.parse_types.specs.declared.nesting.Level.{Level}
 use Rattle.parse_types.specs.Tokens.{Kinds}
 
 -- ---- what a token is
@@ -31,6 +35,10 @@ is_fixed (KeywordKind k) = true
 is_fixed (SignKind s) = true
 is_fixed _ = false
 
+abbrev pub is_function : TokenKind → Bool
+is_function (KeywordKind Function) = true
+is_function _ = false
+
 -- behind `}`, what goes on with what the brace ends
 abbrev pub goes_on : TokenKind → Bool
 goes_on (KeywordKind Else) = true
@@ -38,44 +46,56 @@ goes_on (KeywordKind Is) = true
 goes_on (SignKind s) = true
 goes_on _ = false
 
+-- ---- one level: how many tokens count in it since its count last began (`count`), and whether `function` is one of them
+-- ---- (`has_function`)
+
+abbrev pub new_level : Level
+new_level = record { count = 0; has_function = false }
+
+abbrev pub counted : Level → Level
+counted level = record { count = level.count + 1; has_function = level.has_function }
+
+abbrev pub counted_function : Level → Level
+counted_function level = record { count = level.count + 1; has_function = true }
+
 -- ---- levels: the outermost one, and one for each open bracket
 
 pub record Levels : Type 0 where
-  -- how many tokens count in the innermost level
-  pub count : ℕ
-  -- and in the levels around it, innermost first
-  pub around : List ℕ
+  -- the innermost level
+  pub here : Level
+  -- the levels around it, innermost first
+  pub around : List Level
 
 abbrev pub outermost : Levels
-outermost = record { count = 0; around = [] }
+outermost = record { here = new_level; around = [] }
+
+abbrev pub counts : List Level → ℕ
+counts levels = sum (map (λ (level : Level). level.count) levels)
 
 -- the open brackets and all counts
 abbrev pub nesting : Levels → ℕ
-nesting l = length l.around + (l.count + sum l.around)
+nesting l = length l.around + (l.here.count + counts l.around)
+
+abbrev pub in_here : (Level → Level) → Levels → Levels
+in_here change l = record { here = change l.here; around = l.around }
 
 abbrev pub opened : Levels → Levels
-opened l = record { count = 0; around = l.count ∷ l.around }
+opened l = record { here = new_level; around = l.here ∷ l.around }
 
--- the innermost open bracket closes, whatever its kind; the outermost level stays
-abbrev pub around_or : Levels → List ℕ → Levels
-around_or l [] = l
-around_or l (count ∷ around) = record { count = count; around = around }
+-- the innermost open bracket closes, whatever its kind; where none is open, the bracket counts as other signs do
+abbrev pub closed_into : List Level → Levels → Levels
+closed_into [] l = in_here counted l
+closed_into (level ∷ around) l = record { here = counted level; around = around }
 
 abbrev pub closed : Levels → Levels
-closed l = around_or l l.around
-
-abbrev pub one_more : Levels → Levels
-one_more l = record { count = l.count + 1; around = l.around }
-
-abbrev pub anew : Levels → Levels
-anew l = record { count = 0; around = l.around }
+closed l = closed_into l.around l
 
 -- ---- along the tokens
 
--- at `=>` before `{` the count begins anew
-abbrev pub begins_anew : TokenKind → Kinds → Bool
-begins_anew (SignKind FatArrow) (SignKind OpenBrace ∷ rest) = true
-begins_anew _ _ = false
+-- at `=>` before `{` the count begins anew, but where `function` counts in it: that is the arrow of a function
+abbrev pub begins_anew : TokenKind → Kinds → Level → Bool
+begins_anew (SignKind FatArrow) (SignKind OpenBrace ∷ rest) level = not level.has_function
+begins_anew _ _ level = false
 
 -- behind `;`, behind `,` and behind a `}` with which nothing goes on the count begins anew
 abbrev pub ends_count : TokenKind → Kinds → Bool
@@ -89,13 +109,14 @@ ends_count _ _ = false
 abbrev pub at_token : TokenKind → Kinds → Levels → Levels
 at_token k rest l =
     if is_opening k then opened l
-    else if is_closing k then one_more (closed l)
-    else if begins_anew k rest then one_more (anew l)
-    else if is_fixed k then one_more l
+    else if is_closing k then closed l
+    else if begins_anew k rest l.here then in_here (λ level. counted new_level) l
+    else if is_function k then in_here counted_function l
+    else if is_fixed k then in_here counted l
     else l
 
 abbrev pub behind_token : TokenKind → Kinds → Levels → Levels
-behind_token k rest l = if ends_count k rest then anew l else l
+behind_token k rest l = if ends_count k rest then in_here (λ level. new_level) l else l
 
 -- the nesting at each token, where the first comes with these levels before it
 abbrev pub nestings : Levels → Kinds → List ℕ

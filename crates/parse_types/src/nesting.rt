@@ -3,7 +3,7 @@
 
 ghost use Rattle.std.specs.Prelude.{◌≡◌, ◌≤◌, ◌<◌, ◌+◌, ◌-◌, ◌^◌, length, take, IfOk, IfSome, OnOk};
 ghost use Rattle.parse_types.specs.Nesting as spec;
-ghost use Rattle.parse_types.specs.Nesting.{outermost, opened, closed, one_more, anew, is_opening, is_closing, is_fixed, goes_on, begins_anew, ends_count, at_token, behind_token, depth_behind};
+ghost use Rattle.parse_types.specs.Nesting.{outermost, opened, closed, in_here, new_level, counted, counted_function, is_opening, is_closing, is_fixed, is_function, goes_on, begins_anew, ends_count, at_token, behind_token, depth_behind};
 ghost use Rattle.bal_tree.specs.Spells.{kinds_of};
 
 use bal_base::{Keyword, MOST_NESTING, Memory, Sign, Token, TokenKind};
@@ -72,13 +72,33 @@ pub fn depth_behind(kind: &TokenKind, depth: usize) -> Option<usize>
     }
 }
 
+/// One level: what stands outside all brackets, or inside one that is open.
+#[derive(Clone, Copy)]
+struct Level {
+    /// How many tokens count in it since its count last began.
+    count: u32,
+    /// Whether `function` is one of these tokens.
+    has_function: bool,
+}
+
+impl Level {
+    fn new() -> Level
+        ensures { result ≡ new_level }
+    {
+        Level {
+            count: 0,
+            has_function: false,
+        }
+    }
+}
+
 /// The open levels: the outermost one, and one for each open bracket.
 #[derive(Drop)]
 struct Levels {
-    /// How many tokens count in the innermost level.
-    count: usize,
-    /// And in the levels around it, outermost first.
-    around: Vec<usize>,
+    /// The innermost level.
+    here: Level,
+    /// The levels around it, outermost first.
+    around: Vec<Level>,
     /// The open brackets and all counts.
     nesting: usize,
 }
@@ -89,9 +109,9 @@ impl Model for Levels {
 
     ghost Value = { spec.Levels };
 
-    ghost view = { λ l. record { count = l.count; around = reverse l.around.items } };
+    ghost view = { λ l. record { here = l.here; around = reverse l.around.items } };
 
-    ghost invariant = { λ l. l.nesting ≡ spec.nesting record { count = l.count; around = reverse l.around.items } };
+    ghost invariant = { λ l. l.nesting ≡ spec.nesting record { here = l.here; around = reverse l.around.items } };
 }
 
 impl Levels {
@@ -99,7 +119,7 @@ impl Levels {
         ensures { result ≡ outermost }
     {
         Levels {
-            count: 0,
+            here: Level::new(),
             around: Vec::new(alloc),
             nesting: 0,
         }
@@ -120,10 +140,11 @@ impl Levels {
             self.open()?;
         } else if is_closing(kind) {
             self.close();
-            self.one_more();
-        } else if begins_anew(kind, rest) {
+        } else if begins_anew(kind, rest, self.here) {
             self.anew();
             self.one_more();
+        } else if is_function(kind) {
+            self.one_function_more();
         } else if is_fixed(kind) {
             self.one_more();
         }
@@ -143,36 +164,48 @@ impl Levels {
         requires { spec.nesting self.old ≤ MOST_NESTING }
         ensures { OnOk result (self.new ≡ opened self.old) }
     {
-        self.around.push(self.count)?;
-        self.count = 0;
+        self.around.push(self.here)?;
+        self.here = Level::new();
         self.nesting += 1;
         Ok(())
     }
 
     fn close(&mut self)
-        ensures closes { self.new ≡ closed self.old }
-        ensures no_deeper { spec.nesting self.new ≤ spec.nesting self.old }
+        requires { spec.nesting self.old ≤ MOST_NESTING }
+        ensures { self.new ≡ closed self.old }
     {
-        if let Some(count) = self.around.pop() {
-            self.nesting -= self.count + 1;
-            self.count = count;
+        match self.around.pop() {
+            None => self.one_more(),
+            Some(level) => {
+                self.nesting -= self.here.count as usize + 1;
+                self.here = level;
+                self.one_more();
+            }
         }
     }
 
     fn one_more(&mut self)
         requires { spec.nesting self.old ≤ MOST_NESTING }
-        ensures { self.new ≡ one_more self.old }
+        ensures { self.new ≡ in_here counted self.old }
     {
-        self.count += 1;
+        self.here.count += 1;
         self.nesting += 1;
     }
 
+    fn one_function_more(&mut self)
+        requires { spec.nesting self.old ≤ MOST_NESTING }
+        ensures { self.new ≡ in_here counted_function self.old }
+    {
+        self.here.has_function = true;
+        self.one_more();
+    }
+
     fn anew(&mut self)
-        ensures begins { self.new ≡ anew self.old }
+        ensures begins { self.new ≡ in_here (λ level. new_level) self.old }
         ensures no_deeper { spec.nesting self.new ≤ spec.nesting self.old }
     {
-        self.nesting -= self.count;
-        self.count = 0;
+        self.nesting -= self.here.count as usize;
+        self.here = Level::new();
     }
 }
 
@@ -202,6 +235,12 @@ fn is_fixed(kind: &TokenKind) -> bool
     matches!(kind, TokenKind::Keyword(_) | TokenKind::Sign(_))
 }
 
+fn is_function(kind: &TokenKind) -> bool
+    ensures { result ≡ is_function kind.now }
+{
+    matches!(kind, TokenKind::Keyword(Keyword::Function))
+}
+
 fn goes_on(kind: &TokenKind) -> bool
     ensures { result ≡ goes_on kind.now }
 {
@@ -211,13 +250,13 @@ fn goes_on(kind: &TokenKind) -> bool
     )
 }
 
-/// Whether the count begins anew at the token.
-fn begins_anew(kind: &TokenKind, rest: &[Token]) -> bool
-    ensures { result ≡ begins_anew kind.now (kinds_of rest.now) }
+/// Whether the count of the level begins anew at the token.
+fn begins_anew(kind: &TokenKind, rest: &[Token], level: Level) -> bool
+    ensures { result ≡ begins_anew kind.now (kinds_of rest.now) level }
 {
     match (kind, rest.first()) {
         (TokenKind::Sign(Sign::FatArrow), Some(next)) => {
-            matches!(next.kind, TokenKind::Sign(Sign::OpenBrace))
+            matches!(next.kind, TokenKind::Sign(Sign::OpenBrace)) && !level.has_function
         }
         _ => false,
     }
