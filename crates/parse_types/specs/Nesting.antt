@@ -1,8 +1,21 @@
 -- How deep a token stands, in brackets and in chains.
 --
--- The arrow of a function has `function` before it, and so it is none of a match clause, at which a count begins anew: else a
--- function whose value is a mapping would make all forgotten that is open before it.
-use Rattle.std.specs.Prelude.{ℕ, zero, suc, ◌+◌, Bool, true, false, not, nat_lt, if◌then◌else◌, List, [], ◌∷◌, map, length, sum, Option, None, Some}
+-- A tree that is read has no path of more than a fixed multiple of the limit of nodes. Each node has a keyword, a sign or a
+-- bracket of its own, but for a fixed number of nodes between two such ones. A path goes from level to level, where a level is
+-- what stands between two brackets, or outside all. In each level some of these tokens stand before the part of the level in
+-- which the path goes on, and the others behind it.
+--
+-- Those before all count at the token where the path ends: a count begins anew only behind a member of a list, a field, a
+-- statement, a definition or the type in front of a name, or at the arrow of a match clause. A node that is open there is the
+-- statement or the like itself, and there are a fixed number of these in a level. (The arrow of a function has `function` before
+-- it, so it is none of a match clause; else a function whose value is a mapping would make all forgotten that is open before it.)
+-- So they and the open brackets are no more than the limit.
+--
+-- Those behind count from the brackets outwards: where brackets close, the count of the level around them goes on from the
+-- highest count in them. So at the last of those behind, in the outermost level that has any, the count is no less than the number
+-- of all of them, and they are no more than the limit either. (Else a chain in parentheses, which are the first operand of a chain
+-- in parentheses, and so on, would be as deep as all its chains together.)
+use Rattle.std.specs.Prelude.{ℕ, zero, suc, ◌+◌, Bool, true, false, not, nat_lt, max, if◌then◌else◌, List, [], ◌∷◌, map, length, sum, Option, None, Some}
 use Rattle.std.specs.Option.{option_map_or}
 use Rattle.std.specs.List.{position_from}
 use Rattle.bal_base.specs.declared.limits.TheConstants.{MOST_NESTING}
@@ -46,17 +59,30 @@ goes_on (KeywordKind Is) = true
 goes_on (SignKind s) = true
 goes_on _ = false
 
--- ---- one level: how many tokens count in it since its count last began (`count`), and whether `function` is one of them
--- ---- (`has_function`)
+-- ---- one level: how many tokens count in it since its count last began (`count`), whether `function` is one of them
+-- ---- (`has_function`), and its highest count before it last began (`highest`)
 
 abbrev pub new_level : Level
-new_level = record { count = 0; has_function = false }
+new_level = record { count = 0; has_function = false; highest = 0 }
+
+-- the highest count of a level since its bracket opened
+abbrev pub highest_of : Level → ℕ
+highest_of level = max level.count level.highest
+
+abbrev pub begun_anew : Level → Level
+begun_anew level = record { count = 0; has_function = false; highest = highest_of level }
 
 abbrev pub counted : Level → Level
-counted level = record { count = level.count + 1; has_function = level.has_function }
+counted level = record { count = level.count + 1; has_function = level.has_function; highest = level.highest }
 
 abbrev pub counted_function : Level → Level
-counted_function level = record { count = level.count + 1; has_function = true }
+counted_function level = record { count = level.count + 1; has_function = true; highest = level.highest }
+
+-- a level behind brackets: one more for the bracket that closes, but no less than the highest count in the brackets, since
+-- what stands in them may be the left part of what stands behind them
+abbrev pub behind_brackets : Level → Level → Level
+behind_brackets inside level =
+    record { count = max (level.count + 1) (highest_of inside); has_function = level.has_function; highest = level.highest }
 
 -- ---- levels: the outermost one, and one for each open bracket
 
@@ -85,7 +111,7 @@ opened l = record { here = new_level; around = l.here ∷ l.around }
 -- the innermost open bracket closes, whatever its kind; where none is open, the bracket counts as other signs do
 abbrev pub closed_into : List Level → Levels → Levels
 closed_into [] l = in_here counted l
-closed_into (level ∷ around) l = record { here = counted level; around = around }
+closed_into (level ∷ around) l = record { here = behind_brackets l.here level; around = around }
 
 abbrev pub closed : Levels → Levels
 closed l = closed_into l.around l
@@ -110,13 +136,13 @@ abbrev pub at_token : TokenKind → Kinds → Levels → Levels
 at_token k rest l =
     if is_opening k then opened l
     else if is_closing k then closed l
-    else if begins_anew k rest l.here then in_here (λ level. counted new_level) l
+    else if begins_anew k rest l.here then in_here (λ level. counted (begun_anew level)) l
     else if is_function k then in_here counted_function l
     else if is_fixed k then in_here counted l
     else l
 
 abbrev pub behind_token : TokenKind → Kinds → Levels → Levels
-behind_token k rest l = if ends_count k rest then in_here (λ level. new_level) l else l
+behind_token k rest l = if ends_count k rest then in_here begun_anew l else l
 
 -- the nesting at each token, where the first comes with these levels before it
 abbrev pub nestings : Levels → Kinds → List ℕ

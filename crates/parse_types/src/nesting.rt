@@ -3,7 +3,7 @@
 
 ghost use Rattle.std.specs.Prelude.{◌≡◌, ◌≤◌, ◌<◌, ◌+◌, ◌-◌, ◌^◌, length, take, IfOk, IfSome, OnOk};
 ghost use Rattle.parse_types.specs.Nesting as spec;
-ghost use Rattle.parse_types.specs.Nesting.{outermost, opened, closed, in_here, new_level, counted, counted_function, is_opening, is_closing, is_fixed, is_function, goes_on, begins_anew, ends_count, at_token, behind_token, depth_behind};
+ghost use Rattle.parse_types.specs.Nesting.{outermost, opened, closed, in_here, new_level, begun_anew, counted, counted_function, behind_brackets, highest_of, is_opening, is_closing, is_fixed, is_function, goes_on, begins_anew, ends_count, at_token, behind_token, depth_behind};
 ghost use Rattle.bal_tree.specs.Spells.{kinds_of};
 
 use bal_base::{Keyword, MOST_NESTING, Memory, Sign, Token, TokenKind};
@@ -14,7 +14,7 @@ use std::marker::Model;
 ///
 /// The nesting at a token is the number of open brackets and how many tokens count in each of them and outside
 /// all: words of the language, and signs that open no bracket. The counts begin anew where a statement or the
-/// member of a list ends.
+/// member of a list ends, and behind brackets no lower than the highest count in them.
 pub fn first_too_deep(alloc: Global, tokens: &[Token]) -> Result<Option<usize>, Memory>
     ensures first { IfOk result (λ o. o ≡ spec.first_too_deep (kinds_of tokens.now)) }
     ensures within { IfOk result (λ o. IfSome o (λ i. i < length tokens.now)) }
@@ -79,6 +79,8 @@ struct Level {
     count: u32,
     /// Whether `function` is one of these tokens.
     has_function: bool,
+    /// The highest count before it last began.
+    highest: u32,
 }
 
 impl Level {
@@ -88,6 +90,36 @@ impl Level {
         Level {
             count: 0,
             has_function: false,
+            highest: 0,
+        }
+    }
+
+    /// The highest count since the bracket opened.
+    fn highest(self) -> u32
+        ensures { result ≡ highest_of self }
+    {
+        self.count.max(self.highest)
+    }
+
+    /// The level where its count begins anew.
+    fn begun_anew(self) -> Level
+        ensures { result ≡ begun_anew self }
+    {
+        Level {
+            count: 0,
+            has_function: false,
+            highest: self.highest(),
+        }
+    }
+
+    /// The level behind brackets in which this one was.
+    fn behind_brackets(self, inside: Level) -> Level
+        requires { self.count ≤ MOST_NESTING }
+        ensures { result ≡ behind_brackets inside self }
+    {
+        Level {
+            count: (self.count + 1).max(inside.highest()),
+            ..self
         }
     }
 }
@@ -177,9 +209,10 @@ impl Levels {
         match self.around.pop() {
             None => self.one_more(),
             Some(level) => {
-                self.nesting -= self.here.count as usize + 1;
-                self.here = level;
-                self.one_more();
+                let inside = self.here;
+                self.nesting -= inside.count as usize + level.count as usize + 1;
+                self.here = level.behind_brackets(inside);
+                self.nesting += self.here.count as usize;
             }
         }
     }
@@ -201,11 +234,11 @@ impl Levels {
     }
 
     fn anew(&mut self)
-        ensures begins { self.new ≡ in_here (λ level. new_level) self.old }
+        ensures begins { self.new ≡ in_here begun_anew self.old }
         ensures no_deeper { spec.nesting self.new ≤ spec.nesting self.old }
     {
         self.nesting -= self.here.count as usize;
-        self.here = Level::new();
+        self.here = self.here.begun_anew();
     }
 }
 
