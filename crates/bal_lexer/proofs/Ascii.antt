@@ -4,6 +4,7 @@ use Rattle.std.specs.Prelude.{encode_utf8_all}
 use Rattle.std.specs.Str.{IsAscii}
 use Rattle.std.specs.List.{list_all}
 use Rattle.std.proofs.lemmas.Bool.{and_parts, ltb-true}
+use Rattle.unicode_ident.proofs.IdentLemmas.{is_xid_start-ascii, is_xid_continue-ascii}
 use Rattle.std.proofs.lemmas.Str.{encodes-IsAscii, chars-IsAscii, encodes-chars, encodes-append}
 
 -- whether each is below 128
@@ -25,3 +26,6 @@ chars-ascii xs ascii = chars-IsAscii xs (IsAscii-all xs ascii)
 
 pub bytes-ascii : (s xs : List ℕ) → IsUtf8 s → all_ascii xs ≡ true → chars s ≡ xs → s ≡ xs
 bytes-ascii s xs text ascii e = sym (encodes-chars s text) ∙ ap encode_utf8_all e ∙ encodes-IsAscii xs (IsAscii-all xs ascii)
+
+-- which characters of ASCII a word begins and goes on with
+pub ruleset words_of_ascii = (is_xid_start-ascii, is_xid_continue-ascii)

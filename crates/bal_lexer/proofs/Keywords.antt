@@ -7,11 +7,11 @@ use Rattle.bal_base.specs.declared.token.Keyword.{Keyword}
 use Rattle.bal_base.specs.declared.token.Keyword.TheVariants as keyword
 use Rattle.bal_base.proofs.Tables.{every, find-written}
 use Rattle.bal_lexer.specs.Spellings.{keyword_text, left_out_words}
-use Rattle.bal_lexer.specs.declared.keyword.TheConstants.{KEYWORDS}
+use Rattle.bal_lexer.specs.Groups.{every_keyword}
 use Rattle.bal_lexer.proofs.Ascii.{all_ascii}
 
 -- no keyword is missing
-pub has_keyword : (k : Keyword) → Contains KEYWORDS k
+pub has_keyword : (k : Keyword) → Contains every_keyword k
 has_keyword keyword.Import = (0, lit< tt, refl)
 has_keyword keyword.As = (1, lit< tt, refl)
 has_keyword keyword.Public = (2, lit< tt, refl)
@@ -56,18 +56,18 @@ has_keyword keyword.Wait = (40, lit< tt, refl)
 has_keyword keyword.Flush = (41, lit< tt, refl)
 
 pub keyword_ascii : (k : Keyword) → all_ascii (keyword_text k) ≡ true
-keyword_ascii k = every KEYWORDS has_keyword (λ g. all_ascii (keyword_text g)) refl k
+keyword_ascii k = every every_keyword has_keyword (λ g. all_ascii (keyword_text g)) refl k
 
 -- no keyword is left out
 pub keyword-not_left_out : (k : Keyword) → list_any (λ w. bytes_eq w (keyword_text k)) left_out_words ≡ false
 unfolding left_out_words
 keyword-not_left_out k =
-    not-true (list_any (λ w. bytes_eq w (keyword_text k)) left_out_words) (every KEYWORDS has_keyword (λ g. not (list_any (λ w. bytes_eq w (keyword_text g)) left_out_words)) refl k)
+    not-true (list_any (λ w. bytes_eq w (keyword_text k)) left_out_words) (every every_keyword has_keyword (λ g. not (list_any (λ w. bytes_eq w (keyword_text g)) left_out_words)) refl k)
 
 -- no keyword is a sign
 pub keyword-no_sign : (k : Keyword) → bytes_eq (keyword_text k) (codes "_") ≡ false
-keyword-no_sign k = not-true (bytes_eq (keyword_text k) (codes "_")) (every KEYWORDS has_keyword (λ g. not (bytes_eq (keyword_text g) (codes "_"))) refl k)
+keyword-no_sign k = not-true (bytes_eq (keyword_text k) (codes "_")) (every every_keyword has_keyword (λ g. not (bytes_eq (keyword_text g) (codes "_"))) refl k)
 
 -- no two keywords are written alike
-pub find-keyword : (k : Keyword) → find (λ h. bytes_eq (keyword_text h) (keyword_text k)) KEYWORDS ≡ Some k
-find-keyword k = find-written keyword_text KEYWORDS k refl (has_keyword k)
+pub find-keyword : (k : Keyword) → find (λ h. bytes_eq (keyword_text h) (keyword_text k)) every_keyword ≡ Some k
+find-keyword k = find-written keyword_text every_keyword k refl (has_keyword k)

@@ -6,6 +6,7 @@ pub mod Signs
 pub mod Keywords
 pub mod SignScan
 pub mod WordKinds
+pub mod Lookups
 pub mod IntLemmas
 pub mod ScalarLemmas
 pub mod Pieces

@@ -7,15 +7,15 @@ use Rattle.bal_base.specs.declared.token.Sign.TheVariants as sign
 use Rattle.bal_base.proofs.Tables.{every, apart-same}
 use Rattle.bal_lexer.specs.Spellings.{sign_text}
 use Rattle.bal_lexer.specs.Lexemes.{begins_with}
-use Rattle.bal_lexer.specs.declared.sign.TheConstants.{SIGNS}
+use Rattle.bal_lexer.specs.Groups.{every_sign}
 use Rattle.bal_lexer.proofs.Ascii.{all_ascii}
 use Rattle.bal_lexer.proofs.Finds.{descends}
 
-pub signs_descend : descends (λ g. length (sign_text g)) SIGNS ≡ true
+pub signs_descend : descends (λ g. length (sign_text g)) every_sign ≡ true
 signs_descend = refl
 
 -- no sign is missing
-pub has_sign : (g : Sign) → Contains SIGNS g
+pub has_sign : (g : Sign) → Contains every_sign g
 has_sign sign.Ellipsis = (0, lit< tt, refl)
 has_sign sign.DotDotLess = (1, lit< tt, refl)
 has_sign sign.DoubleArrow = (2, lit< tt, refl)
@@ -63,20 +63,20 @@ has_sign sign.Percent = (43, lit< tt, refl)
 has_sign sign.Underscore = (44, lit< tt, refl)
 
 pub sign_ascii : (g : Sign) → all_ascii (sign_text g) ≡ true
-sign_ascii g = every SIGNS has_sign (λ h. all_ascii (sign_text h)) refl g
+sign_ascii g = every every_sign has_sign (λ h. all_ascii (sign_text h)) refl g
 
 -- no sign is empty
 pub sign_length : (g : Sign) → nat_lt 0 (length (sign_text g)) ≡ true
-sign_length g = every SIGNS has_sign (λ h. nat_lt 0 (length (sign_text h))) refl g
+sign_length g = every every_sign has_sign (λ h. nat_lt 0 (length (sign_text h))) refl g
 
 -- a sign that begins with `/` has two characters at most
 pub slash_short : (g : Sign) → (not (begins_with (λ c. c == 47) (sign_text g)) || nat_le (length (sign_text g)) 2) ≡ true
-slash_short g = every SIGNS has_sign (λ h. not (begins_with (λ c. c == 47) (sign_text h)) || nat_le (length (sign_text h)) 2) refl g
+slash_short g = every every_sign has_sign (λ h. not (begins_with (λ c. c == 47) (sign_text h)) || nat_le (length (sign_text h)) 2) refl g
 
 -- no sign is a comment
 pub no_comment : (g : Sign) → starts_with nat_eq (sign_text g) (codes "//") ≡ false
-no_comment g = not-true (starts_with nat_eq (sign_text g) (codes "//")) (every SIGNS has_sign (λ h. not (starts_with nat_eq (sign_text h) (codes "//"))) refl g)
+no_comment g = not-true (starts_with nat_eq (sign_text g) (codes "//")) (every every_sign has_sign (λ h. not (starts_with nat_eq (sign_text h) (codes "//"))) refl g)
 
 -- no two signs are written alike
 pub sign_text-same : (g h : Sign) → sign_text g ≡ sign_text h → g ≡ h
-sign_text-same g h e = apart-same sign_text SIGNS g h refl (has_sign g) (has_sign h) e
+sign_text-same g h e = apart-same sign_text every_sign g h refl (has_sign g) (has_sign h) e

@@ -18,8 +18,7 @@ use Rattle.bal_base.specs.declared.token.Token.{Token as TokenOf}
 use Rattle.bal_base.specs.declared.fault.FaultCode.{FaultCode}
 use Rattle.bal_base.specs.declared.fault.FaultCode.TheVariants as code
 use Rattle.bal_lexer.specs.Spellings.{keyword_text, sign_text, left_out_words}
-use Rattle.bal_lexer.specs.declared.keyword.TheConstants.{KEYWORDS}
-use Rattle.bal_lexer.specs.declared.sign.TheConstants.{SIGNS}
+use Rattle.bal_lexer.specs.Groups.{every_keyword, every_sign}
 use Rattle.bal_lexer.specs.declared.lexeme.Lexeme.{Lexeme}
 use Rattle.bal_lexer.specs.declared.lexeme.Lexeme.TheVariants.{Gap, LeftOut, Token}
 use Rattle.bal_lexer.specs.declared.lexeme.Start.{Start}
@@ -47,13 +46,13 @@ nonempty c cs e = cc
 word-means : (word : List ℕ) → (lexeme : Lexeme) × Means word lexeme
 word-means word = by_underscore (bytes_eq word (95 ∷ [])) refl
   where
-    by_keyword : (bytes_eq word (95 ∷ []) ≡ false) → (list_any (λ w. bytes_eq w word) left_out_words ≡ false) → (found : Option Keyword) → find (λ k. bytes_eq (keyword_text k) word) KEYWORDS ≡ found → (lexeme : Lexeme) × Means word lexeme
-    by_keyword no_sign not_left_out (Some k) e = (Token (kind.Keyword k), sym ((bytes_eq-Decides (keyword_text k) word).0 (find-some (λ h. bytes_eq (keyword_text h) word) KEYWORDS k e)))
+    by_keyword : (bytes_eq word (95 ∷ []) ≡ false) → (list_any (λ w. bytes_eq w word) left_out_words ≡ false) → (found : Option Keyword) → find (λ k. bytes_eq (keyword_text k) word) every_keyword ≡ found → (lexeme : Lexeme) × Means word lexeme
+    by_keyword no_sign not_left_out (Some k) e = (Token (kind.Keyword k), sym ((bytes_eq-Decides (keyword_text k) word).0 (find-some (λ h. bytes_eq (keyword_text h) word) every_keyword k e)))
     by_keyword no_sign not_left_out None e = (
       Token (kind.Word word),
       (
         record {
-          no_keyword = λ k is. both_ways (bytes_eq (keyword_text k) word) (find-none (λ h. bytes_eq (keyword_text h) word) KEYWORDS k e (has_keyword k)) ((bytes_eq-Decides (keyword_text k) word).1 (sym is));
+          no_keyword = λ k is. both_ways (bytes_eq (keyword_text k) word) (find-none (λ h. bytes_eq (keyword_text h) word) every_keyword k e (has_keyword k)) ((bytes_eq-Decides (keyword_text k) word).1 (sym is));
           not_left_out = λ listed. both_ways (bytes_eq word word) (list_any-at (λ w. bytes_eq w word) left_out_words word not_left_out listed) ((bytes_eq-Decides word word).1 refl);
           no_sign = λ is. both_ways (bytes_eq word (95 ∷ [])) no_sign ((bytes_eq-Decides word (95 ∷ [])).1 is);
         },
@@ -63,7 +62,7 @@ word-means word = by_underscore (bytes_eq word (95 ∷ [])) refl
 
     by_left_out : (bytes_eq word (95 ∷ []) ≡ false) → (left : Bool) → list_any (λ w. bytes_eq w word) left_out_words ≡ left → (lexeme : Lexeme) × Means word lexeme
     by_left_out no_sign true e = (LeftOut, contains-any word left_out_words e)
-    by_left_out no_sign false e = by_keyword no_sign e (find (λ k. bytes_eq (keyword_text k) word) KEYWORDS) refl
+    by_left_out no_sign false e = by_keyword no_sign e (find (λ k. bytes_eq (keyword_text k) word) every_keyword) refl
 
     by_underscore : (underscore : Bool) → bytes_eq word (95 ∷ []) ≡ underscore → (lexeme : Lexeme) × Means word lexeme
     by_underscore true e = (Token (kind.Sign sign.Underscore), ((bytes_eq-Decides word (95 ∷ [])).0 e, refl))
@@ -114,22 +113,22 @@ starts-front text front e =
 sign-total : (text : List ℕ) → (found : Option (Lexeme × List ℕ)) × FirstAt Sign text found
 sign-total text = go (cases_Bool (starts_with nat_eq text (47 ∷ 47 ∷ [])))
   where
-    by_sign : (starts_with nat_eq text (47 ∷ 47 ∷ []) ≡ false) → (g : Option SignOf) → find (λ h. starts_with nat_eq text (sign_text h)) SIGNS ≡ g → (found : Option (Lexeme × List ℕ)) × FirstAt Sign text found
+    by_sign : (starts_with nat_eq text (47 ∷ 47 ∷ []) ≡ false) → (g : Option SignOf) → find (λ h. starts_with nat_eq text (sign_text h)) every_sign ≡ g → (found : Option (Lexeme × List ℕ)) × FirstAt Sign text found
     by_sign no_comment (Some g) e = (
       Some (Token (kind.Sign g), drop (length (sign_text g)) text),
       sign-first text g (drop (length (sign_text g)) text) (λ rest is. both_ways (starts_with nat_eq text (47 ∷ 47 ∷ [])) no_comment (starts-yes text (47 ∷ 47 ∷ []) rest is))
-          (starts-front text (sign_text g) (find-some (λ h. starts_with nat_eq text (sign_text h)) SIGNS g e))
-          (λ other rest is. find-largest (λ h. length (sign_text h)) (λ h. starts_with nat_eq text (sign_text h)) SIGNS g other signs_descend e (has_sign other) (starts-yes text (sign_text other) rest is)),
+          (starts-front text (sign_text g) (find-some (λ h. starts_with nat_eq text (sign_text h)) every_sign g e))
+          (λ other rest is. find-largest (λ h. length (sign_text h)) (λ h. starts_with nat_eq text (sign_text h)) every_sign g other signs_descend e (has_sign other) (starts-yes text (sign_text other) rest is)),
     )
     by_sign no_comment None e = (
       None,
       sign-none text (λ rest is. both_ways (starts_with nat_eq text (47 ∷ 47 ∷ [])) no_comment (starts-yes text (47 ∷ 47 ∷ []) rest is))
-          (λ other rest is. both_ways (starts_with nat_eq text (sign_text other)) (find-none (λ h. starts_with nat_eq text (sign_text h)) SIGNS other e (has_sign other)) (starts-yes text (sign_text other) rest is)),
+          (λ other rest is. both_ways (starts_with nat_eq text (sign_text other)) (find-none (λ h. starts_with nat_eq text (sign_text h)) every_sign other e (has_sign other)) (starts-yes text (sign_text other) rest is)),
     )
 
     go : (starts_with nat_eq text (47 ∷ 47 ∷ []) ≡ true) ⊎ (starts_with nat_eq text (47 ∷ 47 ∷ []) ≡ false) → (found : Option (Lexeme × List ℕ)) × FirstAt Sign text found
     go (inl comment) = (Some (Gap, after_run in_line (drop 2 text)), comment-first text (drop 2 text) (starts-front text (47 ∷ 47 ∷ []) comment))
-    go (inr no_comment) = by_sign no_comment (find (λ h. starts_with nat_eq text (sign_text h)) SIGNS) refl
+    go (inr no_comment) = by_sign no_comment (find (λ h. starts_with nat_eq text (sign_text h)) every_sign) refl
 
 -- the longest lexeme of a text, or that there is none
 first-total : (c : ℕ) (cs : List ℕ) → (found : Option (Lexeme × List ℕ)) × First (c ∷ cs) found

@@ -15,7 +15,7 @@ use Rattle.bal_base.specs.declared.token.Sign.{Sign as SignOf}
 use Rattle.bal_base.specs.declared.token.Sign.TheVariants as sign
 use Rattle.bal_base.proofs.Tables.{list_all-at}
 use Rattle.bal_lexer.specs.Spellings.{keyword_text, sign_text, left_out_words}
-use Rattle.bal_lexer.specs.declared.keyword.TheConstants.{KEYWORDS}
+use Rattle.bal_lexer.specs.Groups.{every_keyword}
 use Rattle.bal_lexer.specs.declared.lexeme.Lexeme.{Lexeme}
 use Rattle.bal_lexer.specs.declared.lexeme.Lexeme.TheVariants.{Gap, LeftOut, Token}
 use Rattle.bal_lexer.specs.declared.lexeme.Start.{Start}
@@ -40,7 +40,7 @@ keyword_meaning (Some k) word = Token (kind.Keyword k)
 keyword_meaning None word = Token (kind.Word word)
 
 abbrev keyword_here : List ℕ → Option Keyword
-keyword_here word = find (λ k. bytes_eq (keyword_text k) word) KEYWORDS
+keyword_here word = find (λ k. bytes_eq (keyword_text k) word) every_keyword
 
 abbrev meaning : List ℕ → Lexeme
 meaning word =
@@ -74,14 +74,14 @@ means-meaning word LeftOut listed =
 means-meaning word (Token (kind.Word name)) (free, same) = go (keyword_here word) refl
   where
     go : (found : Option Keyword) → keyword_here word ≡ found → meaning word ≡ Token (kind.Word name)
-    go (Some k) e = absurd (free.no_keyword k (sym ((bytes_eq-Decides (keyword_text k) word).0 (find-some (λ h. bytes_eq (keyword_text h) word) KEYWORDS k e))))
+    go (Some k) e = absurd (free.no_keyword k (sym ((bytes_eq-Decides (keyword_text k) word).0 (find-some (λ h. bytes_eq (keyword_text h) word) every_keyword k e))))
     go None e =
         meaning-by_tests false false None word (Token (kind.Word name)) (bytes_eq-apart word (95 ∷ []) free.no_sign) (false_from_ne_true (list_any (λ w. bytes_eq w word) left_out_words) (λ any. free.not_left_out (contains-any word left_out_words any))) e (ap (λ n. Token (kind.Word n)) (sym same))
 means-meaning word (Token (kind.Keyword k)) is =
     meaning-by_tests false false (Some k) word (Token (kind.Keyword k)) (ap (λ w. bytes_eq w (95 ∷ [])) is ∙ keyword-no_sign k) (ap (λ v. list_any (λ w. bytes_eq w v) left_out_words) is ∙ keyword-not_left_out k) (here k word is) (known k word)
   where
     here : (k : Keyword) (word : List ℕ) → word ≡ keyword_text k → keyword_here word ≡ Some k
-    here k word is = ap (λ v. find (λ h. bytes_eq (keyword_text h) v) KEYWORDS) is ∙ find-keyword k
+    here k word is = ap (λ v. find (λ h. bytes_eq (keyword_text h) v) every_keyword) is ∙ find-keyword k
 
     known : (k : Keyword) (word : List ℕ) → keyword_meaning (Some k) word ≡ Token (kind.Keyword k)
     known k word = refl

@@ -7,19 +7,19 @@ use Rattle.std.proofs.lemmas.Bool.{both_ways, or_cases, or_parts}
 use Rattle.bal_base.specs.declared.token.Keyword.{Keyword}
 use Rattle.bal_base.proofs.Tables.{list_all-at}
 use Rattle.bal_lexer.specs.Spellings.{keyword_text, left_out_words}
-use Rattle.bal_lexer.specs.declared.keyword.TheConstants.{KEYWORDS}
+use Rattle.bal_lexer.specs.Groups.{every_keyword}
 use Rattle.bal_lexer.proofs.Ascii.{all_ascii, chars-ascii, bytes-ascii}
 use Rattle.bal_lexer.proofs.Finds.{find-none, find-some}
 use Rattle.bal_lexer.proofs.Keywords.{has_keyword, keyword_ascii}
 
-pub keyword-some : (s : List ℕ) (k : Keyword) → find (λ h. bytes_eq (keyword_text h) s) KEYWORDS ≡ Some k → chars s ≡ keyword_text k
+pub keyword-some : (s : List ℕ) (k : Keyword) → find (λ h. bytes_eq (keyword_text h) s) every_keyword ≡ Some k → chars s ≡ keyword_text k
 keyword-some s k some =
-    let same : keyword_text k ≡ s = (bytes_eq-Decides (keyword_text k) s).0 (find-some (λ h. bytes_eq (keyword_text h) s) KEYWORDS k some) in
+    let same : keyword_text k ≡ s = (bytes_eq-Decides (keyword_text k) s).0 (find-some (λ h. bytes_eq (keyword_text h) s) every_keyword k some) in
     ap chars (sym same) ∙ chars-ascii (keyword_text k) (keyword_ascii k)
 
-pub keyword-none : (s : List ℕ) → IsUtf8 s → find (λ h. bytes_eq (keyword_text h) s) KEYWORDS ≡ None → (k : Keyword) → chars s ≢ keyword_text k
+pub keyword-none : (s : List ℕ) → IsUtf8 s → find (λ h. bytes_eq (keyword_text h) s) every_keyword ≡ None → (k : Keyword) → chars s ≢ keyword_text k
 keyword-none s text none k e =
-    both_ways _ (find-none (λ h. bytes_eq (keyword_text h) s) KEYWORDS k none (has_keyword k)) ((bytes_eq-Decides (keyword_text k) s).1 (sym (bytes-ascii s (keyword_text k) text (keyword_ascii k) e)))
+    both_ways _ (find-none (λ h. bytes_eq (keyword_text h) s) every_keyword k none (has_keyword k)) ((bytes_eq-Decides (keyword_text k) s).1 (sym (bytes-ascii s (keyword_text k) text (keyword_ascii k) e)))
 
 pub contains-any : (s : List ℕ) (xs : List (List ℕ)) → list_any (λ w. bytes_eq w s) xs ≡ true → Contains xs s
 contains-any s [] any = cc

@@ -3,6 +3,7 @@ pub mod Spellings
 pub mod Lexemes
 pub mod Lexes
 -- what the parts of the crate read
+pub mod Groups
 pub mod Runs
 pub mod Words
 pub mod Numbers

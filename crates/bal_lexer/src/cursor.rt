@@ -1,9 +1,11 @@
 //! Steps over a text. None allocates.
 ghost use Rattle.std.specs.Prelude.{◌≡◌, ◌≢◌, ◌<◌, ◌++◌, ◌∷◌, [], List, ℕ, MatchOption, IfSome, length, chars, IsUtf8, encode_utf8};
 ghost use Rattle.bal_lexer.specs.Lexemes.{begins_with};
+ghost use Rattle.unicode_ident.specs.Ident.{is_xid_start, is_xid_continue};
+ghost use Rattle.bal_lexer.specs.Groups.{first_byte};
 ghost use Rattle.bal_lexer.specs.Runs.{class_test, run, after_run};
 
-use unicode_ident::is_xid_continue;
+use unicode_ident::{is_xid_continue, is_xid_start};
 
 /// A set of characters, to find a run of them.
 #[derive(Clone, Copy)]
@@ -23,11 +25,35 @@ impl Class {
         ensures { result ≡ class_test self c }
     {
         match self {
-            Class::Word => is_xid_continue(c),
+            Class::Word => continues_word(c),
             Class::Digit => c.is_ascii_digit(),
             Class::HexDigit => c.is_ascii_hexdigit(),
             Class::Line => c != '\n',
         }
+    }
+}
+
+/// Whether a word may begin with the character, `_` aside. One of ASCII is told without Unicode's table.
+#[tactic(auto, using(crate::proofs::Ascii::words_of_ascii))]
+pub(crate) fn begins_word(c: char) -> bool
+    ensures { result ≡ is_xid_start c }
+{
+    if c.is_ascii() {
+        c.is_ascii_alphabetic()
+    } else {
+        is_xid_start(c)
+    }
+}
+
+/// Whether a word may go on with the character.
+#[tactic(auto, using(crate::proofs::Ascii::words_of_ascii))]
+fn continues_word(c: char) -> bool
+    ensures { result ≡ is_xid_continue c }
+{
+    if c.is_ascii() {
+        c.is_ascii_alphanumeric() || c == '_'
+    } else {
+        is_xid_continue(c)
     }
 }
 
@@ -41,6 +67,16 @@ pub(crate) fn split_first(s: &str) -> Option<(char, &str)>
     let mut chars = s.chars();
     let c = chars.next()?;
     Some((c, chars.as_str()))
+}
+
+/// The first byte, or 0 where there is none.
+pub(crate) fn first_byte(s: &str) -> u8
+    ensures { result ≡ first_byte s.now }
+{
+    match s.as_bytes().first() {
+        Some(byte) => *byte,
+        None => 0,
+    }
 }
 
 /// Whether the text begins with a character of the class.

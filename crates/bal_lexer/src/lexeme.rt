@@ -3,14 +3,13 @@ ghost use Rattle.std.specs.Prelude.{◌≡◌, ◌∷◌, IfOk, chars, option_ma
 ghost use Rattle.bal_lexer.specs.Runs.{after_run};
 ghost use Rattle.bal_lexer.specs.Firsts.{start_of, in_line, First, FirstAt};
 
-use crate::cursor::{Class, split_first, split_run, strip};
+use crate::cursor::{Class, begins_word, split_first, split_run, strip};
 use crate::number::number;
 use crate::sign::sign;
 use crate::string::string;
 use crate::word::word;
 use bal_base::{Memory, TokenKind};
 use std::alloc::Global;
-use unicode_ident::is_xid_start;
 
 /// What stands at the front of a text.
 #[derive(Drop)]
@@ -45,7 +44,7 @@ fn start_of(c: char) -> Start
         '"' => Start::Quote,
         '#' => Start::Hash,
         _ => {
-            if c == '_' || is_xid_start(c) {
+            if c == '_' || begins_word(c) {
                 Start::Word
             } else {
                 Start::Sign
