@@ -8,8 +8,9 @@ use Rattle.bal_base.specs.declared.fault.Fault.{Fault}
 use Rattle.checks.specs.Checks.{Gives, refuses, ◌▷◌}
 use Rattle.name_resolution.specs.declared.outlines.Outline.{Outline}
 use Rattle.name_resolution.specs.Cycles.{IsOnCycle, IsWay}
-use Rattle.name_resolution.specs.Faults.{AreNamed, all_named, definition_named, definitions_named, no_cycle, unless}
+use Rattle.name_resolution.specs.Faults.{AreNamed, all_named, definition_fault, definition_named, definitions_named, form_fault, no_cycle, unless}
 use Rattle.name_resolution.specs.Resolved.{first_fault, parts, parts_of}
+use Rattle.name_resolution.proofs.Known.{either-none}
 use Rattle.name_resolution.proofs.Levels.{follows-place}
 
 is-there : {X : Type 0} (xs : List X) (n : ℕ) → n < length xs → is_some (slice_get xs n) ≡ true
@@ -17,7 +18,7 @@ is-there [] n lt = absurd (omega (arith, lt))
 is-there (x ∷ xs) zero lt = refl
 is-there (x ∷ xs) (suc n) lt = is-there xs n (omega (arith, lt))
 
-module _ (outlines : List Outline) where
+module _ (home : ℕ) (outlines : List Outline) where
   -- what is so of the definition with this number
   abbrev pub IsFine : ℕ → Outline → Type 0
   IsFine n d = (¬ IsOnCycle (parts outlines) n) × (first_fault outlines n d d.mentions ≡ None)
@@ -27,11 +28,11 @@ module _ (outlines : List Outline) where
   not-refused None s t u h = refl
   not-refused (Some f) s t u h = absurd h
 
-  one-fine : {S : Type 0} (n : ℕ) (d : Outline) (s t : S) (u : Unit {0}) → definition_named outlines n d s (Gives u) t → IsFine n d
+  one-fine : {S : Type 0} (n : ℕ) (d : Outline) (s t : S) (u : Unit {0}) → definition_named outlines home n d s (Gives u) t → IsFine n d
   unfolding ◌▷◌ no_cycle
-  one-fine n d s t u (v, mid, free, un) = (free.0, not-refused (first_fault outlines n d d.mentions) mid t u un)
+  one-fine n d s t u (v, mid, free, un) = (free.0, (either-none (first_fault outlines n d d.mentions) (form_fault home d) (not-refused (definition_fault outlines home n d) mid t u un)).0)
 
-  pub each-fine : {S : Type 0} (n : ℕ) (ds : List Outline) (s t : S) (u : Unit {0}) → definitions_named outlines n ds s (Gives u) t → (k : ℕ) (d : Outline) → slice_get ds k ≡ Some d → IsFine (k + n) d
+  pub each-fine : {S : Type 0} (n : ℕ) (ds : List Outline) (s t : S) (u : Unit {0}) → definitions_named outlines home n ds s (Gives u) t → (k : ℕ) (d : Outline) → slice_get ds k ≡ Some d → IsFine (k + n) d
   unfolding ◌▷◌
   each-fine n [] s t u h k d e = absurd (not-there k d e)
     where
@@ -42,7 +43,7 @@ module _ (outlines : List Outline) where
       let turn : k + suc n ≡ suc k + n = omega arith in subst (λ i. IsFine i d) turn (each-fine (suc n) ds mid t u j k d e)
 
   -- and so all of it
-  pub are-named : {S : Type 0} (s t : S) (u : Unit {0}) → all_named outlines s (Gives u) t → AreNamed outlines
+  pub are-named : {S : Type 0} (s t : S) (u : Unit {0}) → all_named outlines home s (Gives u) t → AreNamed outlines
   are-named s t u h = record { faultless = λ n d is. (fine n d is).1; acyclic = λ n cycle. on-none n (slice_get outlines n) refl cycle }
     where
       fine : (n : ℕ) (d : Outline) → slice_get outlines n ≡ Some d → IsFine n d

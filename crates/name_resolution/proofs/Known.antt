@@ -46,7 +46,7 @@ is-first n at (Some m) h = by (eqb_tells n m)
     by (inl e) = ap Some (sym e.1)
     by (inr e) = absurd (none-some (sym (sym (ap (λ b. cond b None (Some (fault_at Duplicate at))) e.0) ∙ h)))
 
-either-none : (a b : Option Fault) → option_or a b ≡ None → (a ≡ None) × (b ≡ None)
+pub either-none : (a b : Option Fault) → option_or a b ≡ None → (a ≡ None) × (b ≡ None)
 either-none None b h = (refl, h)
 either-none (Some f) b h = absurd (none-some (sym h))
 

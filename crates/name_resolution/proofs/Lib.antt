@@ -1,3 +1,4 @@
+pub mod AsciiWords
 pub mod Clearing
 pub mod Faultless
 mod Greedy

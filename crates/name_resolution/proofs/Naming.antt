@@ -13,8 +13,8 @@ use Rattle.name_resolution.specs.Cycles.{IsFirstCycle, IsOnCycle}
 use Rattle.std.specs.Option.{option_map}
 use Rattle.descriptors.specs.Described.{Atoms}
 use Rattle.name_resolution.specs.Distances.{IsCycleFound}
-use Rattle.name_resolution.specs.Faults.{all_named, cycle_fault, definition_named, definitions_named, name_if, names_of, no_cycle, unless}
-use Rattle.name_resolution.specs.Resolved.{first_fault, parts}
+use Rattle.name_resolution.specs.Faults.{all_named, cycle_fault, definition_fault, definition_named, definitions_named, name_if, names_of, no_cycle, unless}
+use Rattle.name_resolution.specs.Resolved.{parts}
 use Rattle.name_resolution.proofs.Rows.{take-more}
 
 abbrev Answer : Type 0
@@ -31,15 +31,15 @@ is-cycle : (outlines : List Outline) (n : ℕ) (d : Outline) (others : List ℕ)
 unfolding Comes no_cycle
 is-cycle outlines n d others f env first is = ((others, first, is), refl)
 
-pub cyclic : (outlines : List Outline) (n : ℕ) (d : Outline) (others : List ℕ) (f : Fault) (env : Atoms) → IsFirstCycle (parts outlines) n others → f ≡ cycle_fault outlines n d others
-    → Comes (definition_named outlines n d) env (Err (OwnFault f)) env
-cyclic outlines n d others f env first is =
-    stops (no_cycle outlines n d) (λ u. unless (first_fault outlines n d d.mentions)) env env (OwnFault f) (is-cycle outlines n d others f env first is)
+pub cyclic : (home : ℕ) (outlines : List Outline) (n : ℕ) (d : Outline) (others : List ℕ) (f : Fault) (env : Atoms) → IsFirstCycle (parts outlines) n others → f ≡ cycle_fault outlines n d others
+    → Comes (definition_named outlines home n d) env (Err (OwnFault f)) env
+cyclic home outlines n d others f env first is =
+    stops (no_cycle outlines n d) (λ u. unless (definition_fault outlines home n d)) env env (OwnFault f) (is-cycle outlines n d others f env first is)
 
-pub acyclic : (outlines : List Outline) (n : ℕ) (d : Outline) (env : Atoms) (r : Answer) → (IsOnCycle (parts outlines) n → ⊥) → Comes (unless (first_fault outlines n d d.mentions)) env r env
-    → Comes (definition_named outlines n d) env r env
-acyclic outlines n d env r free rest =
-    goes_on (no_cycle outlines n d) (λ u. unless (first_fault outlines n d d.mentions)) env env env tt r (no-cycle outlines n d env free) rest
+pub acyclic : (home : ℕ) (outlines : List Outline) (n : ℕ) (d : Outline) (env : Atoms) (r : Answer) → (IsOnCycle (parts outlines) n → ⊥) → Comes (unless (definition_fault outlines home n d)) env r env
+    → Comes (definition_named outlines home n d) env r env
+acyclic home outlines n d env r free rest =
+    goes_on (no_cycle outlines n d) (λ u. unless (definition_fault outlines home n d)) env env env tt r (no-cycle outlines n d env free) rest
 
 pub unless-none : (o : Option Fault) (env : Atoms) → o ≡ None → Comes (unless o) env (Ok tt) env
 unless-none o env e = subst (λ p. Comes (unless p) env (Ok tt) env) (sym e) (some_is (λ old u. u ≡ tt) env env tt refl refl)
@@ -53,28 +53,28 @@ unless-some o f env e = subst (λ p. Comes (unless p) env (Err (OwnFault f)) env
 
 -- ---- all of them
 
-module _ (outlines : List Outline) where
+module _ (home : ℕ) (outlines : List Outline) where
   -- what is left comes to what the whole comes to
   abbrev pub Left : ℕ → Type 0
-  Left n = (env : Atoms) (r : Answer) → Comes (definitions_named outlines n (drop n outlines)) env r env → Comes (all_named outlines) env r env
+  Left n = (env : Atoms) (r : Answer) → Comes (definitions_named outlines home n (drop n outlines)) env r env → Comes (all_named outlines home) env r env
 
   at-next : (n : ℕ) (d : Outline) → n < length outlines → d ≡ get_or outlines n d → drop n outlines ≡ d ∷ drop (n + 1) outlines
   at-next n d lt is =
       let more : suc n ≡ n + 1 = omega arith in
       drop-cons outlines n d lt ∙ ap (λ k. get_or outlines n d ∷ drop k outlines) more ∙ ap (λ y. y ∷ drop (n + 1) outlines) (sym is)
 
-  pub one-named : (n : ℕ) (d : Outline) → n < length outlines → d ≡ get_or outlines n d → Left n → ((env : Atoms) → Comes (definition_named outlines n d) env (Ok tt) env) → Left (n + 1)
-  one-named n d lt is left done env r h = left env r (subst (λ ds. Comes (definitions_named outlines n ds) env r env) (sym (at-next n d lt is))
-      (goes_on (definition_named outlines n d) (λ u. definitions_named outlines (suc n) (drop (n + 1) outlines)) env env env tt r (done env)
-      (subst (λ k. Comes (definitions_named outlines k (drop (n + 1) outlines)) env r env) (omega arith) h)))
+  pub one-named : (n : ℕ) (d : Outline) → n < length outlines → d ≡ get_or outlines n d → Left n → ((env : Atoms) → Comes (definition_named outlines home n d) env (Ok tt) env) → Left (n + 1)
+  one-named n d lt is left done env r h = left env r (subst (λ ds. Comes (definitions_named outlines home n ds) env r env) (sym (at-next n d lt is))
+      (goes_on (definition_named outlines home n d) (λ u. definitions_named outlines home (suc n) (drop (n + 1) outlines)) env env env tt r (done env)
+      (subst (λ k. Comes (definitions_named outlines home k (drop (n + 1) outlines)) env r env) (omega arith) h)))
 
-  pub one-stops : (n : ℕ) (d : Outline) (stop : Stop Fault) → n < length outlines → d ≡ get_or outlines n d → Left n → (env : Atoms) → Comes (definition_named outlines n d) env (Err stop) env
-      → Comes (all_named outlines) env (Err stop) env
-  one-stops n d stop lt is left env h = left env (Err stop) (subst (λ ds. Comes (definitions_named outlines n ds) env (Err stop) env) (sym (at-next n d lt is))
-      (stops (definition_named outlines n d) (λ u. definitions_named outlines (suc n) (drop (n + 1) outlines)) env env stop h))
+  pub one-stops : (n : ℕ) (d : Outline) (stop : Stop Fault) → n < length outlines → d ≡ get_or outlines n d → Left n → (env : Atoms) → Comes (definition_named outlines home n d) env (Err stop) env
+      → Comes (all_named outlines home) env (Err stop) env
+  one-stops n d stop lt is left env h = left env (Err stop) (subst (λ ds. Comes (definitions_named outlines home n ds) env (Err stop) env) (sym (at-next n d lt is))
+      (stops (definition_named outlines home n d) (λ u. definitions_named outlines home (suc n) (drop (n + 1) outlines)) env env stop h))
 
-  pub none-left : (n : ℕ) → length outlines ≤ n → Left n → (env : Atoms) → Comes (all_named outlines) env (Ok tt) env
-  none-left n le left env = left env (Ok tt) (subst (λ ds. Comes (definitions_named outlines n ds) env (Ok tt) env) (sym (drop_all n outlines le))
+  pub none-left : (n : ℕ) → length outlines ≤ n → Left n → (env : Atoms) → Comes (all_named outlines home) env (Ok tt) env
+  none-left n le left env = left env (Ok tt) (subst (λ ds. Comes (definitions_named outlines home n ds) env (Ok tt) env) (sym (drop_all n outlines le))
       (some_is (λ old u. u ≡ tt) env env tt refl refl))
 
 -- ---- names of a cycle

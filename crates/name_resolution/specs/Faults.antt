@@ -1,7 +1,8 @@
 -- The first fault in what the definitions of a package say of names, as checks in text order.
-use Rattle.std.specs.Prelude.{◌≡◌, ◌++◌, ◌∷◌, [], ℕ, suc, List, map, Option, None, Some, slice_get, true}
+use Rattle.std.specs.Prelude.{◌≡◌, ◌==◌, ◌&&◌, ◌++◌, ◌∷◌, [], ℕ, suc, List, map, not, Option, None, Some, slice_get, true, if◌then◌else◌}
+use Rattle.std.specs.Option.{option_or}
 use Rattle.bal_base.specs.declared.fault.Fault.{Fault}
-use Rattle.bal_base.specs.declared.fault.FaultCode.TheVariants.{IllFounded}
+use Rattle.bal_base.specs.declared.fault.FaultCode.TheVariants.{BadMain, IllFounded}
 use Rattle.bal_base.specs.declared.fault.Kept.TheVariants.{Names as ShowsNames}
 use Rattle.bal_base.specs.declared.text.Name.{Name}
 use Rattle.checks.specs.Checks.{Check, Gives, Refuses, ◌▷◌, gives, refuses}
@@ -9,8 +10,10 @@ use Rattle.name_resolution.specs.declared.outlines.Outline.{Outline}
 use Rattle.name_resolution.specs.declared.named.Graph.{Graph}
 use Rattle.name_resolution.specs.Cycles.{IsFirstCycle, IsOnCycle}
 use Rattle.name_resolution.specs.Distances.{IsReversed}
-use Rattle.name_resolution.specs.Resolved.{first_fault, parts}
+use Rattle.name_resolution.specs.MainForm.{main_name}
+use Rattle.name_resolution.specs.Resolved.{fault_at, first_fault, parts}
 use Rattle.name_resolution.specs.Tables.{IsTableOf}
+use Rattle.type_model.specs.Places.{is_same_text}
 
 abbrev pub name_if : Option Outline → List Name
 name_if None = []
@@ -20,6 +23,10 @@ name_if (Some d) = d.name ∷ []
 abbrev pub unless : {S : Type 0} → Option Fault → Check S (Unit {0})
 unless None = gives tt
 unless (Some f) = refuses (λ old g. g ≡ f)
+
+-- What is wrong with the function `main` where it is written, at its first token; `home`: the number of the default module.
+abbrev pub form_fault : ℕ → Outline → Option Fault
+form_fault home d = if home == d.«module» && is_same_text d.name main_name && not d.may_be_main then Some (fault_at BadMain d.at) else None
 
 module _ (outlines : List Outline) where
   -- the names of the definitions with these numbers
@@ -31,6 +38,10 @@ module _ (outlines : List Outline) where
   abbrev pub cycle_fault : ℕ → Outline → List ℕ → Fault
   cycle_fault n d others = record { code = IllFounded; at = Some d.at; kept = ShowsNames (names_of (n ∷ others)) }
 
+  -- the first fault in the names of a definition, and behind these that of the form of `main`
+  abbrev pub definition_fault : ℕ → ℕ → Outline → Option Fault
+  definition_fault home n d = option_or (first_fault outlines n d d.mentions) (form_fault home d)
+
   module _ {S : Type 0} where
     -- the type that a definition defines isn't a part of itself
     unfoldable pub no_cycle : ℕ → Outline → Check S (Unit {0})
@@ -39,17 +50,17 @@ module _ (outlines : List Outline) where
         ((others : List ℕ) × IsFirstCycle (parts outlines) n others × (f ≡ cycle_fault n d others)) × (new ≡ old)
 
     -- the definition with this number
-    abbrev pub definition_named : ℕ → Outline → Check S (Unit {0})
-    definition_named n d = no_cycle n d ▷ λ u. unless (first_fault outlines n d d.mentions)
+    abbrev pub definition_named : ℕ → ℕ → Outline → Check S (Unit {0})
+    definition_named home n d = no_cycle n d ▷ λ u. unless (definition_fault home n d)
 
     -- definitions in text order, from this number on
-    abbrev pub definitions_named : ℕ → List Outline → Check S (Unit {0})
-    definitions_named n [] = gives tt
-    definitions_named n (d ∷ ds) = definition_named n d ▷ λ u. definitions_named (suc n) ds
+    abbrev pub definitions_named : ℕ → ℕ → List Outline → Check S (Unit {0})
+    definitions_named home n [] = gives tt
+    definitions_named home n (d ∷ ds) = definition_named home n d ▷ λ u. definitions_named home (suc n) ds
 
     -- all of them
-    abbrev pub all_named : Check S (Unit {0})
-    all_named = definitions_named 0 outlines
+    abbrev pub all_named : ℕ → Check S (Unit {0})
+    all_named home = definitions_named home 0 outlines
 
   -- which definitions are parts of which
   pub record IsGraphOf (graph : Graph) : Type 0 where

@@ -3,6 +3,7 @@ pub mod Cycles
 pub mod Definitions
 pub mod Distances
 pub mod Faults
+pub mod MainForm
 pub mod Mentions
 pub mod Named
 pub mod Ordering

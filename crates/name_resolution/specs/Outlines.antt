@@ -1,5 +1,5 @@
 -- What the definitions of a package say of names, in text order: module by module, file by file, and within a file from the front.
-use Rattle.std.specs.Prelude.{◌++◌, ◌-◌, length, slice_get, ℕ, suc, false, List, [], ◌∷◌, map, fold, Option, None, Some, if◌then◌else◌}
+use Rattle.std.specs.Prelude.{◌++◌, ◌-◌, length, slice_get, ℕ, suc, true, false, List, [], ◌∷◌, map, fold, Option, None, Some, if◌then◌else◌}
 use Rattle.std.specs.List.{flat_map}
 use Rattle.bal_base.specs.declared.text.Name.{Name}
 use Rattle.bal_tree.specs.declared.def.ConstDef.{ConstDef}
@@ -15,6 +15,7 @@ use Rattle.bal_tree.specs.declared.package.Module.{Module}
 use Rattle.bal_tree.specs.declared.package.Package.{Package}
 use Rattle.bal_tree.specs.declared.params.Param.{Param}
 use Rattle.type_model.specs.Places.{is_same_text}
+use Rattle.name_resolution.specs.MainForm.{may_be_main}
 use Rattle.name_resolution.specs.declared.mentions.Mention.{Mention}
 use Rattle.name_resolution.specs.declared.mentions.Mention.TheVariants.{Own}
 use Rattle.name_resolution.specs.declared.outlines.Kind.TheVariants.{TypeName, Constant, Variable, Function}
@@ -70,13 +71,13 @@ module _ («module» : ℕ) (source : Name → Option Source) where
 
   abbrev pub outline_of : Def → Outline
   outline_of (TypeOf d) =
-      record { «module» = «module»; kind = TypeName; public = d.public; name = d.name.name; at = d.at; mentions = type_mentions d }
+      record { «module» = «module»; kind = TypeName; public = d.public; name = d.name.name; at = d.at; mentions = type_mentions d; may_be_main = true }
   outline_of (Const d) =
-      record { «module» = «module»; kind = Constant; public = d.public; name = d.name.name; at = d.at; mentions = const_mentions d }
+      record { «module» = «module»; kind = Constant; public = d.public; name = d.name.name; at = d.at; mentions = const_mentions d; may_be_main = true }
   outline_of (VariableOf d) =
-      record { «module» = «module»; kind = Variable; public = d.public; name = d.name.name; at = d.at; mentions = variable_mentions d }
+      record { «module» = «module»; kind = Variable; public = d.public; name = d.name.name; at = d.at; mentions = variable_mentions d; may_be_main = true }
   outline_of (FunctionOf d) =
-      record { «module» = «module»; kind = Function; public = d.public; name = d.name.name; at = d.at; mentions = function_mentions d }
+      record { «module» = «module»; kind = Function; public = d.public; name = d.name.name; at = d.at; mentions = function_mentions d; may_be_main = may_be_main d }
 
 abbrev pub file_outlines : ℕ → FileTree → List Outline
 file_outlines m file = map (outline_of m (import_source file.imports.items)) file.defs.items

@@ -1,8 +1,10 @@
 //! Which faults there are in what definitions say of names.
 ghost use Rattle.std.specs.Prelude.{◌≡◌, Some as Present, slice_get};
+ghost use Rattle.name_resolution.specs.Faults.{definition_fault as definition_fault_of, form_fault as form_fault_of};
 ghost use Rattle.name_resolution.specs.Resolved.{fault_at, fault_of as fault_of_mention, first_fault as first_fault_in, if_seen, is_type as is_type_of, resolved, unless_first as unless_first_of};
 ghost use Rattle.name_resolution.specs.Tables.{IsTableOf};
 
+use crate::main_form::is_main;
 use crate::mentions::Mention;
 use crate::outlines::{Kind, Outline};
 use crate::table::NameTable;
@@ -78,6 +80,17 @@ impl Resolver<'_> {
         None
     }
 
+    /// The same, or else the fault of the form of `main` in the module `home`.
+    pub(crate) fn definition_fault(&self, home: usize, number: usize, d: &Outline) -> Option<Fault>
+        requires { IsTableOf self.now.outlines.now self.now.table.now.numbers }
+        ensures { result ≡ definition_fault_of self.now.outlines.now home number d.now }
+    {
+        match self.first_fault(number, d) {
+            Some(fault) => Some(fault),
+            None => form_fault(home, d),
+        }
+    }
+
     fn fault_of(&self, number: usize, d: &Outline, mention: &Mention) -> Option<Fault>
         requires { IsTableOf self.now.outlines.now self.now.table.now.numbers }
         ensures { result ≡ fault_of_mention self.now.outlines.now number d.now mention.now }
@@ -103,6 +116,17 @@ fn as_type(from: usize, number: usize, d: &Outline) -> Result<usize, FaultCode>
         Ok(number)
     } else {
         Err(FaultCode::Unknown)
+    }
+}
+
+/// `BadMain` where this is the function `main` of the module `home` and can't be.
+fn form_fault(home: usize, d: &Outline) -> Option<Fault>
+    ensures { result ≡ form_fault_of home d.now }
+{
+    if home == d.module && is_main(&d.name) && !d.may_be_main {
+        Some(fault(FaultCode::BadMain, d.at))
+    } else {
+        None
     }
 }
 

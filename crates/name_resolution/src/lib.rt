@@ -3,11 +3,13 @@
 //! - [`check_names`]: the first fault in that, in text order.
 //! - [`parts_first`]: where there is none, the definitions in an order in which parts come first; [`prefixes`]: those of a file.
 //! - `outlines` and `mentions`: definitions, each with what it mentions of names; `table`: names by module.
+//! - `main_form` over `string_words` and `results`: what is seen of the function `main` where it is written.
 //! - `faults`: what a name stands for, and what is wrong with a mention; `cycles` over `distances`: types that are their
 //!   own parts; `order`: that there are none, by an order; `named`: the definitions one after another.
 //!
 //! `specs/Outlines.antt` says what the definitions of a package say of names, `specs/Resolved.antt` what the names of types stand
-//! for, `specs/Cycles.antt` which cycle is the first of the shortest, and `specs/Faults.antt` which fault comes first.
+//! for, `specs/Cycles.antt` which cycle is the first of the shortest, and `specs/Faults.antt` which fault comes first;
+//! `specs/MainForm.antt` says what is seen of `main` where it is written.
 //! `specs/Named.antt` says what is so of each definition where there is none.
 #![tactic(auto)]
 
@@ -22,18 +24,22 @@ ghost use Rattle.name_resolution.specs.Resolved.{parts};
 mod cycles;
 mod distances;
 mod faults;
+mod main_form;
 mod mentions;
 mod named;
 mod order;
 mod outlines;
+mod results;
+mod string_words;
 mod table;
 
 use bal_base::{Fault, Memory, Stop};
 use bal_tree::Package;
+pub use main_form::is_main;
 pub use outlines::prefixes;
 use std::alloc::Global;
 
-/// Whether the names in the definitions of a package are without fault, or else the first fault in text order: module by module,
+/// Whether the names in the definitions of a package are without fault, and `main` has its form, or else the first fault in text order: module by module,
 /// file by file, and from the front.
 ///
 /// - `IllFounded` at the first token of a definition: its type is its own part, but inside a list, a mapping, an error, a function
@@ -41,11 +47,13 @@ use std::alloc::Global;
 /// - `Duplicate` at a name: a definition before has it in its module, or a field before it in its record.
 /// - `Unknown` at the name of a type: it stands for no type or constant.
 /// - `NotPublic` at the name of a type: it is another module's and isn't public.
+/// - `BadMain` at the first token of the function `main` of the default module, behind the faults in its names: it isn't public, has a
+///   parameter that it may not have, or its result can't be an error or nil alone.
 pub fn check_names(alloc: Global, package: &Package) -> Result<(), Stop<Fault>>
-    ensures { (env : Atoms) → Comes (all_named (outlines_of «package».now)) env result env }
+    ensures { (env : Atoms) → Comes (all_named (outlines_of «package».now) «package».now.main) env result env }
 {
     match outlines::package_outlines(alloc, package) {
-        Ok(outlines) => named::definitions(alloc, &outlines),
+        Ok(outlines) => named::definitions(alloc, package.main as usize, &outlines),
         Err(Memory) => Err(Stop::Memory),
     }
 }

@@ -6,9 +6,9 @@ ghost use Rattle.checks.specs.Checks.{Comes};
 ghost use Rattle.descriptors.specs.Described.{Atoms};
 ghost use Rattle.name_resolution.specs.Cycles.{IsOnCycle};
 ghost use Rattle.name_resolution.specs.Distances.{IsCycleFound, IsReversed};
-ghost use Rattle.name_resolution.specs.Faults.{AreNamed, IsGraphOf, all_named, cycle_fault as cycle_fault_of, definition_named, name_if, unless};
+ghost use Rattle.name_resolution.specs.Faults.{AreNamed, IsGraphOf, all_named, cycle_fault as cycle_fault_of, definition_fault, definition_named, name_if, unless};
 ghost use Rattle.name_resolution.specs.Ordering.{IsOrder};
-ghost use Rattle.name_resolution.specs.Resolved.{first_fault, part as part_of, parts as parts_by_number, parts_of as parts_of_outline};
+ghost use Rattle.name_resolution.specs.Resolved.{part as part_of, parts as parts_by_number, parts_of as parts_of_outline};
 ghost use Rattle.name_resolution.specs.Tables.{IsTableOf};
 
 use crate::cycles::first_cycle;
@@ -32,16 +32,21 @@ pub(crate) struct Graph {
 }
 
 /// Whether the names in definitions are without fault: each is given once in a module, each name of a type stands for one, and no
-/// type is its own part but inside a list, a mapping, an error, a function or a future.
-pub(crate) fn definitions(alloc: Global, outlines: &[Outline]) -> Result<(), Stop<Fault>>
-    ensures { (env : Atoms) → Comes (all_named outlines.now) env result env }
+/// type is its own part but inside a list, a mapping, an error, a function or a future; and whether the function `main` of the
+/// module `home` has its form.
+pub(crate) fn definitions(
+    alloc: Global,
+    home: usize,
+    outlines: &[Outline],
+) -> Result<(), Stop<Fault>>
+    ensures { (env : Atoms) → Comes (all_named outlines.now home) env result env }
 {
     let graph = match graph_of(alloc, outlines) {
         Ok(graph) => graph,
         Err(Memory) => return Err(Stop::Memory),
     };
     for (number, d) in outlines.iter().enumerate() {
-        match definition(alloc, outlines, &graph, number, d) {
+        match definition(alloc, home, outlines, &graph, number, d) {
             Ok(()) => {}
             Err(stop) => return Err(stop),
         }
@@ -80,9 +85,10 @@ impl Graph {
     }
 }
 
-/// One definition: its cycle, or else the first fault in its names.
+/// One definition: its cycle, or else the first fault in its names, or that of the form of `main`.
 fn definition(
     alloc: Global,
+    home: usize,
     outlines: &[Outline],
     graph: &Graph,
     number: usize,
@@ -90,27 +96,33 @@ fn definition(
 ) -> Result<(), Stop<Fault>>
     requires graph { IsGraphOf outlines.now graph.now }
     requires placed { number < length outlines.now }
-    ensures { (env : Atoms) → Comes (definition_named outlines.now number d.now) env result env }
+    ensures { (env : Atoms) → Comes (definition_named outlines.now home number d.now) env result env }
 {
     match graph.cycle(alloc, number) {
         Ok(Some(others)) => match cycle_fault(alloc, outlines, number, d, &others) {
             Ok(fault) => Err(Stop::Fault(fault)),
             Err(Memory) => Err(Stop::Memory),
         },
-        Ok(None) => names(outlines, graph, number, d),
+        Ok(None) => names(home, outlines, graph, number, d),
         Err(Memory) => Err(Stop::Memory),
     }
 }
 
-fn names(outlines: &[Outline], graph: &Graph, number: usize, d: &Outline) -> Result<(), Stop<Fault>>
+fn names(
+    home: usize,
+    outlines: &[Outline],
+    graph: &Graph,
+    number: usize,
+    d: &Outline,
+) -> Result<(), Stop<Fault>>
     requires { IsTableOf outlines.now graph.now.table.numbers }
-    ensures { (env : Atoms) → Comes (unless (first_fault outlines.now number d.now d.now.mentions)) env result env }
+    ensures { (env : Atoms) → Comes (unless (definition_fault outlines.now home number d.now)) env result env }
 {
     let resolver = Resolver {
         outlines,
         table: &graph.table,
     };
-    match resolver.first_fault(number, d) {
+    match resolver.definition_fault(home, number, d) {
         Some(fault) => Err(Stop::Fault(fault)),
         None => Ok(()),
     }

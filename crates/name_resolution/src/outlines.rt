@@ -6,6 +6,7 @@ ghost use Rattle.descriptors.specs.Naming.{file_source};
 ghost use Rattle.name_resolution.specs.Outlines.{const_mentions, file_outlines, function_mentions, import_source, last_word as last_word_of, outline_of, outlines_from, outlines_of, param_mentions, prefix_of, rest_mentions, type_mentions, variable_mentions, word_or};
 ghost use Rattle.name_resolution.specs.declared.mentions.Mention.TheVariants.{Own};
 
+use crate::main_form::may_be_main;
 use crate::mentions::{Mention, Reader};
 use bal_base::{Memory, Name, Place, Row};
 use bal_tree::{
@@ -37,6 +38,8 @@ pub(crate) struct Outline {
     pub(crate) at: Place,
     /// What it mentions of names, in text order.
     pub(crate) mentions: Row<Mention>,
+    /// Whether a function may be `main`; true of all else.
+    pub(crate) may_be_main: bool,
 }
 
 /// What the definitions of a package say of names, in text order.
@@ -132,6 +135,7 @@ impl Reader<'_> {
                 name: d.name.name.share(),
                 at: d.at,
                 mentions: self.type_def(d)?,
+                may_be_main: true,
             }),
             Def::Const(d) => Ok(Outline {
                 module: self.module,
@@ -140,6 +144,7 @@ impl Reader<'_> {
                 name: d.name.name.share(),
                 at: d.at,
                 mentions: self.const_def(d)?,
+                may_be_main: true,
             }),
             Def::Variable(d) => Ok(Outline {
                 module: self.module,
@@ -148,6 +153,7 @@ impl Reader<'_> {
                 name: d.name.name.share(),
                 at: d.at,
                 mentions: self.variable_def(d)?,
+                may_be_main: true,
             }),
             Def::Function(d) => Ok(Outline {
                 module: self.module,
@@ -156,6 +162,7 @@ impl Reader<'_> {
                 name: d.name.name.share(),
                 at: d.at,
                 mentions: self.function_def(d)?,
+                may_be_main: may_be_main(d),
             }),
         }
     }

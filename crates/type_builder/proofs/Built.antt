@@ -48,9 +48,9 @@ no-fault {S} {A} {T} m old new stop r is h = none stop (subst (λ q. IfFault q (
 
 -- ---- what is known on the way
 
-pub named-so : (p : Package) (env : Atoms) (u : Unit {0}) → Comes (all_named (outlines_of p)) env (Ok u) env → AreNamed p
+pub named-so : (p : Package) (env : Atoms) (u : Unit {0}) → Comes (all_named (outlines_of p) p.main) env (Ok u) env → AreNamed p
 unfolding Comes
-named-so p env u h = are-named (outlines_of p) env env u h
+named-so p env u h = are-named p.main (outlines_of p) env env u h
 
 pub room-comes : (p : Package) (env other : Atoms) (r : Result (Unit {0}) (Stop Fault)) → env ≡ other → Comes (room_for (package_places p)) env r env → Comes (room_for (package_places p)) other r other
 room-comes p env other r same h = subst (λ e. Comes (room_for (package_places p)) e r e) same h

@@ -1,7 +1,6 @@
 pub mod Adding
 pub mod Agreeing
 pub mod Alike
-mod AsciiWords
 pub mod Built
 pub mod ClearMore
 pub mod Counting

@@ -54,10 +54,10 @@ unfoldable pub defines_all : Package → OwnTypes → Check Atoms Names
 defines_all p own old (Gives names) new = (group : Atoms) × (new ≡ old ++ group) × AreNamesOf p own old group names
 defines_all p own old (Refuses f) new = ⊥
 
--- First all names; then there has to be room for the atoms; and last what `main` is. `passes`: which questions pass a limit.
+-- First all names, and among them the form of `main`; then there has to be room for the atoms; and last what `main` gives. `passes`: which questions pass a limit.
 abbrev pub built : (List AtomDef → Asked → TypeLimit → Type 0) → Package → Check Atoms Names
 built passes p =
-    all_named (outlines_of p) ▷ λ u. own_types ▷ λ own. room_for (package_places p) ▷ λ v. defines_all p own ▷ λ names.
+    all_named (outlines_of p) p.main ▷ λ u. own_types ▷ λ own. room_for (package_places p) ▷ λ v. defines_all p own ▷ λ names.
     main_fits passes p names ▷ λ w. gives names
 
 -- ---- which atoms they name

@@ -1,5 +1,5 @@
--- What the function `main` has to be.
-use Rattle.std.specs.Prelude.{◌≡◌, ◌⊎◌, ◌&&◌, ℕ, Bool, true, false, List, [], ◌∷◌, Option, None, Some, codes, slice_get, if◌then◌else◌}
+-- What the function `main` has to give; what is seen of it where it is written is looked at with the names.
+use Rattle.std.specs.Prelude.{◌≡◌, ◌⊎◌, ℕ, Bool, List, [], ◌∷◌, Option, None, Some, slice_get, if◌then◌else◌}
 use Rattle.std.specs.Option.{option_and_then, option_or}
 use Rattle.bal_base.specs.declared.fault.FaultCode.TheVariants.{BadMain}
 use Rattle.bal_base.specs.declared.fault.Kept.TheVariants.{Nothing}
@@ -10,17 +10,14 @@ use Rattle.bal_tree.specs.declared.def.Def.TheVariants.{«Type» as TypeOf, Cons
 use Rattle.bal_tree.specs.declared.def.FunctionDef.{FunctionDef}
 use Rattle.bal_tree.specs.declared.package.Package.{Package}
 use Rattle.bal_tree.specs.declared.package.SourceFile.{SourceFile}
-use Rattle.bal_tree.specs.declared.params.Param.{Param}
-use Rattle.bal_tree.specs.declared.types.BuiltinType.{BuiltinType}
-use Rattle.bal_tree.specs.declared.types.BuiltinType.TheVariants.{Int, String, Boolean, Byte, Any, AnyData, Never, ReadOnly}
 use Rattle.checks.specs.Checks.{Check, ◌▷◌, either, gives, gives_some, refuses}
 use Rattle.checks.specs.Questions.{IsFault, is_below}
 use Rattle.descriptors.specs.Described.{Atoms}
-use Rattle.descriptors.specs.Descriptors.{Descriptor, builtin, value, named, optional, union, intersection, array, repeated, tuple, map_of, closed_record, open_record, any_error, error_with, any_function, function_from, future_of, descriptor_of}
 use Rattle.descriptors.specs.Naming.{entry_in}
 use Rattle.descriptors.specs.declared.names.Meaning.{Meaning}
 use Rattle.descriptors.specs.declared.names.Meaning.TheVariants.{TypeName, Constant, Variable, Function}
 use Rattle.descriptors.specs.declared.names.Names.{Names}
+use Rattle.name_resolution.specs.MainForm.{main_name}
 use Rattle.type_model.specs.declared.answers.TypeLimit.{TypeLimit}
 use Rattle.type_model.specs.declared.atoms.AtomDef.{AtomDef}
 use Rattle.type_model.specs.declared.basic.BasicSet.TheVariants.{ErrorAll, Nil as NilOnly}
@@ -30,9 +27,6 @@ use Rattle.type_model.specs.Calls.{Asked}
 use Rattle.type_model.specs.Defined.{IsDefined}
 use Rattle.type_model.specs.Inclusion.{HasExactly}
 use Rattle.type_model.specs.Places.{is_same_text}
-
-abbrev pub main_name : Name
-main_name = codes "main"
 
 -- ---- which one it is
 
@@ -56,50 +50,6 @@ main_in_files (f ∷ files) = option_or (main_among f.tree.defs.items) (main_in_
 -- the function of this name in the default module
 abbrev pub main_of : Package → Option FunctionDef
 main_of p = option_and_then (λ m. main_in_files m.files) (slice_get p.modules p.main)
-
--- ---- its form
-
-abbrev pub is_string_word : BuiltinType → Bool
-is_string_word Int = false
-is_string_word String = true
-is_string_word Boolean = false
-is_string_word Byte = false
-is_string_word Any = false
-is_string_word AnyData = false
-is_string_word Never = false
-is_string_word ReadOnly = false
-
--- the descriptor is the word `string`
-abbrev pub is_string : Descriptor → Bool
-is_string (builtin b) = is_string_word b
-is_string (value v) = false
-is_string (named name) = false
-is_string (optional of) = false
-is_string (union s t) = false
-is_string (intersection s t) = false
-is_string (array member at) = false
-is_string (repeated member n at) = false
-is_string (tuple members rest at) = false
-is_string (map_of member at) = false
-is_string (closed_record fields rest at) = false
-is_string (open_record fields at) = false
-is_string any_error = false
-is_string (error_with detail at) = false
-is_string (any_function isolated) = false
-is_string (function_from isolated params rest result at) = false
-is_string (future_of result at) = false
-
-abbrev pub no_params : List Param → Bool
-no_params [] = true
-no_params (p ∷ ps) = false
-
-abbrev pub takes_words : Option Param → Bool
-takes_words None = true
-takes_words (Some p) = is_string (descriptor_of p.ty.value)
-
--- it is public, and has no parameter or `string...` alone
-abbrev pub has_form : FunctionDef → Bool
-has_form f = f.public && no_params f.params.params.items && takes_words f.params.rest
 
 -- ---- its result
 
@@ -133,10 +83,10 @@ module _ (passes : List AtomDef → Asked → TypeLimit → Type 0) where
   gives_errors_if None at = gives tt
   gives_errors_if (Some result) at = gives_errors result at
 
-  -- The function `main`, where the default module has one: its form comes first, and then what it gives.
+  -- what the function `main` gives, where the default module has one
   abbrev pub main_fits_if : Names → ℕ → Option FunctionDef → Check Atoms (Unit {0})
   main_fits_if names home None = gives tt
-  main_fits_if names home (Some f) = either (has_form f) (gives_errors_if (result_in names home f.name.name) f.at) (bad_main f.at)
+  main_fits_if names home (Some f) = gives_errors_if (result_in names home f.name.name) f.at
 
   abbrev pub main_fits : Package → Names → Check Atoms (Unit {0})
   main_fits p names = main_fits_if names p.main (main_of p)

@@ -1,14 +1,14 @@
 //! What the names of a package stand for.
 //!
 //! - [`build`]: that, with the atoms that its definitions need; or the first fault.
-//! - [`check_room`]: whether there is room for these atoms. [`check_main`]: whether the function `main` is what it has to be.
+//! - [`check_room`]: whether there is room for these atoms. [`check_main`]: whether the function `main` gives what it has to.
 //! - `placed`: the definitions in text order; `noting`: what names stand for, definition by definition.
 //! - `keeping`: the first pass, types by themselves; `defining`: the second one, all atoms, variables and functions; `meanings`: single
 //!   definitions.
-//! - `atom_places`: where the atoms that descriptors need are asked for; `string_words`: which descriptors are the word `string`.
+//! - `atom_places`: where the atoms that descriptors need are asked for.
 //!
 //! `specs/Building.antt` says what `build` comes to, `specs/Meanings.antt` what definitions mean, `specs/AtomPlaces.antt` where they
-//! need atoms, `specs/MainFunction.antt` what `main` has to be, and `specs/Passes.antt` and `specs/Keeping.antt` what the passes do.
+//! need atoms, `specs/MainFunction.antt` what `main` has to give, and `specs/Passes.antt` and `specs/Keeping.antt` what the passes do.
 #![tactic(auto)]
 
 mod atom_places;
@@ -20,7 +20,6 @@ mod meanings;
 mod noting;
 mod placed;
 mod room;
-mod string_words;
 
 pub use building::build;
 pub use main_function::check_main;

@@ -1,26 +1,22 @@
-//! What the function `main` has to be.
-ghost use Rattle.std.specs.Prelude.{◌≡◌, ◌↔◌, IfOk, IsTrue, Some as Present, true};
-ghost use Rattle.std.specs.Char.{is_ascii};
-ghost use Rattle.std.specs.List.{list_all};
+//! What the function `main` has to give.
+ghost use Rattle.std.specs.Prelude.{◌≡◌, IfOk, Some as Present};
 ghost use Rattle.std.specs.Option.{option_copied};
 ghost use Rattle.checks.specs.Checks.{Comes};
 ghost use Rattle.descriptors.specs.Described.{Atoms};
 ghost use Rattle.descriptors.specs.Naming.{entry_in};
-ghost use Rattle.type_builder.specs.MainFunction.{IsErrorOrNil, ResultsAreDefined, gives_errors, good_if, has_form as has_form_of, if_main, main_name, main_among as main_among_of, main_fits, main_fits_if, main_if as main_if_of, main_in_files as main_in_files_of, main_of as main_of_package, result_in as result_in_names, result_of as result_of_meaning, takes_words as takes_words_of};
+ghost use Rattle.type_builder.specs.MainFunction.{IsErrorOrNil, ResultsAreDefined, gives_errors, good_if, if_main, main_among as main_among_of, main_fits, main_fits_if, main_if as main_if_of, main_in_files as main_in_files_of, main_of as main_of_package, result_in as result_in_names, result_of as result_of_meaning};
 ghost use Rattle.type_model.specs.Defined.{IsDefined};
-ghost use Rattle.type_model.specs.Places.{is_same_text};
 
-use crate::string_words::type_is_string;
 use bal_base::{Fault, FaultCode, Kept, Memory, Name, Place, Stop};
-use bal_tree::{Def, FunctionDef, Package, Param, SourceFile};
+use bal_tree::{Def, FunctionDef, Package, SourceFile};
 use checks::is_below;
 use descriptors::{Entry, Meaning, Names};
+use name_resolution::is_main;
 use std::alloc::Global;
 use type_model::{BasicSet, SemType, Types};
 
-/// Whether the function `main`, where the default module has one, is public, has no parameter or `string...` alone, and gives
-/// nothing but errors and nil: else `BadMain` at its first token. `TypeLimit` there where the question about what it gives is too
-/// large.
+/// Whether the function `main`, where the default module has one, gives nothing but errors and nil: else `BadMain` at its first
+/// token. `TypeLimit` there where the question about what it gives is too large.
 pub fn check_main<T: Types>(
     alloc: Global,
     types: &mut T,
@@ -48,13 +44,9 @@ fn function_fits<T: Types>(
     ensures atoms { T.atoms types.new ≡ T.atoms types.old }
     ensures comes { Comes (main_fits_if T.passes names.now home (Present f.now)) (T.atoms types.old) result (T.atoms types.new) }
 {
-    if has_form(f) {
-        match result_in(names, home, &f.name.name) {
-            Some(given) => below_errors(alloc, types, given, f.at),
-            None => Ok(()),
-        }
-    } else {
-        good(f.at, false)
+    match result_in(names, home, &f.name.name) {
+        Some(given) => below_errors(alloc, types, given, f.at),
+        None => Ok(()),
     }
 }
 
@@ -178,36 +170,4 @@ fn named_main(f: &FunctionDef) -> Option<&FunctionDef>
     ensures { option_copied result ≡ if_main f.now }
 {
     if is_main(&f.name.name) { Some(f) } else { None }
-}
-
-fn is_main(name: &Name) -> bool
-    ensures { result ≡ is_same_text name.now main_name }
-{
-    is_word(name, "main")
-}
-
-/// Whether the name is this word.
-fn is_word(name: &Name, word: &str) -> bool
-    requires { list_all is_ascii word.now ≡ true }
-    ensures { IsTrue result ↔ (name.now ≡ word.now) }
-{
-    name.as_str() == word
-}
-
-// ---- its form
-
-/// Whether a function is public and has no parameter or `string...` alone.
-fn has_form(f: &FunctionDef) -> bool
-    ensures { result ≡ has_form_of f.now }
-{
-    f.public && f.params.params.is_empty() && takes_words(&f.params.rest)
-}
-
-fn takes_words(rest: &Option<Param>) -> bool
-    ensures { result ≡ takes_words_of rest.now }
-{
-    match rest {
-        None => true,
-        Some(p) => type_is_string(&p.ty),
-    }
 }

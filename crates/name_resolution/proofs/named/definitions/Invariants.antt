@@ -8,4 +8,4 @@ use Rattle.name_resolution.proofs.named.definitions.Given as goal
 
 -- what is left comes to what the whole comes to
 abbrev pub invariant-loop-number : goal.invariant-loop-number
-invariant-loop-number l = (env : Atoms) (r : Result (Unit {0}) (Stop Fault)) → Comes (definitions_named l.outlines l.number (drop l.number l.outlines)) env r env → Comes (all_named l.outlines) env r env
+invariant-loop-number l = (env : Atoms) (r : Result (Unit {0}) (Stop Fault)) → Comes (definitions_named l.outlines l.home l.number (drop l.number l.outlines)) env r env → Comes (all_named l.outlines l.home) env r env

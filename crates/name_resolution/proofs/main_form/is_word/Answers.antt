@@ -3,8 +3,8 @@ use Rattle.std.specs.Str.{chars}
 use Rattle.std.specs.Cmp.Lexicographic.{bytes_decides}
 use Rattle.std.proofs.lemmas.Str.{chars-IsAscii, encodes-chars}
 use lib.Utf8.{encodes}
-use Rattle.type_builder.proofs.AsciiWords.{all-ascii}
-use Rattle.type_builder.proofs.main_function.is_word.Goals as goal
+use Rattle.name_resolution.proofs.AsciiWords.{all-ascii}
+use Rattle.name_resolution.proofs.main_form.is_word.Goals as goal
 
 pub returns : goal.returns
 returns c =

@@ -1,7 +1,7 @@
 //! Whether a descriptor is the word `string`.
 ghost use Rattle.std.specs.Prelude.{◌≡◌};
 ghost use Rattle.descriptors.specs.Descriptors.{descriptor_of, of_intersection, of_postfix, of_primary};
-ghost use Rattle.type_builder.specs.MainFunction.{is_string, is_string_word};
+ghost use Rattle.name_resolution.specs.MainForm.{is_string, is_string_word};
 
 use bal_tree::{BuiltinType, IntersectionType, PostfixType, PrimaryType, TypeTree};
 
