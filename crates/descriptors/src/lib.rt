@@ -34,4 +34,4 @@ pub use names::{
     Entry, FileNames, Meaning, ModuleNames, Names, OwnTypes, Scope, Signature, Source,
 };
 pub use rewriting::rewritten;
-pub use together::{copy, lift, literal_set, negative_set, plain};
+pub use together::{copy, copy_choices, lift, literal_set, negative_set, plain};

@@ -34,7 +34,8 @@ pub fn plain(alloc: Global, sem: SemType) -> Ty
     }
 }
 
-fn copy_choices(alloc: Global, choices: &ChoiceList) -> Result<ChoiceList, Memory>
+/// Another copy of the choices.
+pub fn copy_choices(alloc: Global, choices: &ChoiceList) -> Result<ChoiceList, Memory>
     ensures { IfOk result (λ r. r ≡ choices.now) }
 {
     Ok(ChoiceList::of(choices.as_slice().to_vec(alloc)?))

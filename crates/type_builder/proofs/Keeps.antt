@@ -17,6 +17,8 @@ use Rattle.descriptors.specs.declared.names.Scope.{Scope}
 use Rattle.descriptors.specs.Descriptors.{descriptor_of}
 use Rattle.descriptors.specs.Drafts.{AreNamesBelow, Drafts, drafted}
 use Rattle.name_resolution.specs.Definitions.{Placed, scope_at}
+use Rattle.type_builder.specs.Flat.{IsFlatType}
+use Rattle.type_builder.proofs.FlatShapes.{flat-type-below}
 use Rattle.type_builder.specs.Passes.{IsEmptyFrom, IsKept, IsKeptBy, IsNoted}
 
 pub given : {S A : Type 0} (m : Check S A) (s t : S) (a : A) → Comes m s (Ok a) t → m s (Gives a) t
@@ -40,11 +42,11 @@ module _ (first : ℕ) (p : Placed) (old : Names) (d : TypeDef) (is : p.def ≡ 
       subst (λ x. Drafts (AreNamesBelow old) TyBelow (drafted old (scope_at p) (descriptor_of x)) s r t) tree_is
       (subst (λ x. Drafts (AreNamesBelow old) TyBelow (drafted old x (descriptor_of tree)) s r t) scope_is h)
 
-  pub type-kept : (new : Names) (u : Ty) (v : Unit {0}) → Its (Ok u) → IsNoted p (TypeName u) old new → IsKept first p old (Ok v) new
-  type-kept new u v h noted =
+  pub type-kept : (new : Names) (u w : Ty) (v : Unit {0}) → Its (Ok u) → IsFlatType u w → IsNoted p (TypeName w) old new → IsKept first p old (Ok v) new
+  type-kept new u w v h flat noted =
       let drafts = there (Ok u) h in
       subst (λ def. IsKeptBy first p old new def (Ok v)) (sym is)
-      (u, record { start = s; empty = empty; end = t; comes = given it s t u drafts.comes; below = drafts.over }, noted)
+      (w, record { start = s; empty = empty; end = t; written = u; comes = given it s t u drafts.comes; flat = flat; below = λ n le g. flat-type-below n u w flat (drafts.over n le g) }, noted)
 
   stopped : (new : Names) (stop : Stop Fault) → Its (Err stop) → IsKept first p old (Err stop) new
   stopped new (OwnFault f) h =

@@ -133,7 +133,7 @@ module _ (p : Package) (own : OwnTypes) (first : ℕ) (order : List ℕ) (is : I
           → IsStage p own first end (take i order ++ n ∷ []) new
       kept-on old new u (TypeOf d) def_is stage (t, drafted, noted) =
           let long : next_of drafted.end ≡ next_of drafted.start + length (places (descriptor_of d.ty.value) []) =
-          drafted-long old (scope_at q) (descriptor_of d.ty.value) drafted.start drafted.end t drafted.comes in
+          drafted-long old (scope_at q) (descriptor_of d.ty.value) drafted.start drafted.end drafted.written drafted.comes in
           let within : next_of drafted.start + length (places (descriptor_of d.ty.value) []) ≤ end = type-fits n start q d drafted.start starts def_is drafted.empty in
           stage-kept p own first end (take i order) n start q starts d def_is t old new drafted noted (next-of i n lt at)
           (drafted.below end (omega (arith, long, within)) (stage-below p own first end (take i order) old own-below first-within stage)) (apart-placed p named) stage

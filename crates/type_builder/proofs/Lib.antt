@@ -12,6 +12,8 @@ pub mod DefsStanding
 pub mod DraftReadings
 pub mod DraftRuns
 pub mod Entries
+pub mod FlatShapes
+pub mod FoundMembers
 pub mod Growing
 pub mod Keeps
 pub mod KeptOrder
@@ -19,6 +21,7 @@ pub mod KeptStages
 pub mod KnownTypes
 pub mod Listed
 pub mod Meant
+pub mod MemberKeys
 pub mod Noted
 pub mod PlaceLoops
 pub mod Refusing

@@ -4,6 +4,7 @@ use Rattle.std.specs.List.{AllZip}
 use Rattle.std.proofs.lemmas.List.Elements.{All-cons, All-head, All-nil, All-tail}
 use Rattle.bal_base.specs.declared.fault.Fault.{Fault}
 use Rattle.bal_base.specs.declared.stop.Stop.{Stop}
+use Rattle.bal_base.specs.declared.stop.Stop.TheVariants.{Memory}
 use Rattle.bal_tree.specs.declared.def.ConstDef.{ConstDef}
 use Rattle.bal_tree.specs.declared.def.Def.{Def}
 use Rattle.bal_tree.specs.declared.def.Def.TheVariants.{«Type» as TypeOf, Const, Variable as VariableOf, Function as FunctionOf}
@@ -15,7 +16,6 @@ use Rattle.bal_tree.specs.declared.types.TypeTree.{TypeTree}
 use Rattle.type_model.specs.declared.basic.SemType.{Basic}
 use Rattle.type_model.specs.declared.basic.Ty.{Ty}
 use Rattle.type_model.specs.Defined.{NamesBelow, TyBelow}
-use Rattle.type_model.proofs.SameTypes.{In-same}
 use Rattle.checks.specs.Checks.{gives, ◌▷◌}
 use Rattle.descriptors.specs.declared.draft.Draft.{Draft}
 use Rattle.descriptors.specs.declared.names.Meaning.{Meaning}
@@ -23,49 +23,43 @@ use Rattle.descriptors.specs.declared.names.Meaning.TheVariants.{TypeName, Const
 use Rattle.descriptors.specs.declared.names.Names.{Names}
 use Rattle.descriptors.specs.declared.names.Scope.{Scope}
 use Rattle.descriptors.specs.declared.names.Signature.{Signature}
-use Rattle.descriptors.specs.Described.{Atoms, IsCopy, IsRewritten, plain, value_set}
+use Rattle.descriptors.specs.Described.{Atoms, IsRewritten, plain, value_set}
 use Rattle.descriptors.specs.Descriptors.{descriptor_if, descriptor_of, in_a_row, present}
 use Rattle.descriptors.specs.Drafts.{AreNamesBelow, Drafts, all_drafted, drafted, drafted_arrow, drafted_if, numbered_on, wherever}
 use Rattle.descriptors.specs.Steps.{AllBelow, AreOwnTypes, IfBelow}
-use Rattle.descriptors.proofs.Drafting.{drafts-given, drafts-just, drafts-on, drafts-stops, given}
-use Rattle.descriptors.proofs.Yielding.{copy-below}
+use Rattle.descriptors.proofs.Drafting.{drafts-given, drafts-just, drafts-on, drafts-ran_out, drafts-stops, given}
 use Rattle.type_builder.proofs.Agreeing.{same-itself}
 use Rattle.type_builder.specs.Building.{MeaningBelow, SignatureBelow}
-use Rattle.type_builder.specs.Meanings.{AreRewritten, IfRewritten, IsCopyIf, IsSignature, constant_drafted, kept_by, meaning_drafted, param_descriptor, rest_descriptor, signature_drafted, signed_drafted}
+use Rattle.type_builder.specs.Flat.{IsFlatIf, IsFlatType}
+use Rattle.type_builder.proofs.FlatShapes.{flat-rewritten, flat-type-below}
+use Rattle.type_builder.specs.Meanings.{AreRewritten, IfRewritten, IsSignature, constant_drafted, kept_by, meaning_drafted, param_descriptor, rest_descriptor, signature_drafted, signed_drafted}
 
--- ---- copies
+-- ---- flat unions
 
-copy-rewritten : (env : Atoms) (t u : Ty) → IsCopy t u → IsRewritten t env u
-copy-rewritten env t u c = record {
-  shapes = λ x valid. let same = In-same env x t.sem u.sem c.sem in (λ i. same.1 i, λ i. same.0 i);
-  lists = sym c.lists;
-  maps = sym c.maps;
-}
+flats-rewritten : (env : Atoms) (ts us : List Ty) → AllZip IsFlatType ts us → AreRewritten env ts us
+flats-rewritten env [] [] h = tt
+flats-rewritten env [] (u ∷ us) h = absurd h
+flats-rewritten env (t ∷ ts) [] h = absurd h
+flats-rewritten env (t ∷ ts) (u ∷ us) h = (flat-rewritten env t u h.0, flats-rewritten env ts us h.1)
 
-copies-rewritten : (env : Atoms) (ts us : List Ty) → AllZip IsCopy ts us → AreRewritten env ts us
-copies-rewritten env [] [] h = tt
-copies-rewritten env [] (u ∷ us) h = absurd h
-copies-rewritten env (t ∷ ts) [] h = absurd h
-copies-rewritten env (t ∷ ts) (u ∷ us) h = (copy-rewritten env t u h.0, copies-rewritten env ts us h.1)
-
-if-rewritten : (env : Atoms) (t u : Option Ty) → IsCopyIf t u → IfRewritten env t u
+if-rewritten : (env : Atoms) (t u : Option Ty) → IsFlatIf t u → IfRewritten env t u
 if-rewritten env None None h = tt
 if-rewritten env None (Some u) h = absurd h
 if-rewritten env (Some t) None h = absurd h
-if-rewritten env (Some t) (Some u) h = copy-rewritten env t u h
+if-rewritten env (Some t) (Some u) h = flat-rewritten env t u h
 
-copies-below : (n : ℕ) (ts us : List Ty) → AllZip IsCopy ts us → AllBelow n ts → AllBelow n us
-copies-below n [] [] h b = All-nil (TyBelow n)
-copies-below n [] (u ∷ us) h b = absurd h
-copies-below n (t ∷ ts) [] h b = absurd h
-copies-below n (t ∷ ts) (u ∷ us) h b =
-    All-cons (TyBelow n) u us (copy-below n t u h.0 (All-head (TyBelow n) t ts b)) (copies-below n ts us h.1 (All-tail (TyBelow n) t ts b))
+flats-below : (n : ℕ) (ts us : List Ty) → AllZip IsFlatType ts us → AllBelow n ts → AllBelow n us
+flats-below n [] [] h b = All-nil (TyBelow n)
+flats-below n [] (u ∷ us) h b = absurd h
+flats-below n (t ∷ ts) [] h b = absurd h
+flats-below n (t ∷ ts) (u ∷ us) h b =
+    All-cons (TyBelow n) u us (flat-type-below n t u h.0 (All-head (TyBelow n) t ts b)) (flats-below n ts us h.1 (All-tail (TyBelow n) t ts b))
 
-if-below : (n : ℕ) (t u : Option Ty) → IsCopyIf t u → IfBelow n t → IfBelow n u
+if-below : (n : ℕ) (t u : Option Ty) → IsFlatIf t u → IfBelow n t → IfBelow n u
 if-below n None None h b = tt
 if-below n None (Some u) h b = absurd h
 if-below n (Some t) None h b = absurd h
-if-below n (Some t) (Some u) h b = copy-below n t u h b
+if-below n (Some t) (Some u) h b = flat-type-below n t u h b
 
 -- ---- single definitions
 
@@ -99,13 +93,13 @@ module _ (names : Names) (scope : Scope) where
       rest-stops tree stop old new same y = turned old (Err stop) new
           (drafts-stops Below TyBelow IfBelow (drafted names scope (descriptor_of p.ty.value)) (λ t. gives (Some t)) old new stop (of-tree tree p.ty.value old (Err stop) new same y))
 
-  -- a type is kept as it is
-  kept-so : (G : ℕ → Type 0) (m : Ty → Meaning) → ((n : ℕ) (t : Ty) → TyBelow n t → MeaningBelow n (m t)) → (t : Ty) (d : Draft) → ((n : ℕ) → G n → TyBelow n t)
-      → Drafts G MeaningBelow (kept_by numbered_on (wherever names) names t ▷ λ u. gives (m u)) d (Ok (m t)) d
-  kept-so G m below t d over =
-      drafts-on G TyBelow MeaningBelow (kept_by numbered_on (wherever names) names t) (λ u. gives (m u)) d d d t (Ok (m t))
-      (drafts-given G TyBelow d (λ s u. (env : Atoms) → AreOwnTypes env names.own → IsRewritten t env u) t (λ env own. same-itself env t t refl) (λ n le g. over n g))
-      (drafts-just (λ n. G n × TyBelow n t) MeaningBelow d (m t) (m t) refl (λ n le g. below n t g.1))
+  -- a type is kept in another form
+  kept-so : (G : ℕ → Type 0) (m : Ty → Meaning) → ((n : ℕ) (t : Ty) → TyBelow n t → MeaningBelow n (m t)) → (t u : Ty) (d : Draft) → ((env : Atoms) → IsRewritten t env u)
+      → ((n : ℕ) → G n → TyBelow n u) → Drafts G MeaningBelow (kept_by numbered_on (wherever names) names t ▷ λ u. gives (m u)) d (Ok (m u)) d
+  kept-so G m below t u d same over =
+      drafts-on G TyBelow MeaningBelow (kept_by numbered_on (wherever names) names t) (λ u. gives (m u)) d d d u (Ok (m u))
+      (drafts-given G TyBelow d (λ s u. (env : Atoms) → AreOwnTypes env names.own → IsRewritten t env u) u (λ env own. same env) (λ n le g. over n g))
+      (drafts-just (λ n. G n × TyBelow n u) MeaningBelow d (m u) (m u) refl (λ n le g. below n u g.1))
 
   module _ (unit : ℕ) (def : Def) where
     abbrev MeaningComes : Draft → Result Meaning (Stop Fault) → Draft → Type 0
@@ -118,7 +112,7 @@ module _ (names : Names) (scope : Scope) where
         → MeaningComes old (Ok (TypeName t)) new
     type-given d tree t old new is same y = as-def (TypeOf d) old (Ok (TypeName t)) new is
         (drafts-on Below TyBelow MeaningBelow (drafted names scope (descriptor_of d.ty.value)) (λ t. kept_by numbered_on (wherever names) names t ▷ λ u. gives (TypeName u)) old new new t (Ok (TypeName t))
-        (of-tree tree d.ty.value old (Ok t) new same y) (kept-so (λ n. Below n × TyBelow n t) TypeName (λ n u h. h) t new (λ n g. g.1)))
+        (of-tree tree d.ty.value old (Ok t) new same y) (kept-so (λ n. Below n × TyBelow n t) TypeName (λ n u h. h) t t new (λ env. same-itself env t t refl) (λ n g. g.1)))
 
     pub type-stops : (d : TypeDef) (tree : TypeTree) (stop : Stop Fault) (old new : Draft) → def ≡ TypeOf d → tree ≡ d.ty.value → Drafts Below TyBelow (drafted names scope (descriptor_of tree)) old (Err stop) new
         → MeaningComes old (Err stop) new
@@ -126,17 +120,24 @@ module _ (names : Names) (scope : Scope) where
         (drafts-stops Below TyBelow MeaningBelow (drafted names scope (descriptor_of d.ty.value)) (λ t. kept_by numbered_on (wherever names) names t ▷ λ u. gives (TypeName u)) old new stop
         (of-tree tree d.ty.value old (Err stop) new same y))
 
-    pub variable-given : (d : VariableDef) (tree : TypeTree) (t : Ty) (old new : Draft) → def ≡ VariableOf d → tree ≡ d.ty.value → Drafts Below TyBelow (drafted names scope (descriptor_of tree)) old (Ok t) new
-        → MeaningComes old (Ok (Variable d.is_final t)) new
-    variable-given d tree t old new is same y = as-def (VariableOf d) old (Ok (Variable d.is_final t)) new is
-        (drafts-on Below TyBelow MeaningBelow (drafted names scope (descriptor_of d.ty.value)) (λ t. kept_by numbered_on (wherever names) names t ▷ λ u. gives (Variable d.is_final u)) old new new t (Ok (Variable d.is_final t))
-        (of-tree tree d.ty.value old (Ok t) new same y) (kept-so (λ n. Below n × TyBelow n t) (Variable d.is_final) (λ n u h. h) t new (λ n g. g.1)))
+    pub variable-given : (d : VariableDef) (tree : TypeTree) (t u : Ty) (old new : Draft) → def ≡ VariableOf d → tree ≡ d.ty.value → IsFlatType t u
+        → Drafts Below TyBelow (drafted names scope (descriptor_of tree)) old (Ok t) new → MeaningComes old (Ok (Variable d.is_final u)) new
+    variable-given d tree t u old new is same flat y = as-def (VariableOf d) old (Ok (Variable d.is_final u)) new is
+        (drafts-on Below TyBelow MeaningBelow (drafted names scope (descriptor_of d.ty.value)) (λ t. kept_by numbered_on (wherever names) names t ▷ λ u. gives (Variable d.is_final u)) old new new t (Ok (Variable d.is_final u))
+        (of-tree tree d.ty.value old (Ok t) new same y) (kept-so (λ n. Below n × TyBelow n t) (Variable d.is_final) (λ n u h. h) t u new (λ env. flat-rewritten env t u flat) (λ n g. flat-type-below n t u flat g.1)))
 
     pub variable-stops : (d : VariableDef) (tree : TypeTree) (stop : Stop Fault) (old new : Draft) → def ≡ VariableOf d → tree ≡ d.ty.value → Drafts Below TyBelow (drafted names scope (descriptor_of tree)) old (Err stop) new
         → MeaningComes old (Err stop) new
     variable-stops d tree stop old new is same y = as-def (VariableOf d) old (Err stop) new is
         (drafts-stops Below TyBelow MeaningBelow (drafted names scope (descriptor_of d.ty.value)) (λ t. kept_by numbered_on (wherever names) names t ▷ λ u. gives (Variable d.is_final u)) old new stop
         (of-tree tree d.ty.value old (Err stop) new same y))
+
+    -- memory was wanted behind the draft
+    pub variable-lacks : (d : VariableDef) (tree : TypeTree) (t : Ty) (old new : Draft) → def ≡ VariableOf d → tree ≡ d.ty.value → Drafts Below TyBelow (drafted names scope (descriptor_of tree)) old (Ok t) new
+        → MeaningComes old (Err Memory) new
+    variable-lacks d tree t old new is same y = as-def (VariableOf d) old (Err Memory) new is
+        (drafts-on Below TyBelow MeaningBelow (drafted names scope (descriptor_of d.ty.value)) (λ t. kept_by numbered_on (wherever names) names t ▷ λ u. gives (Variable d.is_final u)) old new new t (Err Memory)
+        (of-tree tree d.ty.value old (Ok t) new same y) (drafts-ran_out (λ n. Below n × TyBelow n t) MeaningBelow new _))
 
     pub const-comes : (d : ConstDef) (r : Result Meaning (Stop Fault)) (old new : Draft) → def ≡ Const d → Drafts Below MeaningBelow (constant_drafted names scope d) old r new → MeaningComes old r new
     const-comes d r old new is y = as-def (Const d) old r new is y
@@ -166,7 +167,7 @@ module _ (names : Names) (scope : Scope) where
     abbrev pub Parts : ℕ → Type 0
     Parts n = (AllBelow n fixed × IfBelow n rest) × TyBelow n result
 
-    pub signed-given : (s : Signature) (old new : Draft) → s.unit ≡ unit → s.isolated ≡ d.isolated → AllZip IsCopy fixed s.params → IsCopyIf rest s.rest → IsCopy result s.result
+    pub signed-given : (s : Signature) (old new : Draft) → s.unit ≡ unit → s.isolated ≡ d.isolated → AllZip IsFlatType fixed s.params → IsFlatIf rest s.rest → IsFlatType result s.result
         → Drafts (λ n. (AllBelow n fixed × IfBelow n rest) × NamesBelow n result.sem) TyBelow (drafted_arrow d.isolated fixed rest result.sem d.at) old (Ok s.arrow) new
         → Drafts Parts SignatureBelow (signed_drafted names scope unit d fixed rest result) old (Ok s) new
     signed-given s old new unit_is isolated params others result_is y =
@@ -176,12 +177,12 @@ module _ (names : Names) (scope : Scope) where
         (λ env own. record {
           unit_is = unit_is;
           isolated_is = isolated;
-          params = copies-rewritten env fixed s.params params;
+          params = flats-rewritten env fixed s.params params;
           rest_is = if-rewritten env rest s.rest others;
-          result_is = copy-rewritten env result s.result result_is;
+          result_is = flat-rewritten env result s.result result_is;
           arrow_is = same-itself env s.arrow s.arrow refl;
         })
-        (λ n le g. (copies-below n fixed s.params params g.0.0.0, if-below n rest s.rest others g.0.0.1, copy-below n result s.result result_is g.0.1, g.1)))
+        (λ n le g. (flats-below n fixed s.params params g.0.0.0, if-below n rest s.rest others g.0.0.1, flat-type-below n result s.result result_is g.0.1, g.1)))
 
     pub signed-stops : (stop : Stop Fault) (old new : Draft)
         → Drafts (λ n. (AllBelow n fixed × IfBelow n rest) × NamesBelow n result.sem) TyBelow (drafted_arrow d.isolated fixed rest result.sem d.at) old (Err stop) new

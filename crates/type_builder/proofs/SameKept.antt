@@ -24,6 +24,7 @@ use Rattle.type_builder.proofs.Agreeing.{agree-on, described-agree, same-itself}
 use Rattle.type_builder.proofs.ClearMore.{clear-more}
 use Rattle.type_builder.proofs.DraftReadings.{drafts-add, drafts-number}
 use Rattle.type_builder.proofs.DraftRuns.{earlier, so-long}
+use Rattle.type_builder.proofs.FlatShapes.{flat-rewritten, rewritten-on}
 use Rattle.type_builder.proofs.KeptStages.{same-ok}
 use Rattle.type_builder.proofs.KnownTypes.{AreEntriesOf, stands-at, stands-there}
 
@@ -71,9 +72,11 @@ module _ (p : Package) (own : OwnTypes) (es : List Entry) (known : Names) (entri
     pub kept-same : (final : Atoms) → AreOwnTypes final own → (s u : Draft) (a : Ty) → next_of s ≡ start → IsClear (IsKnownPart p n q) false (descriptor_of d.ty.value)
         → drafted names (scope_at q) (descriptor_of d.ty.value) s (Gives a) u → IsRewritten a final t
     kept-same final are s u a at clear now =
-        drafts-agree own final are names was.names mine was.were.own_are (scope_at q) (descriptor_of d.ty.value) s was.drafted.start u was.drafted.end a t
+        rewritten-on final a was.drafted.written t
+        (drafts-agree own final are names was.names mine was.were.own_are (scope_at q) (descriptor_of d.ty.value) s was.drafted.start u was.drafted.end a was.drafted.written
         (clear-more (IsKnownPart p n q) (IsSameOutside own final names was.names (scope_at q)) (same-outside final) false (descriptor_of d.ty.value) clear)
-        (from-start was.drafted.start was.drafted.empty ∙ sym at) now was.drafted.comes
+        (from-start was.drafted.start was.drafted.empty ∙ sym at) now was.drafted.comes)
+        (flat-rewritten final was.drafted.written t was.drafted.flat)
       where
         from-start : (e : Draft) → IsEmptyFrom start e → next_of e ≡ start
         from-start e (first, none) = let empty : length e.atoms.items ≡ 0 = ap length none in omega (arith, first, empty)

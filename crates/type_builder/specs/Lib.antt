@@ -1,5 +1,6 @@
 pub mod AtomPlaces
 pub mod Building
+pub mod Flat
 pub mod Keeping
 pub mod Listing
 pub mod MainFunction

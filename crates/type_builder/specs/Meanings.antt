@@ -9,7 +9,7 @@ use Rattle.bal_tree.specs.declared.def.Def.TheVariants.{«Type» as TypeOf, Cons
 use Rattle.bal_tree.specs.declared.def.FunctionDef.{FunctionDef}
 use Rattle.bal_tree.specs.declared.params.Param.{Param}
 use Rattle.checks.specs.Checks.{Check, Gives, Refuses, ◌▷◌, gives, gives_some}
-use Rattle.descriptors.specs.Described.{Atoms, IsCopy, IsRewritten, all_by, arrow_by, described_by, if_by, plain, result_by, value_set}
+use Rattle.descriptors.specs.Described.{Atoms, IsRewritten, all_by, arrow_by, described_by, if_by, plain, result_by, value_set}
 use Rattle.descriptors.specs.Descriptors.{Descriptor, MaybeDescriptor, absent, present, descriptor_if, descriptor_of, in_a_row}
 use Rattle.descriptors.specs.Drafts.{numbered_on, wherever}
 use Rattle.descriptors.specs.declared.draft.Draft.{Draft}
@@ -33,13 +33,6 @@ IfRewritten env None None = ⊤
 IfRewritten env None (Some u) = ⊥
 IfRewritten env (Some t) None = ⊥
 IfRewritten env (Some t) (Some u) = IsRewritten t env u
-
--- another copy, where there is one
-abbrev pub IsCopyIf : Option Ty → Option Ty → Type 0
-IsCopyIf None None = ⊤
-IsCopyIf None (Some u) = ⊥
-IsCopyIf (Some t) None = ⊥
-IsCopyIf (Some t) (Some u) = IsCopy t u
 
 -- the signature of a function of these types
 pub record IsSignature (unit : ℕ) (isolated : Bool) (fixed : List Ty) (rest : Option Ty) (result arrow : Ty) (env : Atoms) (s : Signature) : Type 0 where

@@ -30,6 +30,7 @@ use Rattle.name_resolution.specs.Faults.{AreNamed as HaveNames}
 use Rattle.name_resolution.specs.Outlines.{outlines_of}
 use Rattle.type_builder.specs.AtomPlaces.{def_places, package_places}
 use Rattle.type_builder.specs.Building.{IsModule, first_entry}
+use Rattle.type_builder.specs.Flat.{IsFlatType}
 use Rattle.name_resolution.specs.Definitions.{Placed, defines, definitions_of, is_public, name_of, scope_at}
 use Rattle.type_model.specs.Defined.{TyBelow}
 use Rattle.type_model.specs.declared.basic.BasicSet.TheVariants.{Never}
@@ -105,12 +106,14 @@ pub record IsNoted (p : Placed) (m : Meaning) (old new : Names) : Type 0 where
 abbrev pub IsEmptyFrom : ℕ → Draft → Type 0
 IsEmptyFrom first d = (d.first ≡ first) × (d.atoms.items ≡ [])
 
--- the type is drafted from this number on, over these names
+-- the type is drafted from this number on, over these names, and kept with its union flat
 pub record IsDraftedFrom (first : ℕ) (names : Names) (p : Placed) (d : TypeDef) (t : Ty) : Type 0 where
   pub start : Draft
   pub empty : IsEmptyFrom first start
   pub end : Draft
-  pub comes : drafted names (scope_at p) (descriptor_of d.ty.value) start (Gives t) end
+  pub written : Ty
+  pub comes : drafted names (scope_at p) (descriptor_of d.ty.value) start (Gives written) end
+  pub flat : IsFlatType written t
   pub below : (n : ℕ) → next_of end ≤ n → AreNamesBelow names n → TyBelow n t
 
 -- the draft of a type refuses

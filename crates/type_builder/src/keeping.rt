@@ -8,6 +8,7 @@ ghost use Rattle.type_builder.specs.Keeping.{AreKept};
 ghost use Rattle.type_builder.specs.Listing.{IsListing, placed_of};
 ghost use Rattle.type_builder.specs.Passes.{AreNamed, HaveRoom, IsEmptyFrom, IsKept, IsOwnBelow, end_of};
 
+use crate::flat::flat;
 use crate::noting::{first_names, note};
 use crate::placed::{Listing, Site};
 use bal_base::{Fault, Stop};
@@ -43,7 +44,7 @@ pub(crate) fn kept_types(
     Ok(names)
 }
 
-/// The type of a type definition, drafted from its own first atom on.
+/// The type of a type definition, drafted from its own first atom on, with its union flat.
 fn keep(alloc: Global, names: &mut Names, site: &Site) -> Result<(), Stop<Fault>>
     requires placed { site.now.«module» < length names.old.modules.items }
     requires room { site.now.first ≤ most }
@@ -53,7 +54,8 @@ fn keep(alloc: Global, names: &mut Names, site: &Site) -> Result<(), Stop<Fault>
         Def::Type(d) => {
             let mut draft = new_draft(alloc, site.first);
             let t = type_tree(alloc, &mut draft, names, site.scope(), &d.ty)?;
-            note(names, site, Meaning::TypeName(t))?;
+            let kept = flat(alloc, &t)?;
+            note(names, site, Meaning::TypeName(kept))?;
             Ok(())
         }
         Def::Const(_) | Def::Variable(_) | Def::Function(_) => Ok(()),

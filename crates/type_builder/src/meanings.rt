@@ -1,22 +1,20 @@
 //! What single definitions mean, over a draft of atoms.
-ghost use Rattle.std.specs.Prelude.{[], IfOk, map};
-ghost use Rattle.std.specs.List.{AllZip};
-ghost use Rattle.descriptors.specs.Described.{IsCopy};
+ghost use Rattle.std.specs.Prelude.{[], map};
 ghost use Rattle.descriptors.specs.Descriptors.{in_a_row};
 ghost use Rattle.descriptors.specs.Drafts.{AreNamesBelow, Drafts, all_drafted, drafted_if};
 ghost use Rattle.descriptors.specs.Steps.{AllBelow, IfBelow};
 ghost use Rattle.descriptors.specs.declared.names.Names.{Names as AllNames};
 ghost use Rattle.descriptors.specs.declared.names.Scope.{Scope as AnyScope};
 ghost use Rattle.type_builder.specs.Building.{MeaningBelow, SignatureBelow};
-ghost use Rattle.type_builder.specs.Meanings.{IsCopyIf, constant_drafted, meaning_drafted, param_descriptor, rest_descriptor, signature_drafted, signed_drafted};
+ghost use Rattle.type_builder.specs.Meanings.{constant_drafted, meaning_drafted, param_descriptor, rest_descriptor, signature_drafted, signed_drafted};
 ghost use Rattle.type_model.specs.Defined.{TyBelow};
 
+use crate::flat::{flat, flat_if, flats};
 use crate::noting::value_set;
-use bal_base::{Fault, Memory, Stop};
+use bal_base::{Fault, Stop};
 use bal_tree::{ConstDef, Def, FunctionDef, Param};
 use descriptors::{
-    Draft, Meaning, Names, Scope, Signature, copy, new_arrow, plain, result_type, type_if,
-    type_tree,
+    Draft, Meaning, Names, Scope, Signature, new_arrow, plain, result_type, type_if, type_tree,
 };
 use std::alloc::Global;
 use type_model::{SemType, Ty, TyList};
@@ -39,7 +37,8 @@ pub(crate) fn meaning(
         }
         Def::Const(d) => constant(alloc, draft, names, scope, d),
         Def::Variable(d) => {
-            let ty = type_tree(alloc, draft, names, scope, &d.ty)?;
+            let t = type_tree(alloc, draft, names, scope, &d.ty)?;
+            let ty = flat(alloc, &t)?;
             Ok(Meaning::Variable {
                 is_final: d.is_final,
                 ty,
@@ -94,9 +93,9 @@ fn signed(
 ) -> Result<Signature, Stop<Fault>>
     ensures { (names : AllNames) (scope : AnyScope) → Drafts (λ n. (AllBelow n fixed × IfBelow n rest) × TyBelow n given) SignatureBelow (signed_drafted names scope unit d.now fixed rest given) draft.old result draft.new }
 {
-    let params = copies(alloc, &fixed)?;
-    let others = copy_if(alloc, &rest)?;
-    let gives = copy(alloc, &given)?;
+    let params = flats(alloc, &fixed)?;
+    let others = flat_if(alloc, &rest)?;
+    let gives = flat(alloc, &given)?;
     let arrow = new_arrow(alloc, draft, d.isolated, fixed, rest, given.sem, d.at)?;
     Ok(Signature {
         unit,
@@ -106,29 +105,6 @@ fn signed(
         result: gives,
         arrow,
     })
-}
-
-fn copies(alloc: Global, types: &TyList) -> Result<TyList, Memory>
-    ensures { IfOk result (AllZip IsCopy types.now) }
-{
-    let mut out = Vec::new(alloc);
-    for t in types.as_slice() {
-        let other = copy(alloc, t)?;
-        out.push(other)?;
-    }
-    Ok(TyList::of(out))
-}
-
-fn copy_if(alloc: Global, t: &Option<Ty>) -> Result<Option<Ty>, Memory>
-    ensures { IfOk result (IsCopyIf t.now) }
-{
-    match t {
-        None => Ok(None),
-        Some(t) => {
-            let other = copy(alloc, t)?;
-            Ok(Some(other))
-        }
-    }
 }
 
 fn params(
