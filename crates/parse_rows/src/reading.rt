@@ -101,7 +101,7 @@ impl Found {
 }
 
 /// The longest texts that are read, in bytes.
-const MOST_BYTES: usize = 4_294_967_295;
+pub const MOST_BYTES: usize = 4_294_967_295;
 
 /// The tokens of the file in which the text stands, without the semicolon at its end, or the refusal.
 pub fn tokens_of(alloc: Global, reader: Reader, text: &str) -> Result<Vec<Token>, Stop<Came>> {

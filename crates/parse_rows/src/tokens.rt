@@ -1,5 +1,5 @@
-//! Rows of tokens: `tokens "TEXT" ==> "SHOWN"`, where both are string literals, and `tokens 3*"TEXT" ==> "SHOWN"` for a text
-//! three times over.
+//! Rows of tokens: `tokens "TEXT" ==> "SHOWN"`, where both are strings, and `tokens 3*"TEXT" ==> "SHOWN"` for a text three
+//! times over.
 //!
 //! What is shown is `NUMBER tokens` of a repeated text, and else each token, or the refusal:
 //!
@@ -9,87 +9,91 @@
 //! - `102 at 5`: a refusal by this code, at this byte
 
 use crate::outcome::Outcome;
-use bal_base::{Fault, Memory, Stop, Text, Token, TokenKind};
+use crate::reading::MOST_BYTES;
+use bal_base::{Fault, Memory, Stop, Token, TokenKind};
 use bal_lexer::lex;
-use std::alloc::Global;
-
-/// The longest texts that are read, in bytes.
-const MOST_BYTES: usize = 4_294_967_295;
+use row_lines::{quoted, unescaped};
+use std::alloc::{AllocError, Global};
 
 /// Reads what stands behind `tokens ` in a row, and compares.
 pub fn outcome_of_tokens(alloc: Global, row: &str) -> Result<Outcome, Memory> {
-    let Some((text, wanted)) = row.split_once(" ==> ") else {
-        return Ok(Outcome::Misread);
-    };
-    let Some(wanted) = literal(alloc, wanted)? else {
-        return Ok(Outcome::Misread);
-    };
-    let shown = if text.starts_with('"') {
-        shown_literal(alloc, text)?
-    } else {
-        shown_repeated(alloc, text)?
-    };
-    Ok(match shown {
-        None => Outcome::Misread,
-        Some(shown) if shown.as_str() == wanted.as_str() => Outcome::Agrees,
-        Some(_) => Outcome::OtherKinds,
-    })
-}
-
-/// What the string literal stands for, if it is one.
-fn literal(alloc: Global, text: &str) -> Result<Option<Text>, Memory> {
-    if text.len() > MOST_BYTES {
-        return Ok(None);
-    }
-    match lex(alloc, 0, text) {
-        Err(Stop::Memory) => Err(Memory),
-        Err(Stop::Fault(_)) => Ok(None),
-        Ok(tokens) => Ok(only_text(&tokens)),
+    match token_row(row) {
+        Some(row) => outcome_of_row(alloc, row),
+        None => Ok(Outcome::Misread),
     }
 }
 
-fn only_text(tokens: &[Token]) -> Option<Text> {
-    match tokens {
-        [token] => match &token.kind {
-            TokenKind::Str(text) => Some(text.share()),
-            _ => None,
-        },
+/// A text and what is wanted of it, both as they are written.
+#[derive(Clone, Copy)]
+struct TokenRow<'a> {
+    /// How often the text stands, where the row says it.
+    times: Option<u32>,
+    text: &'a str,
+    wanted: &'a str,
+}
+
+fn token_row(row: &str) -> Option<TokenRow<'_>> {
+    let (times, row) = times_of(row)?;
+    let (text, behind) = quoted(row)?;
+    match quoted(behind.strip_prefix(" ==> ")?)? {
+        (wanted, "") => Some(TokenRow {
+            times,
+            text,
+            wanted,
+        }),
         _ => None,
     }
 }
 
-/// What is shown of the text for which the literal stands.
-fn shown_literal(alloc: Global, text: &str) -> Result<Option<String>, Memory> {
-    match literal(alloc, text)? {
-        Some(text) => Ok(Some(shown(alloc, text.as_str())?)),
-        None => Ok(None),
+/// How often the text stands, where a row says it, and what is behind that.
+fn times_of(row: &str) -> Option<(Option<u32>, &str)> {
+    if row.starts_with('"') {
+        return Some((None, row));
+    }
+    let (times, text) = row.split_once('*')?;
+    Some((Some(times.parse::<u32>().ok()?), text))
+}
+
+fn outcome_of_row(alloc: Global, row: TokenRow<'_>) -> Result<Outcome, Memory> {
+    match (unescaped(alloc, row.text)?, unescaped(alloc, row.wanted)?) {
+        (Some(text), Some(wanted)) => compared(alloc, row.times, &text, &wanted),
+        _ => Ok(Outcome::Misread),
     }
 }
 
-/// How many tokens a text has that is a literal's, so many times over.
-fn shown_repeated(alloc: Global, text: &str) -> Result<Option<String>, Memory> {
-    let Some((times, piece)) = text.split_once('*') else {
-        return Ok(None);
+fn compared(
+    alloc: Global,
+    times: Option<u32>,
+    text: &[u8],
+    wanted: &[u8],
+) -> Result<Outcome, Memory> {
+    let Ok(text) = str::from_utf8(text) else {
+        return Ok(Outcome::Misread);
     };
-    let Ok(times) = times.parse::<u32>() else {
-        return Ok(None);
+    let shown = match times {
+        Some(times) => shown_repeated(alloc, times, text)?,
+        None => shown(alloc, text)?,
     };
-    let Some(piece) = literal(alloc, piece)? else {
-        return Ok(None);
-    };
+    if shown.as_bytes() == wanted {
+        return Ok(Outcome::Agrees);
+    }
+    Ok(Outcome::OtherKinds)
+}
+
+/// How many tokens a text has, so many times over.
+fn shown_repeated(alloc: Global, times: u32, piece: &str) -> Result<String, Memory> {
     let mut text = String::new(alloc);
     for _ in 0..times {
-        text.push_str(piece.as_str())?;
+        text.push_str(piece)?;
     }
     if text.len() > MOST_BYTES {
-        return Ok(None);
+        return Err(Memory);
     }
     match lex(alloc, 0, text.as_str()) {
-        Err(Stop::Memory) => Err(Memory),
-        Err(Stop::Fault(fault)) => Ok(Some(shown_fault(alloc, &fault)?)),
+        Err(stop) => shown_stop(alloc, &stop),
         Ok(tokens) => {
             let count = tokens.len();
-            Ok(Some(format!(in alloc; "{count} tokens")?))
+            Ok(format!(in alloc; "{count} tokens")?)
         }
     }
 }
@@ -100,35 +104,40 @@ fn shown(alloc: Global, text: &str) -> Result<String, Memory> {
         return Err(Memory);
     }
     match lex(alloc, 0, text) {
-        Err(Stop::Memory) => Err(Memory),
-        Err(Stop::Fault(fault)) => shown_fault(alloc, &fault),
-        Ok(tokens) => shown_tokens(alloc, &tokens),
+        Err(stop) => shown_stop(alloc, &stop),
+        Ok(tokens) => Ok(shown_tokens(alloc, &tokens)?),
     }
 }
 
-fn shown_tokens(alloc: Global, tokens: &[Token]) -> Result<String, Memory> {
+fn shown_tokens(alloc: Global, tokens: &[Token]) -> Result<String, AllocError> {
     let mut out = String::new(alloc);
     for token in tokens {
-        write_kind(&mut out, &token.kind)?;
-        let at = token.at;
-        let end = token.end;
-        write!(out, "@{at}-{end};")?;
+        write_token(&mut out, token)?;
     }
     Ok(out)
 }
 
-fn write_kind(out: &mut String, kind: &TokenKind) -> Result<(), Memory> {
-    match kind {
-        TokenKind::Word(name) => write!(out, "w:{}", name.as_str())?,
-        TokenKind::Keyword(keyword) => write!(out, "k:{keyword:?}")?,
-        TokenKind::Int(value) => write!(out, "i:{value}")?,
-        TokenKind::Str(text) => write!(out, "t:{}", text.as_str())?,
-        TokenKind::Sign(sign) => write!(out, "s:{sign:?}")?,
-    }
-    Ok(())
+fn write_token(out: &mut String, token: &Token) -> Result<(), AllocError> {
+    write_kind(out, &token.kind)?;
+    let at = token.at;
+    let end = token.end;
+    write!(out, "@{at}-{end};")
 }
 
-fn shown_fault(alloc: Global, fault: &Fault) -> Result<String, Memory> {
+fn write_kind(out: &mut String, kind: &TokenKind) -> Result<(), AllocError> {
+    match kind {
+        TokenKind::Word(name) => write!(out, "w:{}", name.as_str()),
+        TokenKind::Keyword(keyword) => write!(out, "k:{keyword:?}"),
+        TokenKind::Int(value) => write!(out, "i:{value}"),
+        TokenKind::Str(text) => write!(out, "t:{}", text.as_str()),
+        TokenKind::Sign(sign) => write!(out, "s:{sign:?}"),
+    }
+}
+
+fn shown_stop(alloc: Global, stop: &Stop<Fault>) -> Result<String, Memory> {
+    let Stop::Fault(fault) = stop else {
+        return Err(Memory);
+    };
     let number = fault.code.number();
     let at = match fault.at {
         Some(place) => place.at,
