@@ -1,14 +1,15 @@
-//! Constants and texts as they are written: `true`, `false`, `nil`, ints, and `'TEXT`, in which `_` stands for a space.
+//! Constants as they are written: `true`, `false`, `nil`, ints, and strings.
 
 use crate::misread::{Misread, Read, refuse};
 use bal_base::Text;
 use operations::Constant;
+use row_lines::{quoted, unescaped};
 use std::alloc::Global;
 
 /// The constant.
 pub fn constant_of(alloc: Global, word: &str) -> Read<Constant> {
-    if let Some(text) = word.strip_prefix('\'') {
-        return Ok(Constant::Str(text_of(alloc, text)?));
+    if let Some((inside, "")) = quoted(word) {
+        return Ok(Constant::Str(text_of(alloc, inside)?));
     }
     match word {
         "nil" => Ok(Constant::Nil),
@@ -25,15 +26,13 @@ fn int_of(word: &str) -> Read<Constant> {
     }
 }
 
-/// The text, with spaces.
-pub fn text_of(alloc: Global, word: &str) -> Read<Text> {
-    let mut text = String::new(alloc);
-    for c in word.chars() {
-        if c == '_' {
-            text.push(' ')?;
-        } else {
-            text.push(c)?;
-        }
+/// What a text with escapes stands for.
+fn text_of(alloc: Global, text: &str) -> Read<Text> {
+    let Some(bytes) = unescaped(alloc, text)? else {
+        return refuse(Misread::NotAText);
+    };
+    match str::from_utf8(&bytes) {
+        Ok(text) => Ok(Text::new(alloc, text)?),
+        Err(_) => refuse(Misread::NotAText),
     }
-    Ok(Text::from_string(alloc, text)?)
 }

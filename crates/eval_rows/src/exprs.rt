@@ -13,7 +13,6 @@
 //!   `(wait-futures E ..)`, `(wait-all ATOM W ..)`
 
 use crate::calls::call_of;
-use crate::constants::text_of;
 use crate::misread::{Misread, Read, refuse};
 use crate::nodes::{HERE, Parts, any_type, strict};
 use bal_base::Row;
@@ -128,11 +127,11 @@ fn reading_form(alloc: Global, head: &str, parts: &mut Parts) -> Read<Option<Typ
         "key" => strict_with(alloc, StrictForm::Read(Reading::Key), parts),
         "char" => strict_with(alloc, StrictForm::Read(Reading::Char), parts),
         "field" => {
-            let name = text_of(alloc, parts.word()?.as_str())?;
+            let name = parts.text()?;
             strict_with(alloc, StrictForm::Read(Reading::Field(name)), parts)
         }
         "field?" => {
-            let name = text_of(alloc, parts.word()?.as_str())?;
+            let name = parts.text()?;
             strict_with(alloc, StrictForm::Read(Reading::OptionalField(name)), parts)
         }
         "is" => {

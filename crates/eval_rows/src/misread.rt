@@ -1,23 +1,33 @@
 //! Why a line isn't read.
 
 use bal_base::Stop;
-use thiserror::Error;
 
 /// Why a line isn't read.
-#[derive(Clone, Copy, Debug, PartialEq, Eq, Error)]
+#[derive(Clone, Copy)]
 pub enum Misread {
-    #[error("no row begins above it")]
-    NoRow,
-    #[error("its brackets don't match")]
     Brackets,
-    #[error("a form isn't known, or has other parts")]
     NotAForm,
-    #[error("a number isn't written as one")]
     NotANumber,
-    #[error("a form doesn't stand in a function")]
+    NotAText,
     Outside,
-    #[error("its atoms name others, or have a field twice")]
     Atoms,
+    Behind,
+    NothingWanted,
+}
+
+impl Misread {
+    pub fn text(self) -> &'static str {
+        match self {
+            Misread::Brackets => "its brackets don't match",
+            Misread::NotAForm => "a form isn't known, or has other parts",
+            Misread::NotANumber => "a number isn't written as one",
+            Misread::NotAText => "a string isn't written as one",
+            Misread::Outside => "a form doesn't stand in a function",
+            Misread::Atoms => "its atoms name others, or have a field twice",
+            Misread::Behind => "it stands behind what is wanted",
+            Misread::NothingWanted => "nothing is wanted of the run",
+        }
+    }
 }
 
 /// What is read, or why it isn't.

@@ -3,7 +3,7 @@
 use crate::constants::constant_of;
 use crate::misread::{Misread, Read, refuse};
 use crate::types::{shared, type_of};
-use bal_base::Place;
+use bal_base::{Place, Text};
 use std::alloc::Global;
 use type_model::{AtomDef, SemType};
 use typed_tree::{
@@ -86,6 +86,12 @@ impl Parts {
             Node::Word(word) => Ok(word),
             _ => refuse(Misread::NotAForm),
         }
+    }
+
+    /// A word, as a text.
+    pub fn text(&mut self) -> Read<Text> {
+        let word = self.word()?;
+        Ok(Text::from_string(self.alloc, word)?)
     }
 
     /// A number.

@@ -3,7 +3,7 @@
 use crate::forms::unit_with;
 use crate::misread::{Misread, Read, refuse};
 use crate::nodes::{Draft, HERE, Node};
-use bal_base::{Row, Stop};
+use bal_base::{Memory, Row, Stop};
 use plain_eval::{Body, Unit};
 use plain_run::{Facts, UnitFacts, WorkerFacts};
 use plain_steps::{Launch, Program};
@@ -142,7 +142,7 @@ fn workers_of(body: &TypedBody) -> &[TypedWorker] {
     }
 }
 
-fn worker_facts(alloc: Global, worker: &TypedWorker) -> Read<WorkerFacts> {
+fn worker_facts(alloc: Global, worker: &TypedWorker) -> Result<WorkerFacts, Memory> {
     let mut captured = Vec::new(alloc);
     for variable in worker.captured.as_slice() {
         captured.push(variable.slot)?;
@@ -153,7 +153,11 @@ fn worker_facts(alloc: Global, worker: &TypedWorker) -> Read<WorkerFacts> {
     })
 }
 
-fn unit_facts(alloc: Global, unit: &TypedUnit, workers: &[TypedWorker]) -> Read<UnitFacts> {
+fn unit_facts(
+    alloc: Global,
+    unit: &TypedUnit,
+    workers: &[TypedWorker],
+) -> Result<UnitFacts, Memory> {
     let mut named = Vec::new(alloc);
     for worker in workers {
         named.push(worker_facts(alloc, worker)?)?;
@@ -168,7 +172,7 @@ fn unit_facts(alloc: Global, unit: &TypedUnit, workers: &[TypedWorker]) -> Read<
 }
 
 /// What is known of the program.
-fn facts(alloc: Global, package: &Numbered) -> Read<Facts<'_>> {
+fn facts(alloc: Global, package: &Numbered) -> Result<Facts<'_>, Memory> {
     let mut units = Vec::new(alloc);
     for f in package.functions.iter() {
         units.push(unit_facts(alloc, &f.unit, workers_of(&f.body))?)?;
@@ -192,7 +196,7 @@ fn facts(alloc: Global, package: &Numbered) -> Read<Facts<'_>> {
 }
 
 /// The units, with what they do.
-fn units(alloc: Global, package: &Numbered) -> Read<Vec<Unit<'_>>> {
+fn units(alloc: Global, package: &Numbered) -> Result<Vec<Unit<'_>>, Memory> {
     let mut units = Vec::new(alloc);
     for f in package.functions.iter() {
         units.push(Unit {
@@ -216,7 +220,7 @@ fn units(alloc: Global, package: &Numbered) -> Read<Vec<Unit<'_>>> {
 }
 
 /// The program, whose `main` is the first function.
-pub fn program(alloc: Global, package: &Numbered) -> Read<Program<'_>> {
+pub fn program(alloc: Global, package: &Numbered) -> Result<Program<'_>, Memory> {
     let variables = package.initials.len() as u64;
     Ok(Program {
         facts: facts(alloc, package)?,

@@ -4,7 +4,7 @@ use crate::forms::node_of;
 use crate::misread::{Misread, Read, refuse};
 use crate::nodes::Node;
 use crate::package::Package;
-use crate::words::word_of;
+use crate::words::{Piece, piece_at};
 use std::alloc::Global;
 
 /// A form that is open, with its parts so far.
@@ -34,8 +34,13 @@ impl Reader {
 
     /// Reads a line.
     pub fn line(&mut self, line: &str) -> Read<()> {
-        for word in line.split_ascii_whitespace() {
-            self.word(word)?;
+        let mut rest = line;
+        for _ in 0..line.len() {
+            let Some((piece, behind)) = piece_at(rest) else {
+                break;
+            };
+            self.piece(piece)?;
+            rest = behind;
         }
         Ok(())
     }
@@ -49,19 +54,22 @@ impl Reader {
         Ok(package)
     }
 
-    fn word(&mut self, word: &str) -> Read<()> {
-        let word = word_of(word);
-        if word.opens {
-            let head = format!(in self.alloc; "{}", word.text)?;
-            let parts = Vec::new(self.alloc);
-            self.open.push(Open { head, parts })?;
-        } else if !word.text.is_empty() {
-            let text = format!(in self.alloc; "{}", word.text)?;
-            self.add(Node::Word(text))?;
+    fn piece(&mut self, piece: Piece<'_>) -> Read<()> {
+        match piece {
+            Piece::Opens(head) => self.opens(head),
+            Piece::Closes => self.close(),
+            Piece::Word(word) => {
+                let word = String::from_str(self.alloc, word)?;
+                self.add(Node::Word(word))
+            }
         }
-        for _ in 0..word.closes {
-            self.close()?;
-        }
+    }
+
+    /// A form opens.
+    fn opens(&mut self, head: &str) -> Read<()> {
+        let head = String::from_str(self.alloc, head)?;
+        let parts = Vec::new(self.alloc);
+        self.open.push(Open { head, parts })?;
         Ok(())
     }
 

@@ -1,13 +1,13 @@
-//! Rows of lines: `row TITLE`, then forms, `picks N ..`, `ticks N` and `input LINE` where they are wanted, and at its end
-//! `=> WANTED`. Each `input LINE` adds a line to what the program reads.
+//! Rows of lines.
 
+use crate::came::compare;
 use crate::misread::{Misread, Read, refuse};
-use crate::package::program;
+use crate::package::{Numbered, program};
 use crate::reader::Reader;
-use crate::told::told;
-use plain_steps::run;
+use bal_base::{Memory, Stop};
+use plain_steps::{Ran, run};
+use row_lines::{Judge, Row, Told, number, numbers};
 use std::alloc::Global;
-use std::mem;
 
 /// How many places an order has that a row doesn't say: always the first.
 const FIRST_PICKS: usize = 64;
@@ -15,111 +15,161 @@ const FIRST_PICKS: usize = 64;
 /// How many steps a run may make.
 const MOST_STEPS: u64 = 100_000;
 
-/// What became of a line.
-#[derive(Drop)]
-pub enum Outcome {
-    /// It ends no row.
-    NoEnd,
-    /// What is wanted came.
-    Agrees,
-    /// This came.
-    Other(String),
+/// How many ticks a run has where a row doesn't say it.
+const TICKS: u64 = 1000;
+
+/// Rows of packages.
+#[derive(Clone, Copy)]
+pub struct Packages;
+
+impl Judge for Packages {
+    fn judge(&mut self, row: &Row, told: &mut Told) {
+        let mut draft = Draft::new(told.alloc());
+        for line in row.rest.as_slice() {
+            if let Err(why) = draft.line(line.as_str()) {
+                misread(line.as_str(), why, told);
+                return;
+            }
+        }
+        match draft.finish() {
+            Ok(question) => judge_question(&question, told),
+            Err(why) => misread("at its end", why, told),
+        }
+    }
 }
 
-/// The row that is being read.
+fn misread(line: &str, why: Stop<Misread>, told: &mut Told) {
+    match why {
+        Stop::Fault(why) => told.misread(line, why.text()),
+        Stop::Memory => told.memory(),
+    }
+}
+
+/// A package, how it is run, and what is wanted of the run.
 #[derive(Drop)]
-pub struct Rows {
-    alloc: Global,
-    is_open: bool,
-    reader: Reader,
+struct Question {
+    package: Numbered,
+    call: Call,
+    wanted: String,
+}
+
+/// How a package is run.
+#[derive(Drop)]
+struct Call {
     picks: Vec<u64>,
     ticks: u64,
     input: Vec<u8>,
 }
 
-impl Rows {
-    /// No row is open.
-    pub fn new(alloc: Global) -> Rows {
-        Rows {
+/// A row that is being read.
+#[derive(Drop)]
+struct Draft {
+    alloc: Global,
+    reader: Reader,
+    call: Call,
+    wanted: Option<String>,
+}
+
+impl Draft {
+    /// Nothing was read.
+    fn new(alloc: Global) -> Draft {
+        Draft {
             alloc,
-            is_open: false,
             reader: Reader::new(alloc),
-            picks: Vec::new(alloc),
-            ticks: 1000,
-            input: Vec::new(alloc),
+            call: Call {
+                picks: Vec::new(alloc),
+                ticks: TICKS,
+                input: Vec::new(alloc),
+            },
+            wanted: None,
         }
     }
 
     /// Reads the next line.
-    pub fn line(&mut self, line: &str) -> Read<Outcome> {
-        if line.is_empty() || line.starts_with("//") {
-            return Ok(Outcome::NoEnd);
+    fn line(&mut self, line: &str) -> Read<()> {
+        if self.wanted.is_some() {
+            return refuse(Misread::Behind);
         }
-        if line.starts_with("row ") {
-            let row = Rows::new(self.alloc);
-            *self = row;
-            self.is_open = true;
-            return Ok(Outcome::NoEnd);
+        match line.split_once(' ') {
+            Some(("=>", wanted)) => self.wants(wanted),
+            Some(("picks", picks)) => self.picks(picks),
+            Some(("ticks", ticks)) => self.ticks(ticks),
+            Some(("input", input)) => self.input(input),
+            _ => self.reader.line(line),
         }
-        if !self.is_open {
-            return refuse(Misread::NoRow);
-        }
-        if let Some(wanted) = line.strip_prefix("=> ") {
-            return self.ends(wanted);
-        }
-        self.goes_on(line)?;
-        Ok(Outcome::NoEnd)
     }
 
-    fn goes_on(&mut self, line: &str) -> Read<()> {
-        if let Some(picks) = line.strip_prefix("picks ") {
-            for word in picks.split_ascii_whitespace() {
-                self.picks.push(number(word)?)?;
+    fn wants(&mut self, wanted: &str) -> Read<()> {
+        self.wanted = Some(String::from_str(self.alloc, wanted)?);
+        Ok(())
+    }
+
+    fn picks(&mut self, picks: &str) -> Read<()> {
+        match numbers(self.alloc, picks)? {
+            Some(picks) => {
+                self.call.picks = picks;
+                Ok(())
             }
-            return Ok(());
+            None => refuse(Misread::NotANumber),
         }
-        if let Some(ticks) = line.strip_prefix("ticks ") {
-            self.ticks = number(ticks)?;
-            return Ok(());
-        }
-        if let Some(line) = line.strip_prefix("input ") {
-            self.input.extend_from_slice(line.as_bytes())?;
-            self.input.push(b'\n')?;
-            return Ok(());
-        }
-        self.reader.line(line)
     }
 
-    /// Runs the program, and compares.
-    fn ends(&mut self, wanted: &str) -> Read<Outcome> {
-        self.is_open = false;
-        let reader = mem::replace(&mut self.reader, Reader::new(self.alloc));
+    fn ticks(&mut self, ticks: &str) -> Read<()> {
+        match number(ticks) {
+            Some(ticks) => {
+                self.call.ticks = ticks;
+                Ok(())
+            }
+            None => refuse(Misread::NotANumber),
+        }
+    }
+
+    fn input(&mut self, line: &str) -> Read<()> {
+        self.call.input.extend_from_slice(line.as_bytes())?;
+        self.call.input.push(b'\n')?;
+        Ok(())
+    }
+
+    /// The question, once all lines are read.
+    fn finish(self) -> Read<Question> {
+        let Draft {
+            reader,
+            mut call,
+            wanted,
+            ..
+        } = self;
+        let Some(wanted) = wanted else {
+            return refuse(Misread::NothingWanted);
+        };
         let package = reader.finish()?.number()?;
-        let program = program(self.alloc, &package)?;
         for _ in 0..FIRST_PICKS {
-            self.picks.push(0)?;
+            call.picks.push(0)?;
         }
-        let order = self.picks.as_slice();
-        let ran = run(
-            self.alloc,
-            &program,
-            &[],
-            self.input.as_slice(),
-            order,
-            self.ticks,
-            MOST_STEPS,
-        )?;
-        let came = told(self.alloc, &ran)?;
-        if came.as_str() == wanted {
-            return Ok(Outcome::Agrees);
-        }
-        Ok(Outcome::Other(came))
+        Ok(Question {
+            package,
+            call,
+            wanted,
+        })
     }
 }
 
-fn number(word: &str) -> Read<u64> {
-    match word.parse::<u64>() {
-        Ok(number) => Ok(number),
-        Err(_) => refuse(Misread::NotANumber),
+/// Runs the program, and compares.
+fn judge_question(question: &Question, told: &mut Told) {
+    match ran(told.alloc(), &question.package, &question.call) {
+        Ok(ran) => compare(question.wanted.as_str(), &ran, told),
+        Err(Memory) => told.memory(),
     }
+}
+
+fn ran(alloc: Global, package: &Numbered, call: &Call) -> Result<Ran, Memory> {
+    let program = program(alloc, package)?;
+    run(
+        alloc,
+        &program,
+        &[],
+        call.input.as_slice(),
+        call.picks.as_slice(),
+        call.ticks,
+        MOST_STEPS,
+    )
 }

@@ -6,7 +6,7 @@
 //!
 //! A filler is a constant, `nothing`, `list N` or `mapping N`.
 
-use crate::constants::{constant_of, text_of};
+use crate::constants::constant_of;
 use crate::misread::{Misread, Read, refuse};
 use crate::nodes::{Node, Parts};
 use bal_base::Row;
@@ -130,10 +130,10 @@ fn record(alloc: Global, parts: &mut Parts) -> Read<Option<Node>> {
         if parts.left() == 0 {
             break;
         }
-        let name = parts.word()?;
+        let name = parts.text()?;
         let ty = parts.sem()?;
         fields.push(FieldDef {
-            name: text_of(alloc, name.as_str())?,
+            name: name,
             ty: plain(alloc, ty),
             optional: false,
         })?;
