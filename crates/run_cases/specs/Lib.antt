@@ -1,3 +1,3 @@
 pub mod Came
-pub mod Outcome
+pub mod Judged
 pub mod Wanted

@@ -15,12 +15,12 @@
 //! - `steps N`, `turns N` and `places N`: the steps, the turns, and the places of the code that is kept. Where
 //!   they don't stand, any
 //!
-//! A text is lines that the module `piece` tells; one that is opened again goes on. Empty lines, and those that begin with `//`, say nothing.
+//! A text is lines that the module `piece` tells; one that is opened again goes on.
 
 use crate::case::{Call, Case, Wanted, WantedCounts, WantedDir};
 use crate::misread::{Misread, Read, refuse};
 use crate::piece::{add_piece, is_piece};
-use crate::words::{first_word, number, numbers, says_nothing, title_of, two_numbers};
+use row_lines::{first_word, number, numbers};
 use std::alloc::Global;
 use std::mem;
 
@@ -28,7 +28,6 @@ use std::mem;
 #[derive(Drop)]
 pub struct Draft {
     alloc: Global,
-    has_title: bool,
     has_words: bool,
     call: Call,
     status: Option<u64>,
@@ -56,7 +55,6 @@ impl Draft {
     pub fn new(alloc: Global) -> Draft {
         Draft {
             alloc,
-            has_title: false,
             has_words: false,
             call: Call::new(alloc),
             status: None,
@@ -75,21 +73,11 @@ impl Draft {
 
     /// Reads the next line.
     pub fn line(&mut self, line: &str) -> Read<()> {
-        if title_of(line).is_some() {
-            self.has_title = true;
-            return Ok(());
-        }
-        if says_nothing(line) {
-            return Ok(());
-        }
-        if !self.has_title {
-            return refuse(Misread::NoCase);
-        }
-        let (word, rest) = first_word(line);
-        if is_piece(word) {
-            return self.go_on(word, rest);
+        if is_piece(line) {
+            return self.go_on(line);
         }
         self.close()?;
+        let (word, rest) = first_word(line);
         self.begin(word, rest)
     }
 
@@ -124,10 +112,10 @@ impl Draft {
     }
 
     /// Adds a line to the text that is open.
-    fn go_on(&mut self, word: &str, rest: &str) -> Read<()> {
+    fn go_on(&mut self, line: &str) -> Read<()> {
         match self.open {
             Part::Nothing => refuse(Misread::NoText),
-            _ => add_piece(self.alloc, &mut self.text, word, rest),
+            _ => add_piece(self.alloc, &mut self.text, line),
         }
     }
 
@@ -177,7 +165,7 @@ impl Draft {
 
     fn fails(&mut self, rest: &str) -> Read<()> {
         let (object, rest) = first_word(rest);
-        let calls = numbers(self.alloc, rest)?;
+        let calls = some_numbers(self.alloc, rest)?;
         match object {
             "folder" => self.call.folder_fails.extend_from_slice(calls.as_slice())?,
             "stdin" => self.call.input_fails.extend_from_slice(calls.as_slice())?,
@@ -221,7 +209,7 @@ impl Draft {
     }
 
     fn count(&mut self, word: &str, rest: &str) -> Read<()> {
-        let count = number(rest)?;
+        let count = one_number(rest)?;
         match word {
             "status" => set_once(&mut self.status, count),
             "steps" => set_once(&mut self.counts.steps, count),
@@ -237,4 +225,25 @@ fn set_once(known: &mut Option<u64>, count: u64) -> Read<()> {
     }
     *known = Some(count);
     Ok(())
+}
+
+fn one_number(word: &str) -> Read<u64> {
+    match number(word) {
+        Some(count) => Ok(count),
+        None => refuse(Misread::NotANumber),
+    }
+}
+
+/// Two numbers.
+fn two_numbers(rest: &str) -> Read<(u64, u64)> {
+    let (first, second) = first_word(rest);
+    Ok((one_number(first)?, one_number(second)?))
+}
+
+/// The numbers of a line, of which there is at least one.
+fn some_numbers(alloc: Global, rest: &str) -> Read<Vec<u64>> {
+    match numbers(alloc, rest)? {
+        Some(all) if !all.is_empty() => Ok(all),
+        _ => refuse(Misread::NotANumber),
+    }
 }

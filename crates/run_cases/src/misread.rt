@@ -1,27 +1,31 @@
 //! Why a case isn't read.
 
 use bal_base::Stop;
-use thiserror::Error;
 
 /// Why a line of a case isn't read.
-#[derive(Clone, Copy, Debug, PartialEq, Eq, Error)]
+#[derive(Clone, Copy)]
 pub enum Misread {
-    #[error("it isn't of the form of a line")]
     NotALine,
-    #[error("no case begins above it")]
-    NoCase,
-    #[error("no text is open that it could go on with")]
     NoText,
-    #[error("a number isn't written as one")]
     NotANumber,
-    #[error("a byte isn't written as two hexadecimal digits")]
-    NotAByte,
-    #[error("no number of repetitions brings the text to this size")]
+    NotAString,
     NoSize,
-    #[error("a line above says it already")]
     Twice,
-    #[error("it doesn't say which status is wanted")]
     NoStatus,
+}
+
+impl Misread {
+    pub fn text(self) -> &'static str {
+        match self {
+            Misread::NotALine => "it isn't of the form of a line",
+            Misread::NoText => "no text is open that it could go on with",
+            Misread::NotANumber => "a number isn't written as one",
+            Misread::NotAString => "a string isn't written as one",
+            Misread::NoSize => "no number of repetitions brings the text to this size",
+            Misread::Twice => "a line above says it already",
+            Misread::NoStatus => "it doesn't say which status is wanted",
+        }
+    }
 }
 
 /// What is read, or why it isn't.

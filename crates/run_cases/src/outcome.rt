@@ -1,71 +1,91 @@
-//! What becomes of a case.
-ghost use Rattle.std.specs.Prelude.{◌≡◌, count_by};
-ghost use Rattle.run_cases.specs.Outcome.{IsOutcomeOf, IsVerdict, fails};
+//! What becomes of a case, and what is told of it.
+ghost use Rattle.row_lines.specs.Telling.{FailsUnless};
+ghost use Rattle.run_cases.specs.Judged.{IsJudged};
+ghost use Rattle.run_cases.specs.Wanted.{AsWanted};
 
-use crate::came::{Came, came_of, is_as_wanted};
-use crate::case::{Case, Wanted};
-use crate::lines::{MisreadAt, read_case};
-use bal_base::Memory;
-use std::alloc::Global;
+use crate::came::{Came, came_of, is_as_wanted, is_dir_wanted};
+use crate::case::{Case, Wanted, WantedDir};
+use crate::draft::Draft;
+use crate::misread::Misread;
+use bal_base::{Memory, Stop};
+use row_lines::{Judge, Row, Told};
 
-/// What became of a case.
-#[derive(Drop)]
-pub enum Outcome {
-    /// All is as it is wanted.
-    Agrees,
-    /// This came, and not what is wanted.
-    Differs { wanted: Wanted, came: Came },
-    /// It is not read.
-    Misread(MisreadAt),
-    /// Memory ran out.
-    Memory,
+/// Rows of cases.
+#[derive(Clone, Copy)]
+pub struct Cases;
+
+impl Judge for Cases {
+    fn judge(&mut self, row: &Row, told: &mut Told) {
+        let mut draft = Draft::new(told.alloc());
+        for line in row.rest.as_slice() {
+            if let Err(why) = draft.line(line.as_str()) {
+                misread(line.as_str(), why, told);
+                return;
+            }
+        }
+        match draft.finish() {
+            Ok(case) => judge_case(case, told),
+            Err(why) => misread("at its end", why, told),
+        }
+    }
 }
 
-/// Reads a case, makes its call and compares.
-pub fn outcome_of(alloc: Global, lines: &[String]) -> Outcome {
-    match read_case(alloc, lines) {
-        Ok(case) => outcome_of_call(alloc, case),
-        Err(misread) => Outcome::Misread(misread),
+fn misread(line: &str, why: Stop<Misread>, told: &mut Told) {
+    match why {
+        Stop::Fault(why) => told.misread(line, why.text()),
+        Stop::Memory => told.memory(),
     }
 }
 
 /// Makes the call of a case and compares.
-fn outcome_of_call(alloc: Global, case: Case) -> Outcome
-    ensures { IsOutcomeOf case result }
+fn judge_case(case: Case, told: &mut Told)
+    ensures { IsJudged case told.old told.new }
 {
     let Case { call, wanted } = case;
-    match came_of(alloc, call) {
-        Ok(came) => compare(wanted, came),
-        Err(Memory) => Outcome::Memory,
+    match came_of(told.alloc(), call) {
+        Ok(came) => compare(&wanted, &came, told),
+        Err(Memory) => told.memory(),
     }
 }
 
 /// Compares what is wanted with what came.
-fn compare(wanted: Wanted, came: Came) -> Outcome
-    ensures { IsVerdict wanted came result }
+fn compare(wanted: &Wanted, came: &Came, told: &mut Told)
+    ensures { FailsUnless (AsWanted wanted.now came.now) told.old told.new }
 {
-    if is_as_wanted(&wanted, &came) {
-        Outcome::Agrees
-    } else {
-        Outcome::Differs { wanted, came }
+    if !is_as_wanted(wanted, came) {
+        tell_differences(wanted, came, told);
+        told.differs();
     }
 }
 
-/// How many of the cases fail: all but those in which all is as it is wanted.
-pub fn failures(outcomes: &[Outcome]) -> usize
-    ensures { result ≡ count_by fails outcomes.now }
-{
-    outcomes.iter().filter(|outcome| outcome.fails()).count()
+/// Tells each part that is not as it is wanted.
+fn tell_differences(wanted: &Wanted, came: &Came, told: &mut Told) {
+    told.number("status", wanted.status, came.status);
+    told.bytes("stdout", &wanted.stdout, &came.stdout);
+    told.bytes("stderr", &wanted.stderr, &came.stderr);
+    tell_dir(wanted, came, told);
+    tell_count("steps", wanted.counts.steps, came.counts.steps, told);
+    tell_count("turns", wanted.counts.turns, came.counts.turns, told);
+    tell_count("places", wanted.counts.places, came.counts.places, told);
 }
 
-impl Outcome {
-    /// Whether the case fails.
-    pub fn fails(&self) -> bool
-        ensures { result ≡ fails self.now }
-    {
-        match self {
-            Outcome::Agrees => false,
-            Outcome::Differs { .. } | Outcome::Misread(_) | Outcome::Memory => true,
-        }
+fn tell_count(name: &str, wanted: Option<u64>, came: u64, told: &mut Told) {
+    if let Some(wanted) = wanted {
+        told.number(name, wanted, came);
     }
+}
+
+fn tell_dir(wanted: &Wanted, came: &Came, told: &mut Told) {
+    if is_dir_wanted(&wanted.dir, &came.dir) {
+        return;
+    }
+    let wanted = match &wanted.dir {
+        WantedDir::Named(name) => name.as_str(),
+        WantedDir::Missing | WantedDir::Any => "none",
+    };
+    let came = match &came.dir {
+        Some(dir) => dir.as_str(),
+        None => "none",
+    };
+    told.other("dir", wanted, came);
 }

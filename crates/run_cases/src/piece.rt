@@ -2,39 +2,47 @@
 //!
 //! - `| TEXT`: the text and a line feed
 //! - `> TEXT`: the text alone
-//! - `bytes 0d 0a`: bytes, each as two hexadecimal digits
+//! - `"TEXT"`: bytes, in which there are escapes
 //! - `repeat N PIECE`: N times what the rest of the line adds
 //! - `pad N PIECE`: what the rest of the line adds, as often as brings the text to N bytes
 
 use crate::misread::{Misread, Read, refuse};
-use crate::words::{first_word, number};
+use row_lines::{first_word, number, quoted, unescaped};
 use std::alloc::Global;
 
-/// Whether a line that begins with this word adds to a text.
-pub fn is_piece(word: &str) -> bool {
-    matches!(word, "|" | ">" | "bytes" | "repeat" | "pad")
+/// Whether a line adds to a text.
+pub fn is_piece(line: &str) -> bool {
+    let (word, _) = first_word(line);
+    line.starts_with('"') || matches!(word, "|" | ">" | "repeat" | "pad")
 }
 
 /// Adds what a line stands for.
-pub fn add_piece(alloc: Global, text: &mut Vec<u8>, word: &str, rest: &str) -> Read<()> {
-    match word {
-        "repeat" => {
-            let (count, rest) = first_word(rest);
-            let count = number(count)?;
-            let piece = piece(alloc, rest)?;
-            add_times(text, piece.as_slice(), count)
-        }
-        "pad" => {
-            let (size, rest) = first_word(rest);
-            let size = number(size)?;
-            let piece = piece(alloc, rest)?;
-            let count = times_to(size, text.len() as u64, piece.len() as u64)?;
-            add_times(text, piece.as_slice(), count)
-        }
-        _ => {
-            let piece = simple_piece(alloc, word, rest)?;
-            add_times(text, piece.as_slice(), 1)
-        }
+pub fn add_piece(alloc: Global, text: &mut Vec<u8>, line: &str) -> Read<()> {
+    match first_word(line) {
+        ("repeat", rest) => repeat(alloc, text, rest),
+        ("pad", rest) => pad(alloc, text, rest),
+        _ => add_times(text, simple_piece(alloc, line)?.as_slice(), 1),
+    }
+}
+
+fn repeat(alloc: Global, text: &mut Vec<u8>, rest: &str) -> Read<()> {
+    let (count, line) = counted(rest)?;
+    add_times(text, simple_piece(alloc, line)?.as_slice(), count)
+}
+
+fn pad(alloc: Global, text: &mut Vec<u8>, rest: &str) -> Read<()> {
+    let (size, line) = counted(rest)?;
+    let piece = simple_piece(alloc, line)?;
+    let count = times_to(size, text.len() as u64, piece.len() as u64)?;
+    add_times(text, piece.as_slice(), count)
+}
+
+/// A number, and what stands behind it.
+fn counted(rest: &str) -> Read<(u64, &str)> {
+    let (word, line) = first_word(rest);
+    match number(word) {
+        Some(count) => Ok((count, line)),
+        None => refuse(Misread::NotANumber),
     }
 }
 
@@ -55,35 +63,29 @@ fn times_to(size: u64, len: u64, piece: u64) -> Read<u64> {
 }
 
 /// What a line that repeats nothing stands for.
-fn piece(alloc: Global, line: &str) -> Read<Vec<u8>> {
-    let (word, rest) = first_word(line);
-    simple_piece(alloc, word, rest)
-}
-
-fn simple_piece(alloc: Global, word: &str, rest: &str) -> Read<Vec<u8>> {
-    match word {
-        "|" => {
-            let mut line = Vec::from_slice(alloc, rest.as_bytes())?;
-            line.push(b'\n')?;
-            Ok(line)
-        }
-        ">" => Ok(Vec::from_slice(alloc, rest.as_bytes())?),
-        "bytes" => bytes(alloc, rest),
+fn simple_piece(alloc: Global, line: &str) -> Read<Vec<u8>> {
+    if line.starts_with('"') {
+        return string(alloc, line);
+    }
+    match first_word(line) {
+        ("|", rest) => whole_line(alloc, rest),
+        (">", rest) => Ok(Vec::from_slice(alloc, rest.as_bytes())?),
         _ => refuse(Misread::NotALine),
     }
 }
 
-fn bytes(alloc: Global, rest: &str) -> Read<Vec<u8>> {
-    let mut all = Vec::new(alloc);
-    for word in rest.split_ascii_whitespace() {
-        all.push(byte(word)?)?;
-    }
-    Ok(all)
+fn whole_line(alloc: Global, text: &str) -> Read<Vec<u8>> {
+    let mut line = Vec::from_slice(alloc, text.as_bytes())?;
+    line.push(b'\n')?;
+    Ok(line)
 }
 
-fn byte(word: &str) -> Read<u8> {
-    match u8::from_str_radix(word, 16) {
-        Ok(byte) if word.len() == 2 && !word.starts_with('+') => Ok(byte),
-        _ => refuse(Misread::NotAByte),
+fn string(alloc: Global, line: &str) -> Read<Vec<u8>> {
+    match quoted(line) {
+        Some((inside, "")) => match unescaped(alloc, inside)? {
+            Some(bytes) => Ok(bytes),
+            None => refuse(Misread::NotAString),
+        },
+        _ => refuse(Misread::NotAString),
     }
 }
