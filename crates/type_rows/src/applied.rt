@@ -1,33 +1,28 @@
 //! Functions that are applied to arguments.
-ghost use Rattle.std.specs.Prelude.{◌≡◌, IfOk, MatchBool, ⊤};
+ghost use Rattle.std.specs.Prelude.{◌≡◌, IfOk, List, MatchBool, ⊤};
 ghost use Rattle.type_model.specs.Application.{IsFunctionType, IsListType};
 ghost use Rattle.type_model.specs.Defined.{IsDefined};
-ghost use Rattle.type_model.specs.Inclusion.{Sub};
+ghost use Rattle.type_model.specs.Inclusion.{AnswersSub, Sub};
+ghost use Rattle.type_model.specs.declared.atoms.AtomDef.{AtomDef};
+ghost use Rattle.type_model.specs.declared.basic.SemType.{SemType as Semantic};
 
 use crate::asked::{Reply, is_valid_in, shown, stopped};
 use crate::misread::{Misread, Read, refuse};
+use crate::parts::are_same;
 use bal_base::{Shape, Stop};
 use std::alloc::Global;
 use subtype_decider::Decider;
 use type_model::{Answer, Apply, BasicSet, SemType};
 
-/// What is expected where functions are applied.
-#[derive(Drop)]
-pub enum Expected {
-    /// Arguments at which one of them fails.
-    Failure,
-    /// Results in exactly this type.
-    Results(SemType),
-}
-
-/// Whether functions of the first type, applied to lists of the second, give what is expected. Arguments at
-/// which one of them is said to fail are tested.
+/// Whether functions of the first type, applied to lists of the second, give what is expected: results in exactly
+/// this type, or, where none is given, arguments at which one of them fails. Arguments at which one is said to fail
+/// are tested.
 pub fn gives(
     alloc: Global,
     decider: &mut Decider,
     f: &SemType,
     args: &SemType,
-    expected: &Expected,
+    expected: &Option<SemType>,
 ) -> Read<Reply> {
     let atoms = decider.env().defs().len();
     if !f.names_below(atoms) || !args.names_below(atoms) {
@@ -37,8 +32,7 @@ pub fn gives(
         return refuse(Misread::NotApplied);
     }
     match decider.apply(alloc, f, args) {
-        Ok(Apply::Outside(arguments)) => Ok(failed(decider, &arguments, args, expected)),
-        Ok(Apply::Result(found)) => given(alloc, decider, &found, expected),
+        Ok(applied) => given(alloc, decider, &applied, args, expected),
         Err(stop) => stopped(stop),
     }
 }
@@ -59,30 +53,20 @@ fn can_be_applied(alloc: Global, decider: &mut Decider, f: &SemType, args: &SemT
     is_within(alloc, decider, args, &lists)
 }
 
-/// Whether a failure is expected, with arguments that are in the type.
-fn failed(decider: &Decider, arguments: &Shape, args: &SemType, expected: &Expected) -> Reply {
-    match expected {
-        Expected::Failure => shown(is_valid_in(decider.env(), arguments, args), Reply::Yes),
-        Expected::Results(_) => Reply::No,
-    }
-}
-
-/// Whether results in exactly this type are expected.
-fn given(alloc: Global, decider: &mut Decider, found: &SemType, expected: &Expected) -> Read<Reply>
-    requires { IsDefined decider.old.atoms found.now }
-{
-    match expected {
-        Expected::Failure => Ok(Reply::No),
-        Expected::Results(t) => {
-            if !t.names_below(decider.env().defs().len()) {
-                return refuse(Misread::UnknownName);
-            }
-            if is_within(alloc, decider, found, t)? && is_within(alloc, decider, t, found)? {
-                Ok(Reply::Yes)
-            } else {
-                Ok(Reply::No)
-            }
+/// Whether what came of the application is expected.
+fn given(
+    alloc: Global,
+    decider: &mut Decider,
+    applied: &Apply,
+    args: &SemType,
+    expected: &Option<SemType>,
+) -> Read<Reply> {
+    match (applied, expected) {
+        (Apply::Outside(arguments), None) => {
+            Ok(shown(is_valid_in(decider.env(), arguments, args), Reply::Yes))
         }
+        (Apply::Result(found), Some(t)) => are_same(alloc, decider, found, t),
+        _ => Ok(Reply::No),
     }
 }
 
@@ -94,9 +78,17 @@ fn is_within(alloc: Global, decider: &mut Decider, s: &SemType, t: &SemType) -> 
     ensures within { IfOk result (λ within. MatchBool within (Sub decider.old.atoms s.now t.now) ⊤) }
 {
     match decider.sub(alloc, s, t) {
-        Ok(Answer::Yes) => Ok(true),
-        Ok(Answer::No(_)) => Ok(false),
+        Ok(answer) => Ok(is_yes(&answer)),
         Err(Stop::Memory) => Err(Stop::Memory),
         Err(Stop::Fault(_)) => Err(Stop::Fault(Misread::TooHard)),
+    }
+}
+
+fn is_yes(answer: &Answer) -> bool
+    ensures { (env : List AtomDef) (s t : Semantic) → AnswersSub env s t answer.now → MatchBool result (Sub env s t) ⊤ }
+{
+    match answer {
+        Answer::Yes => true,
+        Answer::No(_) => false,
     }
 }

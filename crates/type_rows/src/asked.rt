@@ -1,12 +1,13 @@
 //! Questions for a decider.
 
-use crate::misread::{Misread, Read, refuse};
+use crate::misread::{Misread, Read, read, refuse};
 use bal_base::{Shape, Stop};
+use descriptors::plain;
 use std::alloc::Global;
 use subtype_decider::{Decider, holds};
-use type_model::{Answer, AtomDef, BasicSet, ChoiceList, SemType, Ty, TyList, TypeEnv, TypeLimit};
+use type_model::{Answer, AtomDef, BasicSet, SemType, TyList, TypeEnv, TypeLimit};
 
-/// What a decider answers.
+/// What is answered.
 #[derive(Clone, Copy, PartialEq, Eq)]
 pub enum Reply {
     Yes,
@@ -14,8 +15,12 @@ pub enum Reply {
     /// `TypeLimit`, for each of its causes.
     TooManyQuestions,
     TooManyArrows,
+    /// The code of these, which tells no cause.
+    Limit,
     /// With a shape that doesn't show it.
     Wrong,
+    /// One by the product, and another one by the decider.
+    Apart,
 }
 
 impl Reply {
@@ -26,7 +31,9 @@ impl Reply {
             Reply::No => "no",
             Reply::TooManyQuestions => "questions",
             Reply::TooManyArrows => "arrows",
-            Reply::Wrong => "wrong",
+            Reply::Limit => "limit",
+            Reply::Wrong => "a shape that doesn't show it",
+            Reply::Apart => "two that differ",
         }
     }
 
@@ -37,25 +44,25 @@ impl Reply {
             "no" => Some(Reply::No),
             "questions" => Some(Reply::TooManyQuestions),
             "arrows" => Some(Reply::TooManyArrows),
+            "limit" => Some(Reply::Limit),
             _ => None,
         }
+    }
+
+    /// The answer to a question that is true or false.
+    pub fn of(is: bool) -> Reply {
+        if is { Reply::Yes } else { Reply::No }
     }
 }
 
 /// Defines further atoms.
-pub fn add(decider: &mut Decider, defs: Vec<AtomDef>) -> Read<()> {
+pub fn add(alloc: Global, decider: &mut Decider, defs: Vec<AtomDef>) -> Read<()> {
     let atoms = decider.env().defs().len() + defs.len();
-    if !AtomDef::are_below(&defs, atoms) {
+    if !AtomDef::are_below(&defs, atoms) || !AtomDef::have_distinct_fields(&defs) {
         return refuse(Misread::UnknownName);
     }
-    if !AtomDef::have_distinct_fields(&defs) {
-        return refuse(Misread::FieldTwice);
-    }
-    match decider.add(defs) {
-        Ok(_) => Ok(()),
-        Err(Stop::Memory) => Err(Stop::Memory),
-        Err(Stop::Fault(_)) => refuse(Misread::TooManyAtoms),
-    }
+    read(checks::add(alloc, decider, defs, None))?;
+    Ok(())
 }
 
 /// Whether the first type is below the second. A shape that shows the contrary is tested.
@@ -65,12 +72,19 @@ pub fn is_below(alloc: Global, decider: &mut Decider, s: &SemType, t: &SemType) 
         return refuse(Misread::UnknownName);
     }
     match decider.sub(alloc, s, t) {
-        Ok(Answer::Yes) => Ok(Reply::Yes),
-        Ok(Answer::No(shape)) => Ok(shown(
-            is_valid_in(decider.env(), &shape, s) && !holds(decider.env(), &shape, t),
-            Reply::No,
-        )),
+        Ok(answer) => Ok(shown_between(decider.env(), &answer, s, t)),
         Err(stop) => stopped(stop),
+    }
+}
+
+/// The reply, where a shape that comes with it is one of the first type and none of the second.
+pub fn shown_between(env: &TypeEnv, answer: &Answer, s: &SemType, t: &SemType) -> Reply {
+    match answer {
+        Answer::Yes => Reply::Yes,
+        Answer::No(shape) => shown(
+            is_valid_in(env, shape, s) && !holds(env, shape, t),
+            Reply::No,
+        ),
     }
 }
 
@@ -80,9 +94,15 @@ pub fn has_shape(alloc: Global, decider: &mut Decider, t: &SemType) -> Read<Repl
         return refuse(Misread::UnknownName);
     }
     match decider.has_shape(alloc, t) {
-        Ok(None) => Ok(Reply::No),
-        Ok(Some(shape)) => Ok(shown(is_valid_in(decider.env(), &shape, t), Reply::Yes)),
+        Ok(found) => Ok(shown_in(decider.env(), &found, t)),
         Err(stop) => stopped(stop),
+    }
+}
+
+fn shown_in(env: &TypeEnv, found: &Option<Shape>, t: &SemType) -> Reply {
+    match found {
+        None => Reply::No,
+        Some(shape) => shown(is_valid_in(env, shape, t), Reply::Yes),
     }
 }
 
@@ -91,7 +111,7 @@ pub fn has_shape(alloc: Global, decider: &mut Decider, t: &SemType) -> Read<Repl
 pub fn chain(alloc: Global, count: u32) -> Read<Reply> {
     let mut decider = Decider::new(alloc);
     let defs = links(alloc, count)?;
-    add(&mut decider, defs)?;
+    add(alloc, &mut decider, defs)?;
     has_shape(alloc, &mut decider, &SemType::Atom(0))
 }
 
@@ -108,12 +128,7 @@ fn links(alloc: Global, count: u32) -> Read<Vec<AtomDef>> {
 
 /// The lists with one item, which is in the type.
 pub fn one_item(alloc: Global, item: SemType) -> Read<AtomDef> {
-    let item = Ty {
-        sem: item,
-        lists: ChoiceList::of(Vec::new(alloc)),
-        maps: ChoiceList::of(Vec::new(alloc)),
-    };
-    let fixed = TyList::of(vec![in alloc; item]?);
+    let fixed = TyList::of(vec![in alloc; plain(alloc, item)]?);
     Ok(AtomDef::List { fixed, rest: None })
 }
 

@@ -6,9 +6,9 @@ use std::alloc::Global;
 use subtype_decider::Decider;
 use type_model::SemType;
 
-/// In how many places the compact form of the type names a basic set or an atom, or `None` where the form isn't
-/// found to have the shapes of the type.
-pub fn compact(alloc: Global, decider: &mut Decider, t: &SemType) -> Read<Option<u64>> {
+/// In how many places the compact form of the type names a basic set or an atom, or 0 where the form isn't found to have
+/// the shapes of the type.
+pub fn compact(alloc: Global, decider: &mut Decider, t: &SemType) -> Read<u64> {
     if !t.names_below(decider.env().defs().len()) {
         return refuse(Misread::UnknownName);
     }
@@ -16,9 +16,9 @@ pub fn compact(alloc: Global, decider: &mut Decider, t: &SemType) -> Read<Option
     if is_below(alloc, decider, &compact, t)? == Reply::Yes
         && is_below(alloc, decider, t, &compact)? == Reply::Yes
     {
-        Ok(Some(named(&compact)))
+        Ok(named(&compact))
     } else {
-        Ok(None)
+        Ok(0)
     }
 }
 

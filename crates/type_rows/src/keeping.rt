@@ -1,30 +1,34 @@
 //! What a decider keeps.
 
-use crate::asked::{Reply, add, shown, stopped};
+use crate::asked::{Reply, shown, stopped};
 use crate::misread::{Misread, Read, refuse};
-use bal_base::Shape;
+use bal_base::{Memory, Shape};
 use bal_report::shape_text;
 use std::alloc::Global;
-use subtype_decider::Decider;
-use type_model::{Answer, AtomDef, SemType};
+use subtype_decider::{Decider, Entry};
+use type_model::{Answer, SemType};
 
-/// Whether the first type is below the second, by a decider of its own over these atoms. It has to keep nothing
+/// Whether the first type is below the second, by a decider of which nothing was asked. It has to keep nothing
 /// before it is asked, and its answer afterwards.
-pub fn keeps(alloc: Global, defs: Vec<AtomDef>, s: &SemType, t: &SemType) -> Read<Reply> {
-    let mut decider = Decider::new(alloc);
-    add(&mut decider, defs)?;
+pub fn keeps(alloc: Global, decider: &mut Decider, s: &SemType, t: &SemType) -> Read<Reply> {
     let is_new = decider.table().is_empty() && decider.diagrams().nodes().is_empty();
     let atoms = decider.env().defs().len();
     if !s.names_below(atoms) || !t.names_below(atoms) {
         return refuse(Misread::UnknownName);
     }
     match decider.sub(alloc, s, t) {
-        Ok(Answer::Yes) => Ok(shown(is_new && keeps_none(&decider), Reply::Yes)),
-        Ok(Answer::No(shape)) => {
-            let kept = keeps_shape(alloc, &decider, &shape)?;
+        Ok(answer) => kept(alloc, decider, is_new, &answer),
+        Err(stop) => stopped(stop),
+    }
+}
+
+fn kept(alloc: Global, decider: &Decider, is_new: bool, answer: &Answer) -> Read<Reply> {
+    match answer {
+        Answer::Yes => Ok(shown(is_new && keeps_none(decider), Reply::Yes)),
+        Answer::No(shape) => {
+            let kept = keeps_shape(alloc, decider, shape)?;
             Ok(shown(is_new && kept, Reply::No))
         }
-        Err(stop) => stopped(stop),
     }
 }
 
@@ -35,15 +39,23 @@ fn keeps_none(decider: &Decider) -> bool {
 }
 
 /// Whether it keeps a shape that is written like this one.
-fn keeps_shape(alloc: Global, decider: &Decider, shape: &Shape) -> Read<bool> {
+fn keeps_shape(alloc: Global, decider: &Decider, shape: &Shape) -> Result<bool, Memory> {
     let told = shape_text(alloc, shape)?;
     for entry in decider.table() {
-        if let Some(kept) = &entry.shape {
-            let kept = shape_text(alloc, kept)?;
-            if kept.as_str() == told.as_str() {
-                return Ok(true);
-            }
+        if is_written(alloc, entry, told.as_str())? {
+            return Ok(true);
         }
     }
     Ok(false)
+}
+
+/// Whether the entry has a shape that is written like this.
+fn is_written(alloc: Global, entry: &Entry, told: &str) -> Result<bool, Memory> {
+    match &entry.shape {
+        Some(kept) => {
+            let kept = shape_text(alloc, kept)?;
+            Ok(kept.as_str() == told)
+        }
+        None => Ok(false),
+    }
 }

@@ -1,529 +1,475 @@
 //! Lines, each by itself:
 //!
-//! - nothing, or a comment after `//`
-//! - `type NAME = TYPE`, or several such with `;` between them, which may name each other
+//! - `type NAME DESCRIPTOR;`, one or several, which may name each other: what they define stands beside what the lines
+//!   above define so, and all sets and all that a decider keeps begin anew
+//! - `set NAME = TYPE`: a name for a type, for the lines below it
+//! - `below WORD, WORD => yes`, or `no`: whether the first is below the second, as the product answers to two words in
+//!   the scope of what is defined, and as the decider does whose answers are kept from line to line; with a second
+//!   answer behind a comma also whether the second is below the first
+//! - `within TYPE, TYPE => yes`, or `no`, `questions` or `arrows`: the same by the decider alone
+//! - `some TYPE => yes`, or `no`, `questions` or `arrows`: whether the type has a shape
+//! - `required TYPE, TYPE => yes`, or `no` or `limit`, and `found TYPE => yes`, or `no` or `limit`: the same as a checker
+//!   asks it, at a place
 //! - `SHAPE is TYPE => yes`, or `no`: whether the shape is in the type
-//! - `below TYPE, TYPE => yes`, or `no`, `questions` or `arrows`: whether the first is below the second; with a
-//!   second answer behind a comma also whether the second is below the first
-//! - `some TYPE => yes`, or `no`: whether the type has a shape
-//! - `kept TYPE, TYPE => yes`, or `no`, `questions` or `arrows`: whether the first is below the second, by a decider
-//!   of its own, which has to keep its answer; the types name none of the lines above
-//! - `member TYPE at KEY gives TYPE => yes`, or `no`, `questions` or `arrows`: whether exactly the shapes of the
-//!   second type stand at the key in shapes of the first; the module `parts` says how keys are written
+//! - `kept TYPE, TYPE => yes`, or `no`: whether the first is below the second, by a decider of its own, which has to
+//!   keep its answer; the types name none of the lines above
+//! - `member TYPE, KEY, TYPE => yes`, or `no`: whether exactly the shapes of the second type stand at the key in shapes
+//!   of the first; the module `parts` says how keys are written
 //! - `compact TYPE => NUMBER`: in how many places the compact form of the type, which has the same shapes, names
 //!   a basic set or an atom
-//! - `chain NUMBER => yes`, or `no`, `questions` or `arrows`: whether there is a shape of the first of so many
-//!   atoms that lead from one to the next
-//! - `apply TYPE to TYPE gives TYPE => yes`, or `no`, `questions` or `arrows`: whether functions of the first,
-//!   applied to lists of the second, have results in exactly the third; `panic` in its place asks whether one
-//!   of them fails
+//! - `chain NUMBER => yes`, or `no` or `questions`: whether there is a shape of the first of so many atoms that lead
+//!   from one to the next
+//! - `apply TYPE, TYPE, TYPE => yes`, or `no`: whether functions of the first, applied to lists of the second, have
+//!   results in exactly the third; `panic` in its place asks whether one of them fails
 //! - `same TYPE, TYPE => yes`, or `no`: whether the types have one diagram
 //! - `simple TYPE => yes`, or `no`: whether the type has a simple shape
-//! - `paths KIND of TYPE => PATH | PATH`, or `never`: the paths of a type for a kind, in order, each as
+//! - `paths KIND, TYPE => PATH | PATH`, or `never`: the paths of a type for a kind, in order, each as
 //!   `readonly & NAME & !NAME`, where names are those of atoms, or `any`
 //! - `exclusive NUMBER => yes`: whether the exclusive or of so many new atoms has one diagram in both orders
+//!
+//! The modules `sets` and `shapes` say how types and shapes are written. A word is a type descriptor.
 
-use crate::applied::{Expected, gives};
-use crate::asked::{Reply, add, chain, has_shape, is_below, one_item};
+use crate::applied::gives;
+use crate::asked::{Reply, add, chain, has_shape, is_below, one_item, shown_between};
+use crate::checking::{found, required};
 use crate::compacted::compact;
 use crate::drawn::{Way, are_one, has_paths, has_simple, in_both_orders};
 use crate::keeping::keeps;
 use crate::misread::{Misread, Read, refuse};
-use crate::names::Names;
+use crate::package::{asked, package_of, tokens_of};
 use crate::parts::{keys, stands};
+use crate::pieces::{after, after_keyword, int, is_keyword, name, only, split};
+use crate::sets::{MOST_LEVELS, Sets};
 use crate::shapes::shape;
-use crate::tokens::Tokens;
-use crate::types::{TypeReader, Unknown};
-use bal_base::{Keyword, Name, Sign, Stop, Token, TokenKind};
-use bal_lexer::lex;
+use bal_base::{Keyword, Sign, Stop, Token, TokenKind};
+use bal_tree::Package;
+use row_lines::{Judge, Row, Told};
 use std::alloc::Global;
-use subtype_decider::{Decider, holds};
+use subtype_decider::holds;
 use type_diagrams::{Diagrams, Kind, MARK};
-use type_model::{AtomDef, BasicSet, SemType};
-
-/// How deep brackets may be nested.
-const MOST_LEVELS: u32 = 100;
-
-/// What became of a line that is read.
-#[derive(Clone, Copy, PartialEq, Eq)]
-pub enum Outcome {
-    /// It asks no question.
-    NoQuestion,
-    /// It asks a question and has its answer.
-    Agrees,
-    /// It asks a question, and this is the answer in place of its own.
-    Differs(Reply),
-    /// It asks for the size of a compact form, and it is this.
-    OtherSize(u64),
-    /// It asks for paths, and there are others.
-    OtherPaths,
-}
+use type_model::{BasicSet, SemType};
 
 /// What the lines so far define.
 #[derive(Drop)]
 pub struct Rows {
     alloc: Global,
-    decider: Decider,
-    names: Names,
+    /// The text of the definitions, and the package whose one file has it.
+    text: String,
+    package: Package,
+    sets: Sets,
     diagrams: Diagrams,
+}
+
+impl Judge for Rows {
+    fn judge(&mut self, row: &Row, told: &mut Told) {
+        match self.line(row.head.as_str(), told) {
+            Ok(()) => {}
+            Err(Stop::Memory) => told.memory(),
+            Err(Stop::Fault(why)) => why.tell(told),
+        }
+    }
 }
 
 impl Rows {
     /// Nothing is defined.
-    pub fn new(alloc: Global) -> Rows {
-        Rows {
+    pub fn new(alloc: Global) -> Read<Rows> {
+        Rows::of(alloc, String::new(alloc))
+    }
+
+    /// What this text defines.
+    fn of(alloc: Global, text: String) -> Read<Rows> {
+        let package = package_of(alloc, text.as_str())?;
+        let sets = Sets::new(alloc, &package)?;
+        Ok(Rows {
             alloc,
-            decider: Decider::new(alloc),
-            names: Names::new(alloc),
+            text,
+            package,
+            sets,
             diagrams: Diagrams::new(alloc),
-        }
+        })
     }
 
     /// Reads a line and answers its question. A line that isn't read defines nothing.
-    pub fn line(&mut self, text: &str) -> Read<Outcome> {
+    fn line(&mut self, text: &str, told: &mut Told) -> Read<()> {
         let tokens = tokens_of(self.alloc, text)?;
-        let mut rest = Tokens::of(tokens.as_slice());
-        match rest.first() {
-            None => Ok(Outcome::NoQuestion),
-            Some(TokenKind::Keyword(Keyword::Type)) => self.define(tokens.as_slice()),
-            Some(TokenKind::Word(word)) => self.asked(word, &mut rest),
-            Some(_) => self.membership(&mut rest),
+        let (word, rest) = front(&tokens);
+        match word {
+            "type" => {
+                told.asks_nothing();
+                self.define(text)
+            }
+            "set" => {
+                told.asks_nothing();
+                self.name_set(rest)
+            }
+            _ => self.question(text, word, rest, told),
         }
     }
 
-    /// Answers a question that this word begins.
-    fn asked(&mut self, word: &Name, tokens: &mut Tokens) -> Read<Outcome> {
-        tokens.next();
-        match word.as_str() {
-            "below" => self.below(tokens),
-            "some" => self.some(tokens),
-            "kept" => self.kept(tokens),
-            "member" => self.member(tokens),
-            "compact" => self.compact(tokens),
-            "chain" => self.chain(tokens),
-            "apply" => self.apply(tokens),
-            "same" => self.same(tokens),
-            "simple" => self.simple(tokens),
-            "paths" => self.paths(tokens),
-            "exclusive" => self.exclusive(tokens),
+    /// Adds the definitions of a line to those that are there.
+    fn define(&mut self, line: &str) -> Read<()> {
+        let mut text = String::from_str(self.alloc, self.text.as_str())?;
+        text.push_str(line)?;
+        text.push_str("\n")?;
+        *self = Rows::of(self.alloc, text)?;
+        Ok(())
+    }
+
+    /// Gives a type a name.
+    fn name_set(&mut self, tokens: &[Token]) -> Read<()> {
+        let Some((named, t)) = split(tokens, Sign::Equal) else {
+            return refuse(Misread::NotALine);
+        };
+        let Some(name) = name(named) else {
+            return refuse(Misread::NotALine);
+        };
+        let t = self.set(t)?;
+        self.sets.define(name, t)
+    }
+
+    /// Compares the answer to the question that the word begins with the one that stands behind `=>`.
+    fn question(&mut self, text: &str, word: &str, rest: &[Token], told: &mut Told) -> Read<()> {
+        let Some((asked, wanted)) = split(rest, Sign::FatArrow) else {
+            return refuse(Misread::NotALine);
+        };
+        match word {
+            "below" => self.below(text, asked, wanted, told),
+            "within" => self.within(asked, wanted, told),
+            "compact" => self.compact(asked, wanted, told),
+            "paths" => self.paths(asked, wanted, told),
+            _ => {
+                let wanted = reply(wanted)?;
+                compare(told, wanted, self.answer(word, asked)?);
+                Ok(())
+            }
+        }
+    }
+
+    /// The answer to a question with one answer of a word.
+    fn answer(&mut self, word: &str, asked: &[Token]) -> Read<Reply> {
+        match word {
+            "" => self.membership(asked),
+            "some" => self.some(asked),
+            "required" => self.required(asked),
+            "found" => self.found(asked),
+            "kept" => self.kept(asked),
+            "member" => self.member(asked),
+            "chain" => self.chain(asked),
+            "apply" => self.apply(asked),
+            "same" => self.same(asked),
+            "simple" => self.simple(asked),
+            "exclusive" => self.exclusive(asked),
             _ => refuse(Misread::NotALine),
         }
     }
 
+    /// The type that these tokens write.
+    fn set(&mut self, tokens: &[Token]) -> Read<SemType> {
+        self.sets.set(tokens, MOST_LEVELS)
+    }
+
+    /// Two types with a comma between them.
+    fn two_sets(&mut self, tokens: &[Token]) -> Read<(SemType, SemType)> {
+        let (s, t) = parted(tokens)?;
+        let s = self.set(s)?;
+        let t = self.set(t)?;
+        Ok((s, t))
+    }
+
+    /// Whether the type of one word is below that of another one, and the other way round where this is asked too.
+    fn below(
+        &mut self,
+        text: &str,
+        asked: &[Token],
+        wanted: &[Token],
+        told: &mut Told,
+    ) -> Read<()> {
+        let (s, t) = parted(asked)?;
+        let (wanted, back) = replies(wanted)?;
+        compare(told, wanted, self.words_below(text, s, t)?);
+        if let Some(wanted) = back {
+            compare(told, wanted, self.words_below(text, t, s)?);
+        }
+        Ok(())
+    }
+
+    /// What the product and the decider answer, where both answer the same.
+    fn words_below(&mut self, text: &str, s: &[Token], t: &[Token]) -> Read<Reply> {
+        let answer = asked(self.alloc, &self.package, slice(text, s), slice(text, t))?;
+        let s = self.set(s)?;
+        let t = self.set(t)?;
+        let told = shown_between(self.sets.env(), &answer, &s, &t);
+        let kept = is_below(self.alloc, &mut self.sets.decider, &s, &t)?;
+        Ok(if kept == told { kept } else { Reply::Apart })
+    }
+
     /// Whether a type is below another one, and the other way round where this is asked too.
-    fn below(&mut self, tokens: &mut Tokens) -> Read<Outcome> {
-        let Pair { s, t, defs } = two_types(self.reader(Unknown::Misread), tokens)?;
-        let (expected, back) = endings(tokens)?;
-        self.add(defs)?;
-        let answer = is_below(self.alloc, &mut self.decider, &s, &t)?;
-        if answer != expected {
-            return Ok(Outcome::Differs(answer));
+    fn within(&mut self, asked: &[Token], wanted: &[Token], told: &mut Told) -> Read<()> {
+        let (s, t) = self.two_sets(asked)?;
+        let (wanted, back) = replies(wanted)?;
+        let decider = &mut self.sets.decider;
+        compare(told, wanted, is_below(self.alloc, decider, &s, &t)?);
+        if let Some(wanted) = back {
+            compare(told, wanted, is_below(self.alloc, decider, &t, &s)?);
         }
-        match back {
-            Some(expected) => Ok(replied(
-                is_below(self.alloc, &mut self.decider, &t, &s)?,
-                expected,
-            )),
-            None => Ok(Outcome::Agrees),
-        }
+        Ok(())
     }
 
     /// Whether a type has a shape.
-    fn some(&mut self, tokens: &mut Tokens) -> Read<Outcome> {
-        let mut reader = self.reader(Unknown::Misread);
-        let t = reader.whole(tokens, MOST_LEVELS)?;
-        let defs = reader.into_defs();
-        let expected = ending(tokens)?;
-        self.add(defs)?;
-        Ok(replied(has_shape(self.alloc, &mut self.decider, &t)?, expected))
+    fn some(&mut self, asked: &[Token]) -> Read<Reply> {
+        let t = self.set(asked)?;
+        has_shape(self.alloc, &mut self.sets.decider, &t)
+    }
+
+    /// What a checker is told where a type has to be below another one.
+    fn required(&mut self, asked: &[Token]) -> Read<Reply> {
+        let (s, t) = self.two_sets(asked)?;
+        required(self.alloc, &mut self.sets.decider, &s, &t)
+    }
+
+    /// What a checker is told that asks whether a type has a shape.
+    fn found(&mut self, asked: &[Token]) -> Read<Reply> {
+        let t = self.set(asked)?;
+        found(self.alloc, &mut self.sets.decider, &t)
     }
 
     /// Whether a type is below another one, by a decider of its own.
-    fn kept(&self, tokens: &mut Tokens) -> Read<Outcome> {
-        let names = Names::new(self.alloc);
-        let reader = TypeReader::new(self.alloc, &names, Unknown::Misread, 0);
-        let Pair { s, t, defs } = two_types(reader, tokens)?;
-        let expected = ending(tokens)?;
-        Ok(replied(keeps(self.alloc, defs, &s, &t)?, expected))
+    fn kept(&self, asked: &[Token]) -> Read<Reply> {
+        let mut rows = Rows::new(self.alloc)?;
+        let (s, t) = rows.two_sets(asked)?;
+        keeps(self.alloc, &mut rows.sets.decider, &s, &t)
     }
 
     /// Whether exactly the shapes of a type stand at a key in those of another one.
-    fn member(&mut self, tokens: &mut Tokens) -> Read<Outcome> {
-        let mut reader = self.reader(Unknown::Misread);
-        let t = reader.whole(tokens, MOST_LEVELS)?;
-        word(tokens, "at")?;
-        let keys = keys(tokens)?;
-        word(tokens, "gives")?;
-        let parts = reader.whole(tokens, MOST_LEVELS)?;
-        let defs = reader.into_defs();
-        let expected = ending(tokens)?;
-        self.add(defs)?;
-        let answer = stands(self.alloc, &mut self.decider, &t, &keys, &parts)?;
-        Ok(replied(answer, expected))
+    fn member(&mut self, asked: &[Token]) -> Read<Reply> {
+        let (t, rest) = parted(asked)?;
+        let (key, parts) = parted(rest)?;
+        let keys = keys(key)?;
+        let t = self.set(t)?;
+        let parts = self.set(parts)?;
+        stands(self.alloc, &mut self.sets.decider, &t, &keys, &parts)
     }
 
     /// How large the compact form of a type is.
-    fn compact(&mut self, tokens: &mut Tokens) -> Read<Outcome> {
-        let mut reader = self.reader(Unknown::Misread);
-        let t = reader.whole(tokens, MOST_LEVELS)?;
-        let defs = reader.into_defs();
-        tokens.expect(Sign::FatArrow, Misread::NotALine)?;
-        let expected = tokens.int(Misread::NotALine)?;
-        at_end(tokens)?;
-        self.add(defs)?;
-        match compact(self.alloc, &mut self.decider, &t)? {
-            None => Ok(Outcome::Differs(Reply::Wrong)),
-            Some(size) if u64::try_from(expected) == Ok(size) => Ok(Outcome::Agrees),
-            Some(size) => Ok(Outcome::OtherSize(size)),
-        }
+    fn compact(&mut self, asked: &[Token], wanted: &[Token], told: &mut Told) -> Read<()> {
+        let Some(Ok(wanted)) = int(wanted).map(u64::try_from) else {
+            return refuse(Misread::NotALine);
+        };
+        let t = self.set(asked)?;
+        let size = compact(self.alloc, &mut self.sets.decider, &t)?;
+        told.number("size", wanted, size);
+        Ok(())
     }
 
     /// Whether the first of a chain of atoms has a shape.
-    fn chain(&self, tokens: &mut Tokens) -> Read<Outcome> {
-        let Ok(count) = u32::try_from(tokens.int(Misread::NotALine)?) else {
-            return refuse(Misread::NotALine);
-        };
-        let expected = ending(tokens)?;
-        Ok(replied(chain(self.alloc, count)?, expected))
+    fn chain(&self, asked: &[Token]) -> Read<Reply> {
+        match int(asked).map(u32::try_from) {
+            Some(Ok(count)) => chain(self.alloc, count),
+            _ => refuse(Misread::NotALine),
+        }
     }
 
     /// What functions give to arguments.
-    fn apply(&mut self, tokens: &mut Tokens) -> Read<Outcome> {
-        let mut reader = self.reader(Unknown::Misread);
-        let f = reader.whole(tokens, MOST_LEVELS)?;
-        word(tokens, "to")?;
-        let args = reader.whole(tokens, MOST_LEVELS)?;
-        word(tokens, "gives")?;
-        let given = if tokens.takes_keyword(Keyword::Panic) {
-            Expected::Failure
+    fn apply(&mut self, asked: &[Token]) -> Read<Reply> {
+        let (f, rest) = parted(asked)?;
+        let (args, given) = parted(rest)?;
+        let f = self.set(f)?;
+        let args = self.set(args)?;
+        let expected = if is_keyword(given, Keyword::Panic) {
+            None
         } else {
-            Expected::Results(reader.whole(tokens, MOST_LEVELS)?)
+            Some(self.set(given)?)
         };
-        let defs = reader.into_defs();
-        let expected = ending(tokens)?;
-        self.add(defs)?;
-        let answer = gives(self.alloc, &mut self.decider, &f, &args, &given)?;
-        Ok(replied(answer, expected))
+        gives(self.alloc, &mut self.sets.decider, &f, &args, &expected)
     }
 
     /// Whether two types have one diagram.
-    fn same(&mut self, tokens: &mut Tokens) -> Read<Outcome> {
-        let Pair { s, t, defs } = two_types(self.reader(Unknown::Misread), tokens)?;
-        let expected = yes_or_no(tokens)?;
-        self.add(defs)?;
-        let answer = are_one(&mut self.diagrams, self.decider.env(), &s, &t)?;
-        Ok(judged(answer, expected))
+    fn same(&mut self, asked: &[Token]) -> Read<Reply> {
+        let (s, t) = self.two_sets(asked)?;
+        Ok(Reply::of(are_one(&mut self.diagrams, self.sets.env(), &s, &t)?))
     }
 
     /// Whether a type has a simple shape.
-    fn simple(&mut self, tokens: &mut Tokens) -> Read<Outcome> {
-        let mut reader = self.reader(Unknown::Misread);
-        let t = reader.whole(tokens, MOST_LEVELS)?;
-        let defs = reader.into_defs();
-        let expected = yes_or_no(tokens)?;
-        self.add(defs)?;
-        let answer = has_simple(self.alloc, &mut self.diagrams, self.decider.env(), &t)?;
-        Ok(judged(answer, expected))
+    fn simple(&mut self, asked: &[Token]) -> Read<Reply> {
+        let t = self.set(asked)?;
+        Ok(Reply::of(has_simple(self.alloc, &mut self.diagrams, self.sets.env(), &t)?))
     }
 
     /// The paths of a type for a kind.
-    fn paths(&mut self, tokens: &mut Tokens) -> Read<Outcome> {
-        let kind = kind(tokens)?;
-        word(tokens, "of")?;
-        let mut reader = self.reader(Unknown::Misread);
-        let t = reader.whole(tokens, MOST_LEVELS)?;
-        let defs = reader.into_defs();
-        tokens.expect(Sign::FatArrow, Misread::NotALine)?;
-        let ways = self.ways(tokens)?;
-        at_end(tokens)?;
-        self.add(defs)?;
-        if has_paths(
+    fn paths(&mut self, asked: &[Token], wanted: &[Token], told: &mut Told) -> Read<()> {
+        let (word, t) = parted(asked)?;
+        let Some(kind) = kind(word) else {
+            return refuse(Misread::NotALine);
+        };
+        let ways = self.ways(wanted)?;
+        let t = self.set(t)?;
+        if !has_paths(
             self.alloc,
             &mut self.diagrams,
-            self.decider.env(),
+            self.sets.env(),
             &t,
             kind,
             &ways,
         )? {
-            Ok(Outcome::Agrees)
-        } else {
-            Ok(Outcome::OtherPaths)
+            told.fails("the paths are others");
         }
+        Ok(())
     }
 
-    /// Takes paths.
-    fn ways(&self, tokens: &mut Tokens) -> Read<Vec<Way>> {
+    /// The paths that are written.
+    fn ways(&self, tokens: &[Token]) -> Read<Vec<Way>> {
         let mut ways = Vec::new(self.alloc);
-        if tokens.takes_keyword(Keyword::Never) {
+        if is_keyword(tokens, Keyword::Never) {
             return Ok(ways);
         }
-        for _ in 0..tokens.left() {
-            ways.push(self.way(tokens)?)?;
-            if !tokens.takes(Sign::Bar) {
+        let mut rest = tokens;
+        for _ in 0..tokens.len() {
+            let (way, behind) = split(rest, Sign::Bar).unwrap_or((rest, &[]));
+            ways.push(self.way(way)?)?;
+            if behind.is_empty() {
                 break;
             }
+            rest = behind;
         }
         Ok(ways)
     }
 
-    fn way(&self, tokens: &mut Tokens) -> Read<Way> {
+    fn way(&self, tokens: &[Token]) -> Read<Way> {
         let mut pos = Vec::new(self.alloc);
         let mut neg = Vec::new(self.alloc);
-        if tokens.takes_keyword(Keyword::Any) {
+        if is_keyword(tokens, Keyword::Any) {
             return Ok(Way { pos, neg });
         }
-        for _ in 0..tokens.left() {
-            if tokens.takes(Sign::Not) {
-                neg.push(self.literal(tokens)?)?;
-            } else {
-                pos.push(self.literal(tokens)?)?;
+        let mut rest = tokens;
+        for _ in 0..tokens.len() {
+            let (literal, behind) = split(rest, Sign::Ampersand).unwrap_or((rest, &[]));
+            match after(literal, Sign::Not) {
+                Some(literal) => neg.push(self.literal(literal)?)?,
+                None => pos.push(self.literal(literal)?)?,
             }
-            if !tokens.takes(Sign::Ampersand) {
+            if behind.is_empty() {
                 break;
             }
+            rest = behind;
         }
         Ok(Way { pos, neg })
     }
 
-    /// Takes `readonly`, for the mark, or the name of an atom.
-    fn literal(&self, tokens: &mut Tokens) -> Read<u32> {
-        if tokens.takes_keyword(Keyword::ReadOnly) {
+    /// The mark, which is written `readonly`, or the atom of a name.
+    fn literal(&self, tokens: &[Token]) -> Read<u32> {
+        if is_keyword(tokens, Keyword::ReadOnly) {
             return Ok(MARK);
         }
-        match self.names.get(tokens.name(Misread::NotALine)?)? {
-            Some(SemType::Atom(number)) => Ok(number),
-            Some(_) => refuse(Misread::NotAnAtom),
-            None => refuse(Misread::UnknownName),
+        match name(tokens) {
+            Some(name) => self.sets.atom(name),
+            None => refuse(Misread::NotALine),
         }
     }
 
     /// Whether the exclusive or of so many new list atoms has one diagram in both orders.
-    fn exclusive(&mut self, tokens: &mut Tokens) -> Read<Outcome> {
-        let count = tokens.int(Misread::NotALine)?;
-        let expected = yes_or_no(tokens)?;
+    fn exclusive(&mut self, asked: &[Token]) -> Read<Reply> {
+        let Some(count) = int(asked) else {
+            return refuse(Misread::NotALine);
+        };
         let mut atoms = Vec::new(self.alloc);
         for value in 0..count {
-            atoms.push(self.atoms())?;
-            let defs = one_int(self.alloc, value)?;
-            self.add(defs)?;
+            atoms.push(self.sets.atoms())?;
+            let lists = one_item(self.alloc, SemType::Basic(BasicSet::IntRange(value, value)))?;
+            let defs = vec![in self.alloc; lists]?;
+            add(self.alloc, &mut self.sets.decider, defs)?;
         }
-        let answer = in_both_orders(self.alloc, &mut self.diagrams, self.decider.env(), &atoms)?;
-        Ok(judged(answer, expected))
+        let is_one = in_both_orders(self.alloc, &mut self.diagrams, self.sets.env(), &atoms)?;
+        Ok(Reply::of(is_one))
     }
 
-    /// Whether a shape is in a type.
-    fn membership(&mut self, tokens: &mut Tokens) -> Read<Outcome> {
-        let shape = shape(self.alloc, tokens, MOST_LEVELS)?;
+    /// Whether a shape is in a type, of which a copy is asked.
+    fn membership(&mut self, asked: &[Token]) -> Read<Reply> {
+        let Some((written, t)) = split_is(asked) else {
+            return refuse(Misread::NotALine);
+        };
+        let shape = shape(self.alloc, written, MOST_LEVELS)?;
         if !shape.is_valid() {
             return refuse(Misread::NotValid);
         }
-        if !tokens.takes_keyword(Keyword::Is) {
-            return refuse(Misread::NotALine);
+        let shape = shape.copy(self.alloc)?;
+        let t = self.set(t)?;
+        Ok(Reply::of(holds(self.sets.env(), &shape, &t)))
+    }
+}
+
+/// The word with which a line begins, or none where it begins with a shape, and what stands behind it.
+fn front(tokens: &[Token]) -> (&str, &[Token]) {
+    if after_keyword(tokens, Keyword::Type).is_some() {
+        return ("type", tokens);
+    }
+    match tokens.split_first() {
+        Some((first, rest)) => match &first.kind {
+            TokenKind::Word(word) => (word.as_str(), rest),
+            _ => ("", tokens),
+        },
+        None => ("", tokens),
+    }
+}
+
+/// What stands in front of the word `is`, and what stands behind it.
+fn split_is(tokens: &[Token]) -> Option<(&[Token], &[Token])> {
+    for (i, token) in tokens.iter().enumerate() {
+        if matches!(token.kind, TokenKind::Keyword(Keyword::Is)) {
+            return Some((tokens.get(..i)?, tokens.get(i + 1..)?));
         }
-        let mut reader = self.reader(Unknown::Misread);
-        let t = reader.whole(tokens, MOST_LEVELS)?;
-        let defs = reader.into_defs();
-        let expected = yes_or_no(tokens)?;
-        self.add(defs)?;
-        Ok(judged(holds(self.decider.env(), &shape, &t), expected))
     }
+    None
+}
 
-    /// Reads the definitions of a line.
-    fn define(&mut self, tokens: &[Token]) -> Read<Outcome> {
-        let names = self.names.count();
-        match self.definitions(tokens) {
-            Ok(()) => Ok(Outcome::NoQuestion),
-            Err(why) => {
-                self.names.keep(names);
-                Err(why)
-            }
+/// The text of these tokens of it.
+fn slice<'a>(text: &'a str, tokens: &[Token]) -> &'a str {
+    match (tokens.first(), tokens.last()) {
+        (Some(first), Some(last)) => {
+            text.get(first.at as usize..last.end as usize).unwrap_or("")
         }
-    }
-
-    /// Reads them twice: once for what the names stand for, and then, with all names known, for the atoms.
-    fn definitions(&mut self, tokens: &[Token]) -> Read<()> {
-        self.define_names(&mut Tokens::of(tokens))?;
-        let defs = self.defined_atoms(&mut Tokens::of(tokens))?;
-        self.add(defs)
-    }
-
-    fn define_names(&mut self, tokens: &mut Tokens) -> Read<()> {
-        let mut first = self.atoms();
-        for _ in 0..tokens.left() {
-            let name = defined_name(tokens)?;
-            let (t, next) = self.named_type(tokens, first)?;
-            self.names.define(name, t)?;
-            first = next;
-            if !tokens.takes(Sign::Semicolon) {
-                break;
-            }
-        }
-        at_end(tokens)
-    }
-
-    /// Takes the type of a name, and gives the number of the first atom that isn't one of its atoms.
-    fn named_type(&self, tokens: &mut Tokens, first: u32) -> Read<(SemType, u32)> {
-        let mut reader = TypeReader::new(self.alloc, &self.names, Unknown::Later, first);
-        let t = reader.whole(tokens, MOST_LEVELS)?;
-        let next = reader.next_number()?;
-        Ok((t, next))
-    }
-
-    fn defined_atoms(&self, tokens: &mut Tokens) -> Read<Vec<AtomDef>> {
-        let mut reader = self.reader(Unknown::Misread);
-        for _ in 0..tokens.left() {
-            defined_name(tokens)?;
-            reader.whole(tokens, MOST_LEVELS)?;
-            if !tokens.takes(Sign::Semicolon) {
-                break;
-            }
-        }
-        Ok(reader.into_defs())
-    }
-
-    fn reader(&self, unknown: Unknown) -> TypeReader<'_> {
-        TypeReader::new(self.alloc, &self.names, unknown, self.atoms())
-    }
-
-    /// How many atoms are defined.
-    fn atoms(&self) -> u32 {
-        self.decider.env().defs().len() as u32
-    }
-
-    /// Defines further atoms.
-    fn add(&mut self, defs: Vec<AtomDef>) -> Read<()> {
-        add(&mut self.decider, defs)
+        _ => "",
     }
 }
 
-/// The tokens of a line, without comments.
-fn tokens_of(alloc: Global, text: &str) -> Read<Vec<Token>> {
-    if text.len() > u32::MAX as usize {
-        return refuse(Misread::TooLong);
-    }
-    match lex(alloc, 0, text) {
-        Ok(tokens) => Ok(tokens),
-        Err(Stop::Memory) => Err(Stop::Memory),
-        Err(Stop::Fault(_)) => refuse(Misread::NoToken),
-    }
+/// What stands in front of a comma, and what stands behind it.
+fn parted(tokens: &[Token]) -> Read<(&[Token], &[Token])> {
+    split(tokens, Sign::Comma).ok_or(Stop::Fault(Misread::NotALine))
 }
 
-/// Takes the front of a definition, up to its type.
-fn defined_name<'a>(tokens: &mut Tokens<'a>) -> Read<&'a Name> {
-    if !tokens.takes_keyword(Keyword::Type) {
-        return refuse(Misread::NotALine);
-    }
-    let name = tokens.name(Misread::NotALine)?;
-    tokens.expect(Sign::Equal, Misread::NotALine)?;
-    Ok(name)
-}
-
-/// Takes the answer of a question, with which the line ends.
-fn yes_or_no(tokens: &mut Tokens) -> Read<bool> {
-    tokens.expect(Sign::FatArrow, Misread::NotALine)?;
-    let answer = match tokens.name(Misread::NotALine)?.as_str() {
-        "yes" => true,
-        "no" => false,
-        _ => return refuse(Misread::NotALine),
-    };
-    at_end(tokens)?;
-    Ok(answer)
-}
-
-fn at_end(tokens: &Tokens) -> Read<()> {
-    match tokens.first() {
-        None => Ok(()),
-        Some(_) => refuse(Misread::NotALine),
-    }
-}
-
-/// Takes the word.
-fn word(tokens: &mut Tokens, word: &str) -> Read<()> {
-    if tokens.name(Misread::NotALine)?.as_str() == word {
-        Ok(())
-    } else {
-        refuse(Misread::NotALine)
-    }
-}
-
-/// Two types, and the atoms of their lists, mappings, functions, errors and futures.
-#[derive(Drop)]
-struct Pair {
-    s: SemType,
-    t: SemType,
-    defs: Vec<AtomDef>,
-}
-
-/// Takes two types with a comma between them.
-fn two_types(mut reader: TypeReader, tokens: &mut Tokens) -> Read<Pair> {
-    let s = reader.whole(tokens, MOST_LEVELS)?;
-    tokens.expect(Sign::Comma, Misread::NotALine)?;
-    let t = reader.whole(tokens, MOST_LEVELS)?;
-    let defs = reader.into_defs();
-    Ok(Pair { s, t, defs })
-}
-
-/// Takes the answer with which a line ends.
-fn ending(tokens: &mut Tokens) -> Read<Reply> {
-    tokens.expect(Sign::FatArrow, Misread::NotALine)?;
-    let expected = reply(tokens)?;
-    at_end(tokens)?;
-    Ok(expected)
-}
-
-/// Takes the answer with which a line ends, or two.
-fn endings(tokens: &mut Tokens) -> Read<(Reply, Option<Reply>)> {
-    tokens.expect(Sign::FatArrow, Misread::NotALine)?;
-    let expected = reply(tokens)?;
-    let back = if tokens.takes(Sign::Comma) {
-        Some(reply(tokens)?)
-    } else {
-        None
-    };
-    at_end(tokens)?;
-    Ok((expected, back))
-}
-
-/// Takes an answer.
-fn reply(tokens: &mut Tokens) -> Read<Reply> {
-    match Reply::of_word(tokens.name(Misread::NotALine)?.as_str()) {
+/// The answer with which a line ends.
+fn reply(tokens: &[Token]) -> Read<Reply> {
+    match name(tokens).and_then(|word| Reply::of_word(word.as_str())) {
         Some(reply) => Ok(reply),
         None => refuse(Misread::NotALine),
     }
 }
 
-fn replied(answer: Reply, expected: Reply) -> Outcome {
-    if answer == expected {
-        Outcome::Agrees
-    } else {
-        Outcome::Differs(answer)
+/// The answer with which a line ends, or two.
+fn replies(tokens: &[Token]) -> Read<(Reply, Option<Reply>)> {
+    match split(tokens, Sign::Comma) {
+        Some((there, back)) => Ok((reply(there)?, Some(reply(back)?))),
+        None => Ok((reply(tokens)?, None)),
     }
 }
 
-fn judged(answer: bool, expected: bool) -> Outcome {
-    replied(
-        if answer { Reply::Yes } else { Reply::No },
-        if expected { Reply::Yes } else { Reply::No },
-    )
+/// Compares two answers.
+fn compare(told: &mut Told, wanted: Reply, came: Reply) {
+    if came != wanted {
+        told.other("answer", wanted.word(), came.word());
+    }
 }
 
-/// Takes the word for a kind.
-fn kind(tokens: &mut Tokens) -> Read<Kind> {
-    match tokens.next() {
-        Some(TokenKind::Keyword(Keyword::Error)) => Ok(Kind::Error),
-        Some(TokenKind::Keyword(Keyword::Function)) => Ok(Kind::Function),
-        Some(TokenKind::Keyword(Keyword::Future)) => Ok(Kind::Future),
-        Some(TokenKind::Word(word)) => match word.as_str() {
-            "list" => Ok(Kind::List),
-            "mapping" => Ok(Kind::Mapping),
-            _ => refuse(Misread::NotALine),
+/// The kind of this word.
+fn kind(tokens: &[Token]) -> Option<Kind> {
+    match only(tokens)? {
+        TokenKind::Keyword(Keyword::Error) => Some(Kind::Error),
+        TokenKind::Keyword(Keyword::Function) => Some(Kind::Function),
+        TokenKind::Keyword(Keyword::Future) => Some(Kind::Future),
+        TokenKind::Word(word) => match word.as_str() {
+            "list" => Some(Kind::List),
+            "mapping" => Some(Kind::Mapping),
+            _ => None,
         },
-        _ => refuse(Misread::NotALine),
+        _ => None,
     }
-}
-
-/// The lists of one int alone.
-fn one_int(alloc: Global, value: i64) -> Read<Vec<AtomDef>> {
-    let lists = one_item(alloc, SemType::Basic(BasicSet::IntRange(value, value)))?;
-    Ok(vec![in alloc; lists]?)
 }

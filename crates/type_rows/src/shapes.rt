@@ -7,170 +7,159 @@
 //! - `future{1, 2}`
 
 use crate::misread::{Misread, Read, refuse};
-use crate::tokens::Tokens;
-use bal_base::{Case, Fields, Graph, Keyword, Shape, Shapes, Sign, Text, TokenKind};
+use crate::pieces::{after_keyword, inside, int, is_keyword, listed, only, split};
+use bal_base::{Case, Fields, Graph, Keyword, Shape, Shapes, Sign, Text, Token, TokenKind};
 use std::alloc::Global;
 
-/// Takes a shape, whose parts are nested at most `levels` deep.
+/// The shape that the tokens are, whose parts are nested at most `levels` deep.
 #[cycle(shape)]
-pub fn shape(alloc: Global, tokens: &mut Tokens, levels: u32) -> Read<Shape> {
+pub fn shape(alloc: Global, tokens: &[Token], levels: u32) -> Read<Shape> {
     let Some(below) = levels.checked_sub(1) else {
         return refuse(Misread::TooDeep);
     };
-    match tokens.first() {
-        Some(TokenKind::Keyword(Keyword::ReadOnly)) => {
-            tokens.next();
-            structure(alloc, tokens, true, below)
-        }
-        Some(TokenKind::Sign(Sign::OpenBracket)) | Some(TokenKind::Sign(Sign::OpenBrace)) => {
-            structure(alloc, tokens, false, below)
-        }
-        Some(TokenKind::Keyword(Keyword::Error)) => error(alloc, tokens, below),
-        Some(TokenKind::Keyword(Keyword::Isolated)) | Some(TokenKind::Keyword(Keyword::Function)) =>
-            { function(alloc, tokens, below) }
-        Some(TokenKind::Keyword(Keyword::Future)) => future(alloc, tokens, below),
-        _ => simple(tokens),
-    }
-}
-
-/// Takes nil, a boolean, an int or a string.
-fn simple(tokens: &mut Tokens) -> Read<Shape> {
-    match tokens.first() {
-        Some(TokenKind::Int(_)) | Some(TokenKind::Sign(Sign::Minus)) => {
-            Ok(Shape::Int(tokens.int(Misread::NotAShape)?))
-        }
-        Some(TokenKind::Str(text)) => {
-            tokens.next();
-            Ok(Shape::Str(text.share()))
-        }
-        _ => nil_or_boolean(tokens),
-    }
-}
-
-fn nil_or_boolean(tokens: &mut Tokens) -> Read<Shape> {
-    if tokens.takes_keyword(Keyword::True) {
-        Ok(Shape::Bool(true))
-    } else if tokens.takes_keyword(Keyword::False) {
-        Ok(Shape::Bool(false))
+    if let Some(rest) = after_keyword(tokens, Keyword::ReadOnly) {
+        structure(alloc, rest, true, below)
+    } else if let Some(rest) = after_keyword(tokens, Keyword::Error) {
+        error(alloc, rest, below)
+    } else if let Some(rest) = after_keyword(tokens, Keyword::Isolated) {
+        function(alloc, rest, true, below)
+    } else if let Some(rest) = after_keyword(tokens, Keyword::Future) {
+        future(alloc, rest, below)
     } else {
-        tokens.expect(Sign::OpenParen, Misread::NotAShape)?;
-        tokens.expect(Sign::CloseParen, Misread::NotAShape)?;
-        Ok(Shape::Nil)
+        unmarked(alloc, tokens, below)
     }
 }
 
-/// Takes a list or a mapping.
 #[cycle(shape)]
-fn structure(alloc: Global, tokens: &mut Tokens, mark: bool, levels: u32) -> Read<Shape> {
-    if tokens.takes(Sign::OpenBracket) {
-        let items = shapes(alloc, tokens, Sign::CloseBracket, levels)?;
-        Ok(Shape::List { mark, items })
-    } else {
-        tokens.expect(Sign::OpenBrace, Misread::NotAShape)?;
-        let fields = fields(alloc, tokens, levels)?;
-        Ok(Shape::Mapping { mark, fields })
+fn unmarked(alloc: Global, tokens: &[Token], levels: u32) -> Read<Shape> {
+    if after_keyword(tokens, Keyword::Function).is_some() {
+        return function(alloc, tokens, false, levels);
+    }
+    match simple(tokens) {
+        Some(shape) => Ok(shape),
+        None => structure(alloc, tokens, false, levels),
     }
 }
 
-/// Takes shapes with commas between them, and the sign that closes them.
+/// Nil, a boolean, an int or a string.
+fn simple(tokens: &[Token]) -> Option<Shape> {
+    if let Some(value) = int(tokens) {
+        return Some(Shape::Int(value));
+    }
+    if let Some(between) = inside(tokens, Sign::OpenParen, Sign::CloseParen) {
+        return if between.is_empty() {
+            Some(Shape::Nil)
+        } else {
+            None
+        };
+    }
+    match only(tokens)? {
+        TokenKind::Keyword(Keyword::True) => Some(Shape::Bool(true)),
+        TokenKind::Keyword(Keyword::False) => Some(Shape::Bool(false)),
+        TokenKind::Str(text) => Some(Shape::Str(text.share())),
+        _ => None,
+    }
+}
+
+/// A list or a mapping.
 #[cycle(shape)]
-fn shapes(alloc: Global, tokens: &mut Tokens, close: Sign, levels: u32) -> Read<Shapes> {
+fn structure(alloc: Global, tokens: &[Token], mark: bool, levels: u32) -> Read<Shape> {
+    if let Some(items) = inside(tokens, Sign::OpenBracket, Sign::CloseBracket) {
+        let items = shapes(alloc, items, levels)?;
+        return Ok(Shape::List { mark, items });
+    }
+    match inside(tokens, Sign::OpenBrace, Sign::CloseBrace) {
+        Some(members) => {
+            let fields = fields(alloc, members, levels)?;
+            Ok(Shape::Mapping { mark, fields })
+        }
+        None => refuse(Misread::NotAShape),
+    }
+}
+
+/// Shapes with commas between them.
+#[cycle(shape)]
+fn shapes(alloc: Global, tokens: &[Token], levels: u32) -> Read<Shapes> {
     let mut items = Vec::new(alloc);
-    if tokens.takes(close) {
-        return Ok(Shapes::of(items));
+    for item in &listed(alloc, tokens)? {
+        items.push(shape(alloc, item, levels)?)?;
     }
-    for _ in 0..tokens.left() {
-        items.push(shape(alloc, tokens, levels)?)?;
-        if !tokens.takes(Sign::Comma) {
-            break;
-        }
-    }
-    tokens.expect(close, Misread::NotAShape)?;
     Ok(Shapes::of(items))
 }
 
-/// Takes the members of a mapping, and the brace that closes it.
+/// The members of a mapping.
 #[cycle(shape)]
-fn fields(alloc: Global, tokens: &mut Tokens, levels: u32) -> Read<Fields> {
+fn fields(alloc: Global, tokens: &[Token], levels: u32) -> Read<Fields> {
     let mut members = Vec::new(alloc);
-    if tokens.takes(Sign::CloseBrace) {
-        return Ok(Fields::of(members));
+    for member in &listed(alloc, tokens)? {
+        members.push(field(alloc, member, levels)?)?;
     }
-    for _ in 0..tokens.left() {
-        let key = key(tokens)?;
-        tokens.expect(Sign::Colon, Misread::NotAShape)?;
-        members.push((key, shape(alloc, tokens, levels)?))?;
-        if !tokens.takes(Sign::Comma) {
-            break;
-        }
-    }
-    tokens.expect(Sign::CloseBrace, Misread::NotAShape)?;
     Ok(Fields::of(members))
 }
 
-fn key(tokens: &mut Tokens) -> Read<Text> {
-    match tokens.next() {
-        Some(TokenKind::Str(text)) => Ok(text.share()),
-        _ => refuse(Misread::NotAShape),
-    }
+#[cycle(shape)]
+fn field(alloc: Global, tokens: &[Token], levels: u32) -> Read<(Text, Shape)> {
+    let Some((key, value)) = split(tokens, Sign::Colon) else {
+        return refuse(Misread::NotAShape);
+    };
+    let Some(TokenKind::Str(key)) = only(key) else {
+        return refuse(Misread::NotAShape);
+    };
+    Ok((key.share(), shape(alloc, value, levels)?))
 }
 
 #[cycle(shape)]
-fn error(alloc: Global, tokens: &mut Tokens, levels: u32) -> Read<Shape> {
-    tokens.next();
-    tokens.expect(Sign::OpenParen, Misread::NotAShape)?;
-    let detail = shape(alloc, tokens, levels)?;
-    tokens.expect(Sign::CloseParen, Misread::NotAShape)?;
+fn error(alloc: Global, tokens: &[Token], levels: u32) -> Read<Shape> {
+    let Some(detail) = inside(tokens, Sign::OpenParen, Sign::CloseParen) else {
+        return refuse(Misread::NotAShape);
+    };
+    let detail = shape(alloc, detail, levels)?;
     Ok(Shape::Error {
         detail: Box::new(alloc, detail)?,
     })
 }
 
+/// A function from its keyword on, with its cases.
 #[cycle(shape)]
-fn function(alloc: Global, tokens: &mut Tokens, levels: u32) -> Read<Shape> {
-    let isolated = tokens.takes_keyword(Keyword::Isolated);
-    if !tokens.takes_keyword(Keyword::Function) {
+fn function(alloc: Global, tokens: &[Token], isolated: bool, levels: u32) -> Read<Shape> {
+    let Some(rest) = after_keyword(tokens, Keyword::Function) else {
         return refuse(Misread::NotAShape);
+    };
+    let Some(between) = inside(rest, Sign::OpenBrace, Sign::CloseBrace) else {
+        return refuse(Misread::NotAShape);
+    };
+    let mut cases = Vec::new(alloc);
+    for written in &listed(alloc, between)? {
+        cases.push(case(alloc, written, levels)?)?;
     }
-    tokens.expect(Sign::OpenBrace, Misread::NotAShape)?;
-    let graph = graph(alloc, tokens, levels)?;
+    let graph = Graph::of(cases);
     Ok(Shape::Function { isolated, graph })
 }
 
-/// Takes the cases of a function, and the brace that closes them.
 #[cycle(shape)]
-fn graph(alloc: Global, tokens: &mut Tokens, levels: u32) -> Read<Graph> {
-    let mut cases = Vec::new(alloc);
-    if tokens.takes(Sign::CloseBrace) {
-        return Ok(Graph::of(cases));
-    }
-    for _ in 0..tokens.left() {
-        cases.push(case(alloc, tokens, levels)?)?;
-        if !tokens.takes(Sign::Comma) {
-            break;
-        }
-    }
-    tokens.expect(Sign::CloseBrace, Misread::NotAShape)?;
-    Ok(Graph::of(cases))
-}
-
-#[cycle(shape)]
-fn case(alloc: Global, tokens: &mut Tokens, levels: u32) -> Read<Case> {
-    tokens.expect(Sign::OpenParen, Misread::NotAShape)?;
-    let args = shapes(alloc, tokens, Sign::CloseParen, levels)?;
-    tokens.expect(Sign::Arrow, Misread::NotAShape)?;
-    let result = if tokens.takes_keyword(Keyword::Panic) {
+fn case(alloc: Global, tokens: &[Token], levels: u32) -> Read<Case> {
+    let Some((args, result)) = split(tokens, Sign::Arrow) else {
+        return refuse(Misread::NotAShape);
+    };
+    let Some(args) = inside(args, Sign::OpenParen, Sign::CloseParen) else {
+        return refuse(Misread::NotAShape);
+    };
+    let args = shapes(alloc, args, levels)?;
+    let result = if is_keyword(result, Keyword::Panic) {
         None
     } else {
-        Some(shape(alloc, tokens, levels)?)
+        Some(shape(alloc, result, levels)?)
     };
     Ok(Case { args, result })
 }
 
 #[cycle(shape)]
-fn future(alloc: Global, tokens: &mut Tokens, levels: u32) -> Read<Shape> {
-    tokens.next();
-    tokens.expect(Sign::OpenBrace, Misread::NotAShape)?;
-    let results = shapes(alloc, tokens, Sign::CloseBrace, levels)?;
-    Ok(Shape::Future { results })
+fn future(alloc: Global, tokens: &[Token], levels: u32) -> Read<Shape> {
+    match inside(tokens, Sign::OpenBrace, Sign::CloseBrace) {
+        Some(results) => {
+            let results = shapes(alloc, results, levels)?;
+            Ok(Shape::Future { results })
+        }
+        None => refuse(Misread::NotAShape),
+    }
 }
