@@ -22,54 +22,63 @@ use Rattle.text_forms.specs.Forms.{text_if}
 abbrev pub is_argument : List ℕ → Bool
 is_argument name = pointwise nat_eq name (codes "argument 1") || pointwise nat_eq name (codes "argument 2")
 
--- what doesn't begin where something has to
-abbrev pub missing_words : Bool → List ℕ
-missing_words true = codes "not a type"
-missing_words false = codes "not a definition"
+-- what doesn't begin where something has to, where nothing more is known
+abbrev pub whole_words : Bool → List ℕ
+whole_words true = codes "not a type"
+whole_words false = codes "not a definition"
 
--- what each code says, in a word of the command or in a file
-abbrev pub says : Bool → FaultCode → List ℕ
-says in_word NotUtf8 = codes "not UTF-8"
-says in_word BadToken = codes "not a token"
-says in_word Syntax = missing_words in_word
-says in_word Depth = codes "nested too deeply"
-says in_word LeftOut = codes "left out of this profile"
-says in_word NotBuilt = codes "not built yet"
-says in_word NoModule = codes "no such module"
-says in_word ImportCycle = codes "import cycle: "
-says in_word Duplicate = codes "name used twice"
-says in_word Unknown = codes "unknown name"
-says in_word NotPublic = codes "not public"
-says in_word IllFounded = codes "type is its own part: "
-says in_word TypeLimit = codes "type question too large"
-says in_word AtomLimit = codes "too many types"
-says in_word NoMain = codes "no public function main"
-says in_word FileTooLong = codes "file too long"
-says in_word BadManifest = codes "bad manifest"
-says in_word TooLarge = codes "package too large"
-says in_word NotSubtype = codes "not a subtype: "
-says in_word Arity = codes "wrong number of arguments"
-says in_word NoField = codes "no such member"
-says in_word AssignFinal = codes "cannot be assigned"
-says in_word Captured = codes "captured variable is assigned"
-says in_word MissingReturn = codes "missing return"
-says in_word BadBreak = codes "not in a loop"
-says in_word Ignored = codes "value is ignored"
-says in_word BadMain = codes "main has a wrong signature"
-says in_word NotIsolated = codes "not isolated: "
-says in_word ReadOnlyHolds = codes "must be immutable anydata"
-says in_word NoChoice = codes "no type fits"
-says in_word NeedsType = codes "receive needs a type"
-says in_word Conditional = codes "conditional worker action"
-says in_word Unpaired = codes "unpaired messages: "
-says in_word SuccessBefore = codes "success before a message"
-says in_word WaitCycle = codes "workers wait in a ring: "
-says in_word NameAsValue = codes "worker is no value"
-says in_word NoPeer = codes "no such peer"
-says in_word BadMessage = codes "message is outside the type: "
-says in_word WorkerLimit = codes "too many workers or events"
-says in_word CodeLimit = codes "program too large"
-says in_word TestLimit = codes "too many type tests"
+-- the same, where the count says that a statement is missed
+abbrev pub missing_words : Bool → Kept → List ℕ
+missing_words in_word Nothing = whole_words in_word
+missing_words in_word (Shape s) = whole_words in_word
+missing_words in_word (Names names) = whole_words in_word
+missing_words in_word (Events events) = whole_words in_word
+missing_words in_word (Counts sent received) = whole_words in_word
+missing_words in_word (Count n) = codes "not a statement"
+
+-- what each code says, in a word of the command or in a file, by what is kept
+abbrev pub says : Bool → Kept → FaultCode → List ℕ
+says in_word kept NotUtf8 = codes "not UTF-8"
+says in_word kept BadToken = codes "not a token"
+says in_word kept Syntax = missing_words in_word kept
+says in_word kept Depth = codes "nested too deeply"
+says in_word kept LeftOut = codes "left out of this profile"
+says in_word kept NotBuilt = codes "not built yet"
+says in_word kept NoModule = codes "no such module"
+says in_word kept ImportCycle = codes "import cycle: "
+says in_word kept Duplicate = codes "name used twice"
+says in_word kept Unknown = codes "unknown name"
+says in_word kept NotPublic = codes "not public"
+says in_word kept IllFounded = codes "type is its own part: "
+says in_word kept TypeLimit = codes "type question too large"
+says in_word kept AtomLimit = codes "too many types"
+says in_word kept NoMain = codes "no public function main"
+says in_word kept FileTooLong = codes "file too long"
+says in_word kept BadManifest = codes "bad manifest"
+says in_word kept TooLarge = codes "package too large"
+says in_word kept NotSubtype = codes "not a subtype: "
+says in_word kept Arity = codes "wrong number of arguments"
+says in_word kept NoField = codes "no such member"
+says in_word kept AssignFinal = codes "cannot be assigned"
+says in_word kept Captured = codes "captured variable is assigned"
+says in_word kept MissingReturn = codes "missing return"
+says in_word kept BadBreak = codes "not in a loop"
+says in_word kept Ignored = codes "value is ignored"
+says in_word kept BadMain = codes "main has a wrong signature"
+says in_word kept NotIsolated = codes "not isolated: "
+says in_word kept ReadOnlyHolds = codes "must be immutable anydata"
+says in_word kept NoChoice = codes "no type fits"
+says in_word kept NeedsType = codes "receive needs a type"
+says in_word kept Conditional = codes "conditional worker action"
+says in_word kept Unpaired = codes "unpaired messages: "
+says in_word kept SuccessBefore = codes "success before a message"
+says in_word kept WaitCycle = codes "workers wait in a ring: "
+says in_word kept NameAsValue = codes "worker is no value"
+says in_word kept NoPeer = codes "no such peer"
+says in_word kept BadMessage = codes "message is outside the type: "
+says in_word kept WorkerLimit = codes "too many workers or events"
+says in_word kept CodeLimit = codes "program too large"
+says in_word kept TestLimit = codes "too many type tests"
 
 -- whether the words end in what shows the fault
 abbrev pub shows : FaultCode → Bool
@@ -142,7 +151,7 @@ place_text r (Some at) = r.file ++ codes ":" ++ decimal r.line ++ codes ":" ++ d
 -- `CODE WORDS`
 abbrev pub fault_text : List SourceFile → Bool → Fault → List ℕ
 fault_text files in_word fault =
-    decimal (code_number fault.code) ++ codes " " ++ says in_word fault.code ++ text_if (shows fault.code) (kept_text files fault.kept)
+    decimal (code_number fault.code) ++ codes " " ++ says in_word fault.kept fault.code ++ text_if (shows fault.code) (kept_text files fault.kept)
 
 -- the text of a refusal, where the files are those of the package by number
 abbrev pub refusal_text : List SourceFile → Refusal → List ℕ

@@ -5,7 +5,7 @@ ghost use Rattle.std.specs.Prelude.{◌≡◌, IfOk, OnOk, nat_eq, true};
 ghost use Rattle.std.specs.Cmp.Lexicographic.{pointwise};
 ghost use Rattle.std.specs.List.{list_all};
 ghost use Rattle.std.specs.Char.{is_ascii};
-ghost use Rattle.bal_report.specs.RefusalText.{fault_text, is_argument, kept_text, missing_words, name_text, on_the_way, place_text, refusal_text, says as code_says, shows as code_shows};
+ghost use Rattle.bal_report.specs.RefusalText.{fault_text, is_argument, kept_text, missing_words, name_text, on_the_way, place_text, refusal_text, says as code_says, shows as code_shows, whole_words};
 ghost use Rattle.text_forms.specs.Forms.{Adds, written};
 
 use crate::events::add_events;
@@ -76,16 +76,16 @@ fn add_fault(
 {
     add_number(out, fault.code.number() as u64)?;
     add_word(out, " ")?;
-    add_word(out, says(in_word, fault.code))?;
+    add_word(out, says(in_word, &fault.kept, fault.code))?;
     if shows(fault.code) {
         return add_kept(out, &fault.kept, files);
     }
     Ok(())
 }
 
-/// What doesn't begin where something has to.
-fn missing(in_word: bool) -> &'static str
-    ensures words { result.now ≡ missing_words in_word }
+/// What doesn't begin where something has to, where nothing more is known.
+fn whole(in_word: bool) -> &'static str
+    ensures words { result.now ≡ whole_words in_word }
     ensures ascii { list_all is_ascii result.now ≡ true }
 {
     if in_word {
@@ -95,15 +95,27 @@ fn missing(in_word: bool) -> &'static str
     }
 }
 
-/// What the code says.
-fn says(in_word: bool, code: FaultCode) -> &'static str
-    ensures words { result.now ≡ code_says in_word code }
+/// What doesn't begin where something has to.
+fn missing(in_word: bool, kept: &Kept) -> &'static str
+    ensures words { result.now ≡ missing_words in_word kept.now }
+    ensures ascii { list_all is_ascii result.now ≡ true }
+{
+    match kept {
+        Kept::Nothing | Kept::Shape(_) | Kept::Names(_) | Kept::Events(_) | Kept::Counts(_, _) =>
+            whole(in_word),
+        Kept::Count(_) => "not a statement",
+    }
+}
+
+/// What the code says, by what is kept.
+fn says(in_word: bool, kept: &Kept, code: FaultCode) -> &'static str
+    ensures words { result.now ≡ code_says in_word kept.now code }
     ensures ascii { list_all is_ascii result.now ≡ true }
 {
     match code {
         FaultCode::NotUtf8 => "not UTF-8",
         FaultCode::BadToken => "not a token",
-        FaultCode::Syntax => missing(in_word),
+        FaultCode::Syntax => missing(in_word, kept),
         FaultCode::Depth => "nested too deeply",
         FaultCode::LeftOut => "left out of this profile",
         FaultCode::NotBuilt => "not built yet",
