@@ -122,11 +122,11 @@ not-named (k ∷ zs) h = refl
 
 -- ---- what stands behind a result
 
-record Behind (zs : Kinds) : Type 0 where
+pub record Behind (zs : Kinds) : Type 0 where
   pub closes : Closes zs
   pub no_returns : take_key Returns zs ≡ None
 
-brace-behind : (ks : Kinds) → Behind (SignKind OpenBrace ∷ ks)
+pub brace-behind : (ks : Kinds) → Behind (SignKind OpenBrace ∷ ks)
 brace-behind ks = record { closes = record { less = refl; paren = refl; colon = refl; returns = refl; ends = record { no_suffix = refl; no_ampersand = refl; no_bar = refl } }; no_returns = refl }
 
 arrow-behind : (ks : Kinds) → Behind (SignKind FatArrow ∷ ks)
@@ -144,7 +144,7 @@ none-up-to None q e = refl
 none-up-to (Some end) q e = ap (λ r. r >>= up_to end) e
 
 module _ (known : Known) where
-  result-law : (result : Option (Box TypeTree)) (zs : Kinds) → type_is_formed_if result ≡ true → Behind zs → result_if (onto (if_boxed (λ t. returning (type_pieces t)) result) zs) ≡ Some zs
+  pub result-law : (result : Option (Box TypeTree)) (zs : Kinds) → type_is_formed_if result ≡ true → Behind zs → result_if (onto (if_boxed (λ t. returning (type_pieces t)) result) zs) ≡ Some zs
   result-law None zs f b = ap (λ o. result_or o zs) b.no_returns
   result-law (Some t) zs f b = known.type_before t.value zs f b.closes
 
@@ -165,7 +165,7 @@ module _ (known : Known) where
   worker-ready : (ks : Kinds) → Ready (KeywordKind WorkerKey ∷ ks)
   worker-ready ks = record { no_else = refl; of_its_own = λ h. cc h }
 
-  stmts-at : (xs : List Stmt) → list_all stmt_is_formed xs ≡ true → StmtsAt (map stmt_pieces xs)
+  pub stmts-at : (xs : List Stmt) → list_all stmt_is_formed xs ≡ true → StmtsAt (map stmt_pieces xs)
   stmts-at [] h = tt
   stmts-at (x ∷ xs) h = let b = both_pass (stmt_is_formed x) (list_all stmt_is_formed xs) h in (stmt-law known x b.0, stmts-at xs b.1)
 

@@ -18,9 +18,10 @@ use Rattle.parse_types.specs.Starts.{refusal}
 use Rattle.parse_types.proofs.Parsing.{rest-place}
 use Rattle.parse_types.proofs.Readings.{length-kinds}
 use Rattle.parse_stmt.specs.Reaches.{def, import}
-use Rattle.parse_stmt.specs.Starts.{BreaksAt, IsBroken, IsFileTooDeep, IsNotRefused, IsRefused, StartsDef, StartsImport, WholeOr, front_pieces}
+use Rattle.parse_stmt.specs.Starts.{BreaksAt, IsBroken, IsFileTooDeep, IsNotRefused, IsRefused, IsWrong, StartsDef, StartsImport, WholeOr, front_pieces}
 use Rattle.parse_stmt.proofs.FileLaw.{breaks-there, def-never, import-never, no-def-at-end, no-import-at-end, same-front}
 use Rattle.parse_stmt.proofs.Known.{Known}
+use Rattle.parse_stmt.proofs.StopLaw.{one-wrong}
 
 -- the imports and definitions of a tree without its place
 front-of : (file : ℕ) (tokens rest : List Token) (tree : FileTree) → Spells file (file_pieces tree) tokens rest → Spells file (front_pieces tree.imports.items tree.defs.items) tokens rest
@@ -50,22 +51,20 @@ module _ (known : Known) (file : ℕ) (tokens rest : List Token) (tree : FileTre
 
   pub result-refused : (r : Result FileTree (Stop Fault)) → first_too_deep (kinds_of tokens) ≡ None → WholeOr tree file rest r → IfFault r (λ f. IsFileTooDeep file tokens f ⊎ IsBroken file tokens f)
   result-refused (Ok t) shallow w = tt
-  result-refused (Err stop) shallow w = subst (λ s. IfFault {T = FileTree} (Err s) (λ f. IsFileTooDeep file tokens f ⊎ IsBroken file tokens f)) (sym w.0) (inr (shallow, (rest, breaks w.1, refl)))
+  result-refused (Err Memory) shallow w = tt
+  result-refused (Err (FaultOf f)) shallow w = inr (shallow, (rest, breaks w.0, w.1))
 
-  there : (fault : Fault) → IsBroken file tokens fault → (other : List Token) × (rest ≡ other) × (other ≡ [] → ⊥) × (fault ≡ refusal Syntax (first_place file other))
-  there fault b = (
-    b.1.0,
-    breaks-there known file tokens rest b.1.0 tree.imports.items tree.defs.items formed front
-        (λ d behind f e. def-never known (length tokens) (kinds_of rest) short no_def d behind f e) (λ none i behind e. import-never (kinds_of rest) (no_import none) i behind e) b.1.1,
-    b.1.1.goes_on,
-    b.1.2,
-  )
+  there : (fault : Fault) → IsBroken file tokens fault → (rest ≡ [] → ⊥) × IsWrong file rest fault
+  there fault b =
+      let same =
+      breaks-there known file tokens rest b.1.0 tree.imports.items tree.defs.items formed front
+      (λ d behind f e. def-never known (length tokens) (kinds_of rest) short no_def d behind f e) (λ none i behind e. import-never (kinds_of rest) (no_import none) i behind e) b.1.1 in
+      (λ none. b.1.1.goes_on (sym same ∙ none), subst (λ ts. IsWrong file ts fault) (sym same) b.1.2)
 
   pub result-exact : (r : Result FileTree (Stop Fault)) → WholeOr tree file rest r → (fault : Fault) → IsBroken file tokens fault → IsRefused r fault
-  result-exact (Ok t) w fault b = let o = there fault b in o.2 (sym o.1 ∙ w.1)
-  result-exact (Err stop) w fault b =
-      let o = there fault b in
-      subst (λ s. IsRefused {T = FileTree} (Err s) fault) (sym w.0) (ap (λ ts. refusal Syntax (first_place file ts)) o.1 ∙ sym o.3)
+  result-exact (Ok t) w fault b = (there fault b).0 w.1
+  result-exact (Err Memory) w fault b = tt
+  result-exact (Err (FaultOf f)) w fault b = one-wrong file rest f fault w.1 (there fault b).1
 
   -- where the tokens are those of some tree, nothing is left
   nothing-left : (other : FileTree) → Reads file tokens other → rest ≡ []
@@ -78,4 +77,4 @@ module _ (known : Known) (file : ℕ) (tokens rest : List Token) (tree : FileTre
 
   pub result-complete : (r : Result FileTree (Stop Fault)) → WholeOr tree file rest r → (other : FileTree) → Reads file tokens other → IsNotRefused r
   result-complete (Ok t) w other reads = tt
-  result-complete (Err stop) w other reads = absurd (w.1 (nothing-left other reads))
+  result-complete (Err stop) w other reads = absurd (w.0 (nothing-left other reads))

@@ -11,7 +11,7 @@ use Rattle.bal_tree.specs.declared.def.Def.TheVariants.{«Type» as TypeOf, Cons
 use Rattle.bal_tree.specs.declared.types.TypeTree.{TypeTree}
 use Rattle.bal_tree.specs.DefPieces.{import_pieces, def_pieces}
 use Rattle.bal_tree.specs.DefRules.{def_is_formed}
-use Rattle.bal_tree.specs.Pieces.{joined, key_if}
+use Rattle.bal_tree.specs.Pieces.{Pieces, joined, key_if}
 use Rattle.bal_tree.specs.Spells.{Spells, onto, kinds_of}
 use Rattle.bal_tree.specs.TypePieces.{type_pieces}
 use Rattle.bal_tree.proofs.Spelling.{spells-onto}
@@ -24,6 +24,10 @@ use Rattle.parse_stmt.specs.Reaches.{def, import}
 use Rattle.parse_stmt.specs.Starts.{BreaksAt, StartsDef, StartsImport, front_pieces}
 use Rattle.parse_stmt.proofs.DefLaw.{def-law, import-law}
 use Rattle.parse_stmt.proofs.Known.{Known, leads}
+
+-- two ends of the same tokens that are equally long are one
+pub same-rest : (file : ℕ) (p q : Pieces) (tokens a b : List Token) → Spells file p tokens a → Spells file q tokens b → length a ≡ length b → a ≡ b
+same-rest file p q tokens a b x y e = sym (rest-place file p tokens 0 a x).1 ∙ ap (λ n. drop (length tokens - n) tokens) e ∙ (rest-place file q tokens 0 b y).1
 
 -- no definition and no import begins here
 abbrev pub NoDef : Kinds → Type 0
@@ -122,10 +126,7 @@ module _ (known : Known) where
       let size = ap length same in
       let p = length-kinds rest in
       let q = length-kinds other in
-      let x = rest-place file (front_pieces is ds) tokens 0 rest spells in
-      let y = rest-place file (front_pieces b.imports b.defs) tokens 0 other b.spells in
-      let equal : length rest ≡ length other = omega arith in
-      sym x.1 ∙ ap (λ n. drop (length tokens - n) tokens) equal ∙ y.1
+      same-rest file (front_pieces is ds) (front_pieces b.imports b.defs) tokens rest other spells b.spells (omega arith)
 
   pub def-never : (n : ℕ) (rest : Kinds) → length rest ≤ n → def n rest ≡ None → NoDef rest
   def-never n rest fits none d behind f e =

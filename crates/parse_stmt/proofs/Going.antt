@@ -11,10 +11,10 @@ use Rattle.bal_base.specs.declared.token.Sign.{Sign}
 use Rattle.bal_base.specs.declared.token.Sign.TheVariants.{OpenBrace, CloseBrace, Underscore, OpenBracket}
 use Rattle.bal_tree.specs.Pieces.{Pieces, ◌&◌, joined}
 use Rattle.bal_tree.specs.Spells.{onto}
-use Rattle.parse_types.specs.Loops.{◌>>=◌, many}
+use Rattle.parse_types.specs.Loops.{◌>>=◌, many, or_else}
 use Rattle.parse_types.specs.Tokens.{Kinds, take_sign, take_key}
 use Rattle.parse_types.specs.Nesting.{depth_behind}
-use Rattle.parse_types.proofs.Going.{many-stops, many-goes}
+use Rattle.parse_types.proofs.Going.{many-less, many-stops, many-goes}
 use Rattle.parse_types.proofs.Onto.{onto-longer}
 use Rattle.parse_stmt.specs.Ahead.{semicolon, is_semicolon, is_outside}
 use Rattle.parse_stmt.specs.Reaches.{block, brace_stmt, goes_on, inside, is_followed, keyword_stmt, led, may_be_mapping, no_more, stmt, stmts}
@@ -121,10 +121,14 @@ module _ (n : ℕ) where
           ∙ many-goes length step zs ks (goes-led (inside n) zs may ∙ here) less
       test false is =
           many-goes length step (SignKind OpenBrace ∷ SignKind CloseBrace ∷ zs) ks
-          (ap (λ c. brace_stmt (inside n) (goes_on zs && not c) (SignKind OpenBrace ∷ SignKind CloseBrace ∷ zs)) is ∙ ap (λ c. brace_stmt (inside n) (c && true) (SignKind OpenBrace ∷ SignKind CloseBrace ∷ zs)) may ∙ e)
+          (ap (λ c. brace_stmt (inside n) (goes_on zs && not c) (SignKind OpenBrace ∷ SignKind CloseBrace ∷ zs)) is ∙ ap (λ c. brace_stmt (inside n) (c && true) (SignKind OpenBrace ∷ SignKind CloseBrace ∷ zs)) may
+          ∙ ap (λ o. or_else o (inside n false (SignKind OpenBrace ∷ SignKind CloseBrace ∷ zs))) e)
           (led-less (SignKind OpenBrace ∷ SignKind CloseBrace ∷ zs) ks e)
   brace-goes [] ks may e fits = cc may
-  brace-goes (k ∷ zs) ks may e fits = many-goes length step (SignKind OpenBrace ∷ k ∷ zs) ks (ap (λ c. brace_stmt (inside n) (c && true) (SignKind OpenBrace ∷ k ∷ zs)) may ∙ e) (led-less (SignKind OpenBrace ∷ k ∷ zs) ks e)
+  brace-goes (k ∷ zs) ks may e fits =
+      many-goes length step (SignKind OpenBrace ∷ k ∷ zs) ks
+      (ap (λ c. brace_stmt (inside n) (c && true) (SignKind OpenBrace ∷ k ∷ zs)) may ∙ ap (λ o. or_else o (inside n false (SignKind OpenBrace ∷ k ∷ zs))) e)
+      (led-less (SignKind OpenBrace ∷ k ∷ zs) ks e)
 
   -- a statement that begins with a type or an expression
   pub led-goes : (xs ks : Kinds) → leads xs ≡ true → led xs ≡ Some ks → length xs ≤ n → many length step xs ≡ many length step ks
@@ -140,9 +144,11 @@ pub record Ready (ks : Kinds) : Type 0 where
   pub no_else : take_key Else ks ≡ None
   pub of_its_own : goes_on ks ≡ true → is_some (led ks) ≡ true
 
+-- `goes` says where the loop comes to, `reaches` that it passes over the statement, whatever stands behind it
 pub record StmtAt (p : Pieces) : Type 0 where
   pub goes : (n : ℕ) (ks : Kinds) → length (onto p ks) < n → Ready ks → many length (stmt (inside n)) (onto p ks) ≡ many length (stmt (inside n)) ks
-  pub ready : (ks : Kinds) → Ready ks → Ready (onto p ks)
+  pub reaches : (n : ℕ) (ks : Kinds) → length (onto p ks) < n → length (many length (stmt (inside n)) (onto p ks)) ≤ length ks
+  pub ready : (ks : Kinds) → Ready (onto p ks)
   pub no_mapping : (ks : Kinds) → may_be_mapping (onto p ks) ≡ false
   pub no_worker : (ks : Kinds) → take_key Worker (onto p ks) ≡ None
 
@@ -168,19 +174,31 @@ no-worker (KeywordKind Worker ∷ xs) h = cc h
 no-worker (KeywordKind k ∷ xs) h = refl
 no-worker (k ∷ xs) h = refl
 
+-- where the loop goes on behind a statement it passes over it
+pub reaches-of : (step : Kinds → Option Kinds) (xs ks : Kinds) → many length step xs ≡ many length step ks → length (many length step xs) ≤ length ks
+reaches-of step xs ks e = let size = ap length e in let less = many-less length step ks in omega arith
+
+-- so it does where one step leaves no more than what stands behind it
+pub step-reaches : (step : Kinds → Option Kinds) (xs ks a : Kinds) → step xs ≡ Some a → length a ≤ length ks → length ks < length xs → length (many length step xs) ≤ length ks
+step-reaches step xs ks a e less longer =
+    let size = ap length (many-goes length step xs a e (omega arith)) in
+    let l = many-less length step a in omega arith
+
 pub led-stmt : (p : Pieces) → ((ks : Kinds) → leads (onto p ks) ≡ true) → ((ks : Kinds) → led (onto p ks) ≡ Some ks) → StmtAt p
 led-stmt p first law = record {
   goes = λ n ks fits r. led-goes n (onto p ks) ks (first ks) (law ks) (omega arith);
-  ready = λ ks r. record { no_else = no-else (onto p ks) (first ks); of_its_own = λ h. ap is_some (law ks) };
+  reaches = λ n ks fits. reaches-of (stmt (inside n)) (onto p ks) ks (led-goes n (onto p ks) ks (first ks) (law ks) (omega arith));
+  ready = λ ks. record { no_else = no-else (onto p ks) (first ks); of_its_own = λ h. ap is_some (law ks) };
   no_mapping = λ ks. led-no-mapping (onto p ks) ks (law ks);
   no_worker = λ ks. no-worker (onto p ks) (first ks);
 }
 
 -- a statement that is read in one step
-pub one-stmt : (p : Pieces) → ((n : ℕ) (ks : Kinds) → length (onto p ks) < n → Ready ks → stmt (inside n) (onto p ks) ≡ Some ks) → ((ks : Kinds) → length ks < length (onto p ks)) → ((ks : Kinds) → Ready (onto p ks)) → ((ks : Kinds) → may_be_mapping (onto p ks) ≡ false) → ((ks : Kinds) → take_key Worker (onto p ks) ≡ None) → StmtAt p
+pub one-stmt : (p : Pieces) → ((n : ℕ) (ks : Kinds) → length (onto p ks) < n → stmt (inside n) (onto p ks) ≡ Some ks) → ((ks : Kinds) → length ks < length (onto p ks)) → ((ks : Kinds) → Ready (onto p ks)) → ((ks : Kinds) → may_be_mapping (onto p ks) ≡ false) → ((ks : Kinds) → take_key Worker (onto p ks) ≡ None) → StmtAt p
 one-stmt p law longer first other key = record {
-  goes = λ n ks fits r. many-goes length (stmt (inside n)) (onto p ks) ks (law n ks fits r) (longer ks);
-  ready = λ ks r. first ks;
+  goes = λ n ks fits r. many-goes length (stmt (inside n)) (onto p ks) ks (law n ks fits) (longer ks);
+  reaches = λ n ks fits. step-reaches (stmt (inside n)) (onto p ks) ks ks (law n ks fits) (omega arith) (longer ks);
+  ready = first;
   no_mapping = other;
   no_worker = key;
 }
@@ -193,7 +211,7 @@ StmtsAt (p ∷ ps) = StmtAt p × StmtsAt ps
 
 pub stmts-ready : (ps : List Pieces) (ks : Kinds) → StmtsAt ps → Ready ks → Ready (onto (joined ps) ks)
 stmts-ready [] ks all r = r
-stmts-ready (p ∷ ps) ks all r = all.0.ready (onto (joined ps) ks) (stmts-ready ps ks all.1 r)
+stmts-ready (p ∷ ps) ks all r = all.0.ready (onto (joined ps) ks)
 
 pub stmts-go : (n : ℕ) (ps : List Pieces) (ks : Kinds) → StmtsAt ps → length (onto (joined ps) ks) < n → Ready ks → many length (stmt (inside n)) (onto (joined ps) ks) ≡ many length (stmt (inside n)) ks
 stmts-go n [] ks all fits r = refl
@@ -201,6 +219,16 @@ stmts-go n (p ∷ ps) ks all fits r =
     let zs = onto (joined ps) ks in
     let longer = onto-longer p zs in
     all.0.goes n zs fits (stmts-ready ps ks all.1 r) ∙ stmts-go n ps ks all.1 (omega arith) r
+
+-- whatever stands behind them, the loop passes over all of them
+pub stmts-reach : (n : ℕ) (ps : List Pieces) (ks : Kinds) → StmtsAt ps → length (onto (joined ps) ks) < n → length (many length (stmt (inside n)) (onto (joined ps) ks)) ≤ length ks
+stmts-reach n [] ks all fits = many-less length (stmt (inside n)) ks
+stmts-reach n (p ∷ []) ks all fits = all.0.reaches n ks fits
+stmts-reach n (p ∷ q ∷ ps) ks all fits =
+    let zs = onto (joined (q ∷ ps)) ks in
+    let longer = onto-longer p zs in
+    let less = stmts-reach n (q ∷ ps) ks all.1 (omega arith) in
+    let size = ap length (all.0.goes n zs fits (all.1.0.ready (onto (joined ps) ks))) in omega arith
 
 pub close-ready : (ks : Kinds) → Ready (SignKind CloseBrace ∷ ks)
 close-ready ks = record { no_else = refl; of_its_own = λ h. cc h }

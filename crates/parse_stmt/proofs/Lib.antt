@@ -15,5 +15,6 @@ pub mod StmtRolls
 pub mod TypesCalm
 pub mod ExprsCalm
 pub mod FileLaw
+pub mod StopLaw
 pub mod KnownAll
 pub mod FileAnswers

@@ -153,13 +153,13 @@ module _ (known : Known) where
 
   pub var-stmt : (at : Place) (w : Word) (value : Rhs) → rhs_is_formed value ≡ true → StmtAt (local_pieces (Var at) w value)
   var-stmt at w value g =
-      one-stmt (local_pieces (Var at) w value) (λ n ks fits r. local-law known (Var at) w value ks refl g)
+      one-stmt (local_pieces (Var at) w value) (λ n ks fits. local-law known (Var at) w value ks refl g)
       (λ ks. let l = onto-longer (word_pieces w & sign Equal & ended_pieces value) ks in omega arith)
       (λ ks. record { no_else = refl; of_its_own = λ h. cc h }) (λ ks. refl) (λ ks. refl)
 
   pub final-stmt : (t : LocalType) (w : Word) (value : Rhs) → local_type_is_formed t ≡ true → rhs_is_formed value ≡ true → StmtAt (key Final & local_pieces t w value)
   final-stmt t w value f g =
-      one-stmt (key Final & local_pieces t w value) (λ n ks fits r. local-law known t w value ks f g)
+      one-stmt (key Final & local_pieces t w value) (λ n ks fits. local-law known t w value ks f g)
       (λ ks. let l = onto-longer (local_pieces t w value) ks in omega arith)
       (λ ks. record { no_else = refl; of_its_own = λ h. cc h }) (λ ks. refl) (λ ks. refl)
 
@@ -173,29 +173,29 @@ module _ (known : Known) where
 
   pub ignore-stmt : (value : Rhs) → rhs_is_formed value ≡ true → StmtAt (sign Underscore & sign Equal & ended_pieces value)
   ignore-stmt value g =
-      one-stmt (sign Underscore & sign Equal & ended_pieces value) (λ n ks fits r. ended-law known value ks g)
+      one-stmt (sign Underscore & sign Equal & ended_pieces value) (λ n ks fits. ended-law known value ks g)
       (λ ks. let l = onto-longer (ended_pieces value) ks in omega arith)
       (λ ks. record { no_else = refl; of_its_own = λ h. cc h }) (λ ks. refl) (λ ks. refl)
 
   pub return-stmt : (value : Option Rhs) → value_is_formed value ≡ true → StmtAt (key Return & if_there rhs_pieces value & sign Semicolon)
   return-stmt None f =
-      one-stmt (key Return & if_there rhs_pieces None & sign Semicolon) (λ n ks fits r. refl) (λ ks. omega arith)
+      one-stmt (key Return & if_there rhs_pieces None & sign Semicolon) (λ n ks fits. refl) (λ ks. omega arith)
       (λ ks. record { no_else = refl; of_its_own = λ h. cc h }) (λ ks. refl) (λ ks. refl)
   return-stmt (Some value) f =
       one-stmt (key Return & rhs_pieces value & sign Semicolon)
-      (λ n ks fits r. ap (λ o. or_else o (ended (onto (ended_pieces value) ks))) (no-semicolon (onto (ended_pieces value) ks) (rhs-leads value ks)) ∙ ended-law known value ks f)
+      (λ n ks fits. ap (λ o. or_else o (ended (onto (ended_pieces value) ks))) (no-semicolon (onto (ended_pieces value) ks) (rhs-leads value ks)) ∙ ended-law known value ks f)
       (λ ks. let l = onto-longer (ended_pieces value) ks in omega arith)
       (λ ks. record { no_else = refl; of_its_own = λ h. cc h }) (λ ks. refl) (λ ks. refl)
 
   pub panic-stmt : (e : Expr) → expr_is_formed e false ≡ true → StmtAt (key Panic & expr_pieces e & sign Semicolon)
   panic-stmt e f =
       one-stmt (key Panic & expr_pieces e & sign Semicolon)
-      (λ n ks fits r. ap (λ o. o >>= take_sign Semicolon) (known.expr_before e Semicolon ks f refl))
+      (λ n ks fits. ap (λ o. o >>= take_sign Semicolon) (known.expr_before e Semicolon ks f refl))
       (λ ks. let l = onto-longer (expr_pieces e) (SignKind Semicolon ∷ ks) in omega arith)
       (λ ks. record { no_else = refl; of_its_own = λ h. cc h }) (λ ks. refl) (λ ks. refl)
 
   pub break-stmt : StmtAt (key Break & sign Semicolon)
-  break-stmt = one-stmt (key Break & sign Semicolon) (λ n ks fits r. refl) (λ ks. omega arith) (λ ks. record { no_else = refl; of_its_own = λ h. cc h }) (λ ks. refl) (λ ks. refl)
+  break-stmt = one-stmt (key Break & sign Semicolon) (λ n ks fits. refl) (λ ks. omega arith) (λ ks. record { no_else = refl; of_its_own = λ h. cc h }) (λ ks. refl) (λ ks. refl)
 
   pub continue-stmt : StmtAt (key Continue & sign Semicolon)
-  continue-stmt = one-stmt (key Continue & sign Semicolon) (λ n ks fits r. refl) (λ ks. omega arith) (λ ks. record { no_else = refl; of_its_own = λ h. cc h }) (λ ks. refl) (λ ks. refl)
+  continue-stmt = one-stmt (key Continue & sign Semicolon) (λ n ks fits. refl) (λ ks. omega arith) (λ ks. record { no_else = refl; of_its_own = λ h. cc h }) (λ ks. refl) (λ ks. refl)

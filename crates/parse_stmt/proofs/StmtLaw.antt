@@ -1,9 +1,9 @@
 -- The law at every statement, by induction.
-use Rattle.std.proofs.Common.{◌≡◌, ℕ, zero, suc, ◌<◌, ◌≤◌, Bool, true, false, ◌&&◌, List, [], ◌∷◌, map, length, Option, None, Some, refl, sym, ap, ◌∙◌, subst, arith}
+use Rattle.std.proofs.Common.{◌≡◌, ℕ, zero, suc, ◌<◌, ◌≤◌, Bool, true, false, ◌&&◌, List, [], ◌∷◌, map, length, Option, None, Some, refl, sym, ap, ◌∙◌, subst, arith, inl, inr}
 use Rattle.std.specs.List.{list_all}
 use Rattle.std.specs.Global.{Box}
-use Rattle.std.specs.Prelude.{is_some, not}
-use Rattle.std.proofs.lemmas.Bool.{false≢true}
+use Rattle.std.specs.Prelude.{is_some, not, nat_le, if◌then◌else◌, ◌⊎◌}
+use Rattle.std.proofs.lemmas.Bool.{false≢true, cases_Bool, leb-true}
 use Rattle.bal_base.specs.declared.token.TokenKind.TheVariants.{Keyword as KeywordKind, Sign as SignKind}
 use Rattle.bal_base.specs.declared.token.Keyword.TheVariants.{If as IfKey, Else as ElseKey, While as WhileKey, Match as MatchKey, In as InKey, Worker as WorkerKey}
 use Rattle.bal_base.specs.declared.token.Sign.TheVariants.{OpenBrace, CloseBrace, FatArrow, Bar}
@@ -25,31 +25,50 @@ use Rattle.bal_tree.specs.StmtLayers.{of_else, of_stmt, of_block, of_clause, of_
 use Rattle.bal_tree.specs.NamePieces.{word_pieces}
 use Rattle.bal_tree.specs.StmtPieces.{writing, local_type_pieces, range_pieces, stmt_pieces, else_pieces, if_pieces, block_pieces, clause_pieces, foreach_head as foreach_pieces, pattern_pieces}
 use Rattle.bal_tree.specs.StmtRules.{forming, stmt_is_formed, else_is_formed, if_is_formed, block_is_formed, clause_is_formed, are_formed, local_type_is_formed, target_is_formed, range_is_formed, value_is_formed, stands_alone, part_if_boxed}
-use Rattle.parse_types.specs.Loops.{◌>>=◌, many}
+use Rattle.parse_types.specs.Loops.{◌>>=◌, many, or_else}
 use Rattle.parse_types.specs.Tokens.{Kinds, take_key, take_sign}
 use Rattle.parse_types.proofs.Going.{many-stops, many-goes}
 use Rattle.parse_types.proofs.Law.{both_pass}
 use Rattle.parse_types.proofs.Onto.{onto-longer}
-use Rattle.parse_stmt.specs.Reaches.{begins_mapping, block, brace_stmt, clause, clauses, clauses as clauses_of, goes_on, is_followed, led, may_be_mapping, foreach_head, else_behind, else_if_there, else_or, if_stmt, inside, no_more, patterns, stmt}
-use Rattle.parse_stmt.proofs.Going.{Ready, StmtAt, StmtsAt, block-is, close-ready, no_more-passes, one-stmt, stmts-close, stmts-go}
+use Rattle.parse_stmt.specs.Reaches.{begins_mapping, block, brace_stmt, clause, clauses, clauses as clauses_of, goes_on, is_followed, led, may_be_mapping, foreach_head, else_behind, else_if_there, else_or, if_or_block, if_stmt, inside, no_more, patterns, stmt}
+use Rattle.parse_stmt.specs.Ahead.{semicolon}
+use Rattle.parse_stmt.proofs.Going.{Ready, StmtAt, StmtsAt, block-is, close-ready, led-less, no_more-passes, one-stmt, semicolon-less, step-reaches, stmts-close, stmts-go}
+use Rattle.parse_stmt.proofs.LedLaw.{led-end}
 use Rattle.parse_stmt.proofs.Known.{Known}
 use Rattle.parse_stmt.proofs.PlainLaw.{alone-stmt, assign-stmt, break-stmt, continue-stmt, declared-stmt, final-stmt, foreach-law, ignore-stmt, panic-stmt, patterns-law, return-stmt, var-stmt}
 use Rattle.parse_stmt.proofs.StmtRolls.{parts_of_else, parts_of_stmt, parts_of_block, parts_of_clause, parts_of_if_stmt, rolled-else, rolled-stmt, rolled-block, rolled-clause, rolled-if_stmt}
 
 -- ---- what is claimed of each kind of tree: `p` are its pieces
 
+-- it was read, and no more is left than this
+pub record Reaches (o : Option Kinds) (ks : Kinds) : Type 0 where
+  pub left : Kinds
+  pub is : o ≡ Some left
+  pub no_more : length left ≤ length ks
+
+-- what is read exactly is so
+reads-reach : (o : Option Kinds) (ks : Kinds) → o ≡ Some ks → Reaches o ks
+reads-reach o ks e = record { left = ks; is = e; no_more = omega arith }
+
+-- no mapping begins behind the brace, or its own brace is all that stands before what follows
+abbrev BeginsMapping : Kinds → Kinds → Type 0
+BeginsMapping zs ks = (begins_mapping zs ≡ false) ⊎ (zs ≡ SignKind CloseBrace ∷ ks)
+
 pub record BlockAt (p : Pieces) : Type 0 where
   pub reads : (n : ℕ) (ks : Kinds) → length (onto p ks) ≤ n → block (inside n) (onto p ks) ≡ Some ks
   pub opens : (ks : Kinds) → (zs : Kinds) × ((onto p ks ≡ SignKind OpenBrace ∷ zs) × (Ready ks → begins_mapping zs ≡ false))
+  pub begins : (ks : Kinds) → BeginsMapping (opens ks).0 ks
   pub longer : (ks : Kinds) → length ks < length (onto p ks)
 
 pub record IfAt (p : Pieces) : Type 0 where
   pub reads : (n : ℕ) (ks : Kinds) → length (onto p ks) ≤ n → take_key ElseKey ks ≡ None → if_stmt (inside n) (onto p ks) ≡ Some ks
+  pub reaches : (n : ℕ) (ks : Kinds) → length (onto p ks) ≤ n → Reaches (if_stmt (inside n) (onto p ks)) ks
   pub opens : (ks : Kinds) → (zs : Kinds) × (onto p ks ≡ KeywordKind IfKey ∷ zs)
   pub longer : (ks : Kinds) → length ks < length (onto p ks)
 
 pub record ElseAt (p : Pieces) : Type 0 where
   pub reads : (n : ℕ) (ks : Kinds) → length (onto p ks) < n → take_key ElseKey ks ≡ None → else_behind (inside n) (onto p ks) ≡ Some ks
+  pub reaches : (n : ℕ) (ks : Kinds) → length (onto p ks) < n → Reaches (else_behind (inside n) (onto p ks)) ks
 
 pub record ClauseAt (p : Pieces) : Type 0 where
   pub reads : (n : ℕ) (ks : Kinds) → length (onto p ks) ≤ n → clause (inside n) (onto p ks) ≡ Some ks
@@ -65,15 +84,57 @@ inside-if : (p : Pieces) → IfAt p → (n : ℕ) (ks : Kinds) → length (onto 
 inside-if p at zero ks fits e = absurd (omega arith)
 inside-if p at (suc n) ks fits e = let longer = onto-longer p ks in ap (no_more (onto p ks)) (at.reads n ks (omega arith) e) ∙ no_more-passes (onto p ks) ks longer
 
+reaching-if : (p : Pieces) → IfAt p → (n : ℕ) (ks : Kinds) → length (onto p ks) < n → Reaches (inside n true (onto p ks)) ks
+reaching-if p at zero ks fits = absurd (omega arith)
+reaching-if p at (suc n) ks fits =
+    let longer = onto-longer p ks in
+    let r = at.reaches n ks (omega arith) in
+    let less = r.no_more in
+    record { left = r.left; is = ap (no_more (onto p ks)) r.is ∙ no_more-passes (onto p ks) r.left (omega arith); no_more = r.no_more }
+
+-- ---- a block as a statement, whatever stands behind it
+
+-- a mapping that begins with its brace ends no earlier than the block
+brace-reaches : (n : ℕ) (p : Pieces) → BlockAt p → (ks zs : Kinds) → onto p ks ≡ SignKind OpenBrace ∷ zs → BeginsMapping zs ks → length (onto p ks) < n → Reaches (stmt (inside n) (onto p ks)) ks
+brace-reaches n p at ks zs opens (inl other) fits =
+    reads-reach (stmt (inside n) (onto p ks)) ks
+    (ap (stmt (inside n)) opens ∙ ap (λ b. brace_stmt (inside n) b (SignKind OpenBrace ∷ zs)) other ∙ ap (inside n false) (sym opens) ∙ inside-block p at n ks fits)
+brace-reaches n p at ks zs opens (inr empty) fits = test (begins_mapping zs) refl (led (SignKind OpenBrace ∷ zs)) refl
+  where
+    xs : Kinds
+    xs = SignKind OpenBrace ∷ zs
+
+    as-block : inside n false (SignKind OpenBrace ∷ zs) ≡ Some ks
+    as-block = ap (inside n false) (sym opens) ∙ inside-block p at n ks fits
+
+    test : (b : Bool) → begins_mapping zs ≡ b → (o : Option Kinds) → led (SignKind OpenBrace ∷ zs) ≡ o → Reaches (stmt (inside n) (onto p ks)) ks
+    test false is o e = reads-reach (stmt (inside n) (onto p ks)) ks (ap (stmt (inside n)) opens ∙ ap (λ b. brace_stmt (inside n) b (SignKind OpenBrace ∷ zs)) is ∙ as-block)
+    test true is None e =
+        reads-reach (stmt (inside n) (onto p ks)) ks
+        (ap (stmt (inside n)) opens ∙ ap (λ b. brace_stmt (inside n) b (SignKind OpenBrace ∷ zs)) is ∙ ap (λ o. or_else o (inside n false (SignKind OpenBrace ∷ zs))) e ∙ as-block)
+    test true is (Some left) e = record {
+      left = left;
+      is = ap (stmt (inside n)) opens ∙ ap (λ b. brace_stmt (inside n) b (SignKind OpenBrace ∷ zs)) is ∙ ap (λ o. or_else o (inside n false (SignKind OpenBrace ∷ zs))) e;
+      no_more =
+          let end : semicolon 0 (SignKind OpenBrace ∷ SignKind CloseBrace ∷ ks) ≡ Some left = sym (ap (λ ys. semicolon 0 (SignKind OpenBrace ∷ ys)) empty) ∙ led-end (SignKind OpenBrace ∷ zs) left e in
+          let less = semicolon-less 0 ks left end in omega arith;
+    }
+
 block-stmt : (p : Pieces) → BlockAt p → StmtAt p
-block-stmt p at =
-    one-stmt p
-    (λ n ks fits r.
-    let o = at.opens ks in
-    ap (stmt (inside n)) o.1.0 ∙ ap (λ b. brace_stmt (inside n) b (SignKind OpenBrace ∷ o.0)) (o.1.1 r) ∙ ap (inside n false) (sym o.1.0) ∙ inside-block p at n ks fits)
-    at.longer
-    (λ ks. let o = at.opens ks in subst Ready (sym o.1.0) record { no_else = refl; of_its_own = λ h. cc h })
-    (λ ks. let o = at.opens ks in ap may_be_mapping o.1.0) (λ ks. let o = at.opens ks in ap (take_key WorkerKey) o.1.0)
+block-stmt p at = record {
+  goes = λ n ks fits r.
+      let o = at.opens ks in
+      many-goes length (stmt (inside n)) (onto p ks) ks
+      (ap (stmt (inside n)) o.1.0 ∙ ap (λ b. brace_stmt (inside n) b (SignKind OpenBrace ∷ o.0)) (o.1.1 r) ∙ ap (inside n false) (sym o.1.0) ∙ inside-block p at n ks fits)
+      (at.longer ks);
+  reaches = λ n ks fits.
+      let o = at.opens ks in
+      let r = brace-reaches n p at ks o.0 o.1.0 (at.begins ks) fits in
+      step-reaches (stmt (inside n)) (onto p ks) ks r.left r.is r.no_more (at.longer ks);
+  ready = λ ks. let o = at.opens ks in subst Ready (sym o.1.0) record { no_else = refl; of_its_own = λ h. cc h };
+  no_mapping = λ ks. let o = at.opens ks in ap may_be_mapping o.1.0;
+  no_worker = λ ks. let o = at.opens ks in ap (take_key WorkerKey) o.1.0;
+}
 
 -- ---- clauses, one behind the other
 
@@ -109,6 +170,36 @@ block-opens [] ks all r = no-mapping ks r
 block-opens (p ∷ ps) ks all r =
     let xs = onto p (onto (joined ps) (SignKind CloseBrace ∷ ks)) in
     ap (λ c. c && not (is_followed xs)) (all.0.no_mapping (onto (joined ps) (SignKind CloseBrace ∷ ks)))
+
+block-begins : (ps : List Pieces) (ks : Kinds) → StmtsAt ps → BeginsMapping (onto (joined ps) (SignKind CloseBrace ∷ ks)) ks
+block-begins [] ks all = inr refl
+block-begins (p ∷ ps) ks all =
+    let xs = onto p (onto (joined ps) (SignKind CloseBrace ∷ ks)) in
+    inl (ap (λ c. c && not (is_followed xs)) (all.0.no_mapping (onto (joined ps) (SignKind CloseBrace ∷ ks))))
+
+-- ---- what stands behind `else`, where it is there, is passed over
+
+else-stays : (n : ℕ) (ks a : Kinds) (o : Option Kinds) → length a ≤ length ks → ((b : Kinds) → o ≡ Some b → length b ≤ length a) → Reaches (or_else o (Some ks)) ks
+else-stays n ks a None h less = record { left = ks; is = refl; no_more = omega arith }
+else-stays n ks a (Some b) h less = record { left = b; is = refl; no_more = let l = less b refl in omega arith }
+
+inside-less : (n : ℕ) (is_if : Bool) (ks b : Kinds) → inside n is_if ks ≡ Some b → length b ≤ length ks
+inside-less zero is_if ks b e = cc e
+inside-less (suc n) is_if ks b e = by (if_or_block (inside n) is_if ks) e
+  where
+    by : (o : Option Kinds) → no_more ks o ≡ Some b → length b ≤ length ks
+    by None e = cc e
+    by (Some a) e =
+        elim (cases_Bool (nat_le (length a) (length ks))) [
+          | inl below ↦ let same : Some a ≡ Some b = sym (ap (λ c. if c then Some a else None) below) ∙ e in let is : a ≡ b = cc same in let size = ap length is in let le = leb-true (length a) (length ks) below in omega arith
+          | inr above ↦ let bad : None ≡ Some b = sym (ap (λ c. if c then Some a else None) above) ∙ e in cc bad
+        ]
+
+else-if-reaches : (n : ℕ) (ks : Kinds) → Reaches (else_if_there (inside n) ks) ks
+else-if-reaches n [] = record { left = []; is = refl; no_more = omega arith }
+else-if-reaches n (KeywordKind ElseKey ∷ ks) = else-stays n (KeywordKind ElseKey ∷ ks) ks (else_behind (inside n) ks) (omega arith) (λ b e. inside-less n (is_some (take_key IfKey ks)) ks b e)
+else-if-reaches n (KeywordKind k ∷ ks) = record { left = KeywordKind k ∷ ks; is = refl; no_more = omega arith }
+else-if-reaches n (k ∷ ks) = record { left = k ∷ ks; is = refl; no_more = omega arith }
 
 -- ---- the claims
 
@@ -194,12 +285,22 @@ module _ (known : Known) where
         let at = s.1 (both_pass (if_is_formed s.0) true h).0 in
         let o = at.opens ks in
         ap (λ b. inside n b (onto (if_pieces s.0) ks)) (ap (λ xs. is_some (take_key IfKey xs)) o.1) ∙ inside-if (if_pieces s.0) at n ks fits e;
+    reaches = λ n ks fits.
+        let at = s.1 (both_pass (if_is_formed s.0) true h).0 in
+        let o = at.opens ks in
+        let r = reaching-if (if_pieces s.0) at n ks fits in
+        record { left = r.left; is = ap (λ b. inside n b (onto (if_pieces s.0) ks)) (ap (λ xs. is_some (take_key IfKey xs)) o.1) ∙ r.is; no_more = r.no_more };
   }
   else-layer (layer.«Else::Block» b) h = record {
     reads = λ n ks fits e.
         let at = b.1 (both_pass (block_is_formed b.0) true h).0 in
         let o = at.opens ks in
         ap (λ c. inside n c (onto (block_pieces b.0) ks)) (ap (λ xs. is_some (take_key IfKey xs)) o.1.0) ∙ inside-block (block_pieces b.0) at n ks fits;
+    reaches = λ n ks fits.
+        let at = b.1 (both_pass (block_is_formed b.0) true h).0 in
+        let o = at.opens ks in
+        reads-reach (else_behind (inside n) (onto (block_pieces b.0) ks)) ks
+        (ap (λ c. inside n c (onto (block_pieces b.0) ks)) (ap (λ xs. is_some (take_key IfKey xs)) o.1.0) ∙ inside-block (block_pieces b.0) at n ks fits);
   }
 
   block-layer : (y : Block-F AnElse AStmt ABlock AClause AnIf) → Layer_block y
@@ -211,6 +312,7 @@ module _ (known : Known) where
             block-is (inside n) (onto (joined ps) zs)
             ∙ ap (take_sign CloseBrace) (stmts-go n ps zs (stmts-at y.stmts.items h) (omega arith) (close-ready ks) ∙ stmts-close (inside n) ks);
         opens = λ ks. (onto (joined ps) (SignKind CloseBrace ∷ ks), (refl, λ r. block-opens ps ks (stmts-at y.stmts.items h) r));
+        begins = λ ks. block-begins ps ks (stmts-at y.stmts.items h);
         longer = λ ks. let l = onto-longer (joined ps) (SignKind CloseBrace ∷ ks) in omega arith;
       }
 
@@ -236,6 +338,7 @@ module _ (known : Known) where
   if-layer : (y : IfStmt-F AnElse AStmt ABlock AClause AnIf) → Layer_if_stmt y
   if-layer y h = record {
     reads = λ n ks fits e. reads n ks y.otherwise h fits e;
+    reaches = λ n ks fits. reaches n ks y.otherwise h fits;
     opens = λ ks. (_, refl);
     longer = λ ks. longer ks y.otherwise h;
   }
@@ -256,7 +359,37 @@ module _ (known : Known) where
           let l = onto-longer (expr_pieces y.condition.value) (onto (block_pieces y.then.0) zs) in
           let m = onto-longer (block_pieces y.then.0) zs in
           ap (λ o. o >>= inside n false >>= else_if_there (inside n)) (before-block y.condition.value (block_pieces y.then.0) zs b.0 at)
-          ∙ ap (λ o. o >>= else_if_there (inside n)) (inside-block (block_pieces y.then.0) at n zs (omega arith)) ∙ other.reads n ks (omega arith) e
+          ∙ ap (λ o. o >>= else_if_there (inside n)) (inside-block (block_pieces y.then.0) at n zs (omega arith)) ∙ ap (λ o. or_else o (Some zs)) (other.reads n ks (omega arith) e)
+
+      reaches : (n : ℕ) (ks : Kinds) (otherwise : Option (Box AnElse)) → forming.if_stmt (parts_of_if_stmt forming (firsts_of_if_stmt record { condition = y.condition; then = y.then; otherwise = otherwise; at = y.at })) ≡ true → length (onto (writing.if_stmt (parts_of_if_stmt writing (firsts_of_if_stmt record { condition = y.condition; then = y.then; otherwise = otherwise; at = y.at }))) ks) ≤ n → Reaches (if_stmt (inside n) (onto (writing.if_stmt (parts_of_if_stmt writing (firsts_of_if_stmt record { condition = y.condition; then = y.then; otherwise = otherwise; at = y.at }))) ks)) ks
+      reaches n ks None h fits =
+          let b = both_pass (expr_is_formed y.condition.value false) (block_is_formed y.then.0 && true) h in
+          let at = y.then.1 (both_pass (block_is_formed y.then.0) true b.1).0 in
+          let l = onto-longer (expr_pieces y.condition.value) (onto (block_pieces y.then.0) ks) in
+          let r = else-if-reaches n ks in
+          record {
+            left = r.left;
+            is =
+                ap (λ o. o >>= inside n false >>= else_if_there (inside n)) (before-block y.condition.value (block_pieces y.then.0) ks b.0 at)
+                ∙ ap (λ o. o >>= else_if_there (inside n)) (inside-block (block_pieces y.then.0) at n ks (omega arith)) ∙ r.is;
+            no_more = r.no_more;
+          }
+      reaches n ks (Some s) h fits =
+          let b = both_pass (expr_is_formed y.condition.value false) (block_is_formed y.then.0 && (else_is_formed s.value.0 && true)) h in
+          let c = both_pass (block_is_formed y.then.0) (else_is_formed s.value.0 && true) b.1 in
+          let at = y.then.1 c.0 in
+          let other = s.value.1 (both_pass (else_is_formed s.value.0) true c.1).0 in
+          let zs = KeywordKind ElseKey ∷ onto (else_pieces s.value.0) ks in
+          let l = onto-longer (expr_pieces y.condition.value) (onto (block_pieces y.then.0) zs) in
+          let m = onto-longer (block_pieces y.then.0) zs in
+          let r = other.reaches n ks (omega arith) in
+          record {
+            left = r.left;
+            is =
+                ap (λ o. o >>= inside n false >>= else_if_there (inside n)) (before-block y.condition.value (block_pieces y.then.0) zs b.0 at)
+                ∙ ap (λ o. o >>= else_if_there (inside n)) (inside-block (block_pieces y.then.0) at n zs (omega arith)) ∙ ap (λ o. or_else o (Some zs)) r.is;
+            no_more = r.no_more;
+          }
 
       longer : (ks : Kinds) (otherwise : Option (Box AnElse)) → forming.if_stmt (parts_of_if_stmt forming (firsts_of_if_stmt record { condition = y.condition; then = y.then; otherwise = otherwise; at = y.at })) ≡ true → length ks < length (onto (writing.if_stmt (parts_of_if_stmt writing (firsts_of_if_stmt record { condition = y.condition; then = y.then; otherwise = otherwise; at = y.at }))) ks)
       longer ks None h =
@@ -272,44 +405,51 @@ module _ (known : Known) where
   stmt-layer (layer.Local true t name value at) h =
       let b = both_pass (local_type_is_formed t) (rhs_is_formed value) (both_pass (local_type_is_formed t && rhs_is_formed value) true h).0 in
       let s = final-stmt known t name value b.0 b.1 in
-      record { goes = s.goes; ready = s.ready; no_mapping = s.no_mapping; no_worker = s.no_worker }
+      record { goes = s.goes; reaches = s.reaches; ready = s.ready; no_mapping = s.no_mapping; no_worker = s.no_worker }
   stmt-layer (layer.Local false (TypeOf t) name value at) h =
       let b = both_pass (local_type_is_formed (TypeOf t)) (rhs_is_formed value) (both_pass (local_type_is_formed (TypeOf t) && rhs_is_formed value) true h).0 in
       let s = declared-stmt known t.value name value b.0 b.1 in
-      record { goes = s.goes; ready = s.ready; no_mapping = s.no_mapping; no_worker = s.no_worker }
+      record { goes = s.goes; reaches = s.reaches; ready = s.ready; no_mapping = s.no_mapping; no_worker = s.no_worker }
   stmt-layer (layer.Local false (Var place) name value at) h =
       let b = both_pass (rhs_is_formed value) true h in
       let s = var-stmt known place name value b.0 in
-      record { goes = s.goes; ready = s.ready; no_mapping = s.no_mapping; no_worker = s.no_worker }
+      record { goes = s.goes; reaches = s.reaches; ready = s.ready; no_mapping = s.no_mapping; no_worker = s.no_worker }
   stmt-layer (layer.Assign target op value at) h =
       let b = both_pass (target_is_formed target) (rhs_is_formed value) (both_pass (target_is_formed target && rhs_is_formed value) true h).0 in
       let s = assign-stmt known target op value b.0 b.1 in
-      record { goes = s.goes; ready = s.ready; no_mapping = s.no_mapping; no_worker = s.no_worker }
+      record { goes = s.goes; reaches = s.reaches; ready = s.ready; no_mapping = s.no_mapping; no_worker = s.no_worker }
   stmt-layer (layer.Ignore value at) h =
       let s = ignore-stmt known value (both_pass (rhs_is_formed value) true h).0 in
-      record { goes = s.goes; ready = s.ready; no_mapping = s.no_mapping; no_worker = s.no_worker }
+      record { goes = s.goes; reaches = s.reaches; ready = s.ready; no_mapping = s.no_mapping; no_worker = s.no_worker }
   stmt-layer (layer.Rhs value at) h =
       let b = both_pass (stands_alone value) (rhs_is_formed value) (both_pass (stands_alone value && rhs_is_formed value) true h).0 in
       let s = alone-stmt known value b.0 b.1 in
-      record { goes = s.goes; ready = s.ready; no_mapping = s.no_mapping; no_worker = s.no_worker }
+      record { goes = s.goes; reaches = s.reaches; ready = s.ready; no_mapping = s.no_mapping; no_worker = s.no_worker }
   stmt-layer (layer.«Stmt::If» s) h =
       let at = s.1 (both_pass (if_is_formed s.0) true h).0 in
-      one-stmt (if_pieces s.0)
-      (λ n ks fits r. let o = at.opens ks in ap (stmt (inside n)) o.1 ∙ ap (if_stmt (inside n)) (sym o.1) ∙ at.reads n ks (omega arith) r.no_else)
-      at.longer
-      (λ ks. let o = at.opens ks in subst Ready (sym o.1) record { no_else = refl; of_its_own = λ h. cc h })
-      (λ ks. let o = at.opens ks in ap may_be_mapping o.1) (λ ks. let o = at.opens ks in ap (take_key WorkerKey) o.1)
+      record {
+        goes = λ n ks fits r.
+            let o = at.opens ks in
+            many-goes length (stmt (inside n)) (onto (if_pieces s.0) ks) ks (ap (stmt (inside n)) o.1 ∙ ap (if_stmt (inside n)) (sym o.1) ∙ at.reads n ks (omega arith) r.no_else) (at.longer ks);
+        reaches = λ n ks fits.
+            let o = at.opens ks in
+            let r = at.reaches n ks (omega arith) in
+            step-reaches (stmt (inside n)) (onto (if_pieces s.0) ks) ks r.left (ap (stmt (inside n)) o.1 ∙ ap (if_stmt (inside n)) (sym o.1) ∙ r.is) r.no_more (at.longer ks);
+        ready = λ ks. let o = at.opens ks in subst Ready (sym o.1) record { no_else = refl; of_its_own = λ h. cc h };
+        no_mapping = λ ks. let o = at.opens ks in ap may_be_mapping o.1;
+        no_worker = λ ks. let o = at.opens ks in ap (take_key WorkerKey) o.1;
+      }
   stmt-layer (layer.While condition body at) h =
       let b = both_pass (expr_is_formed condition.value false) (block_is_formed body.0 && true) h in
       let inner = body.1 (both_pass (block_is_formed body.0) true b.1).0 in
       let p = expr_pieces condition.value & block_pieces body.0 in
       let s = one-stmt (key WhileKey & p)
-      (λ n ks fits r.
+      (λ n ks fits.
       let l = onto-longer (expr_pieces condition.value) (onto (block_pieces body.0) ks) in
       ap (λ o. o >>= inside n false) (before-block condition.value (block_pieces body.0) ks b.0 inner) ∙ inside-block (block_pieces body.0) inner n ks (omega arith))
       (λ ks. let l = onto-longer p ks in omega arith)
       (λ ks. record { no_else = refl; of_its_own = λ h. cc h }) (λ ks. refl) (λ ks. refl) in
-      record { goes = s.goes; ready = s.ready; no_mapping = s.no_mapping; no_worker = s.no_worker }
+      record { goes = s.goes; reaches = s.reaches; ready = s.ready; no_mapping = s.no_mapping; no_worker = s.no_worker }
   stmt-layer (layer.Foreach t name from range body at) h =
       let b = both_pass (local_type_is_formed t && expr_is_formed from.value false && range_is_formed range) (block_is_formed body.0 && true) h in
       let c = both_pass (local_type_is_formed t && expr_is_formed from.value false) (range_is_formed range) b.0 in
@@ -317,14 +457,14 @@ module _ (known : Known) where
       let inner = body.1 (both_pass (block_is_formed body.0) true b.1).0 in
       let p = foreach_pieces t name from.value range in
       let s = one-stmt (p & block_pieces body.0)
-      (λ n ks fits r.
+      (λ n ks fits.
       let o = inner.opens ks in
       let l = onto-longer (local_type_pieces t & word_pieces name & key InKey & expr_pieces from.value & if_there range_pieces range) (onto (block_pieces body.0) ks) in
       ap (λ xs. foreach_head (onto p xs) >>= inside n false) o.1.0 ∙ ap (λ q. q >>= inside n false) (foreach-law known t name from.value range o.0 d.0 d.1 c.1)
       ∙ ap (λ xs. inside n false xs) (sym o.1.0) ∙ inside-block (block_pieces body.0) inner n ks (omega arith))
       (λ ks. let l = onto-longer p (onto (block_pieces body.0) ks) in let k = inner.longer ks in omega arith)
       (λ ks. record { no_else = refl; of_its_own = λ h. cc h }) (λ ks. refl) (λ ks. refl) in
-      record { goes = s.goes; ready = s.ready; no_mapping = s.no_mapping; no_worker = s.no_worker }
+      record { goes = s.goes; reaches = s.reaches; ready = s.ready; no_mapping = s.no_mapping; no_worker = s.no_worker }
   stmt-layer (layer.Match value list at) h = of_clauses list.items h
     where
       of_clauses : (cs : List AClause) → ((expr_is_formed value.value false && has_members (map clause_is_formed (map (λ e. e.0) cs))) && are_formed (map clause_is_formed (map (λ e. e.0) cs))) ≡ true → StmtAt (starts at & key MatchKey & expr_pieces value.value & sign OpenBrace & joined (map clause_pieces (map (λ e. e.0) cs)) & sign CloseBrace)
@@ -337,22 +477,22 @@ module _ (known : Known) where
           let all = clauses-at cs d.1 in
           let q = joined (clause_pieces c.0 ∷ map clause_pieces (map (λ e. e.0) cs)) in
           let s = one-stmt (key MatchKey & expr_pieces value.value & sign OpenBrace & q & sign CloseBrace)
-          (λ n ks fits r.
+          (λ n ks fits.
           let zs = onto q (SignKind CloseBrace ∷ ks) in
           let l = onto-longer (expr_pieces value.value) (SignKind OpenBrace ∷ zs) in
           ap (λ o. o >>= take_sign OpenBrace >>= clauses_of (inside n) >>= take_sign CloseBrace) (known.expr_before value.value OpenBrace zs f.0 refl)
           ∙ ap (λ o. o >>= take_sign CloseBrace) (clauses-law n (clause_pieces c.0) (map clause_pieces (map (λ e. e.0) cs)) ks one all (omega arith)))
           (λ ks. let l = onto-longer (expr_pieces value.value) (SignKind OpenBrace ∷ onto q (SignKind CloseBrace ∷ ks)) in let k = onto-longer q (SignKind CloseBrace ∷ ks) in omega arith)
           (λ ks. record { no_else = refl; of_its_own = λ h. cc h }) (λ ks. refl) (λ ks. refl) in
-          record { goes = s.goes; ready = s.ready; no_mapping = s.no_mapping; no_worker = s.no_worker }
+          record { goes = s.goes; reaches = s.reaches; ready = s.ready; no_mapping = s.no_mapping; no_worker = s.no_worker }
   stmt-layer (layer.Return value at) h =
       let s = return-stmt known value (both_pass (value_is_formed value) true h).0 in
-      record { goes = s.goes; ready = s.ready; no_mapping = s.no_mapping; no_worker = s.no_worker }
+      record { goes = s.goes; reaches = s.reaches; ready = s.ready; no_mapping = s.no_mapping; no_worker = s.no_worker }
   stmt-layer (layer.Panic value at) h =
       let s = panic-stmt known value.value (both_pass (expr_is_formed value.value false) true h).0 in
-      record { goes = s.goes; ready = s.ready; no_mapping = s.no_mapping; no_worker = s.no_worker }
-  stmt-layer (layer.Break at) h = let s = break-stmt known in record { goes = s.goes; ready = s.ready; no_mapping = s.no_mapping; no_worker = s.no_worker }
-  stmt-layer (layer.Continue at) h = let s = continue-stmt known in record { goes = s.goes; ready = s.ready; no_mapping = s.no_mapping; no_worker = s.no_worker }
+      record { goes = s.goes; reaches = s.reaches; ready = s.ready; no_mapping = s.no_mapping; no_worker = s.no_worker }
+  stmt-layer (layer.Break at) h = let s = break-stmt known in record { goes = s.goes; reaches = s.reaches; ready = s.ready; no_mapping = s.no_mapping; no_worker = s.no_worker }
+  stmt-layer (layer.Continue at) h = let s = continue-stmt known in record { goes = s.goes; reaches = s.reaches; ready = s.ready; no_mapping = s.no_mapping; no_worker = s.no_worker }
   stmt-layer (layer.«Stmt::Block» b) h = block-stmt (block_pieces b.0) (b.1 (both_pass (block_is_formed b.0) true h).0)
 
   -- ---- the whole

@@ -311,8 +311,9 @@ module _ (inner : Bool → Kinds → Option Kinds) where
   abbrev pub else_behind : Kinds → Option Kinds
   else_behind ks = inner (is_some (take_key If ks)) ks
 
+  -- where it doesn't read, the statement ends before `else`
   abbrev pub else_or : Option Kinds → Kinds → Option Kinds
-  else_or (Some a) ks = else_behind a
+  else_or (Some a) ks = or_else (else_behind a) (Some ks)
   else_or None ks = Some ks
 
   abbrev pub else_if_there : Kinds → Option Kinds
@@ -351,7 +352,7 @@ module _ (inner : Bool → Kinds → Option Kinds) where
   keyword_stmt k ks = led ks
 
   abbrev pub brace_stmt : Bool → Kinds → Option Kinds
-  brace_stmt true ks = led ks
+  brace_stmt true ks = or_else (led ks) (block_inside ks)
   brace_stmt false ks = block_inside ks
 
   abbrev pub stmt : Kinds → Option Kinds
@@ -464,6 +465,12 @@ module _ (n : ℕ) where
 
   abbrev pub def : Kinds → Option Kinds
   def ks = def_behind (else_stays (take_key Public ks) ks)
+
+-- ---- where the body of a function stops
+
+-- the signature of a function and the brace that opens its body
+abbrev pub body_front : Kinds → Option Kinds
+body_front ks = function_word (else_stays (take_key Public ks) ks) >>= params >>= result_if >>= take_sign OpenBrace
 
 -- ---- imports
 

@@ -1,15 +1,17 @@
 -- What is promised of the reader of files.
 use Rattle.std.specs.Global.{Box}
-use Rattle.std.specs.Prelude.{◌≡◌, ℕ, Bool, true, false, List, [], ◌∷◌, map, drop, Option, Some, None, Result, Ok, Err, MatchResult}
+use Rattle.std.specs.Prelude.{◌≡◌, ◌⊎◌, ◌≤◌, ◌&&◌, ℕ, Bool, true, false, List, [], ◌∷◌, length, map, drop, Option, Some, None, Result, Ok, Err, MatchResult}
 use Rattle.std.specs.List.{list_all}
 use Rattle.bal_base.specs.declared.fault.Fault.{Fault}
 use Rattle.bal_base.specs.declared.fault.FaultCode.TheVariants.{Depth, Syntax}
+use Rattle.bal_base.specs.declared.fault.Kept.TheVariants.{Count}
 use Rattle.bal_base.specs.declared.token.Token.{Token}
 use Rattle.bal_base.specs.Stops.{IfFault}
 use Rattle.bal_tree.specs.declared.def.Def.{Def}
 use Rattle.bal_tree.specs.declared.def.Import.{Import}
-use Rattle.bal_base.specs.declared.token.Keyword.TheVariants.{Public, «Type» as TypeKey, Const as ConstKey, Final as FinalKey, Isolated as IsolatedKey, Function as FunctionKey}
-use Rattle.bal_base.specs.declared.token.Sign.TheVariants.{Semicolon, Equal}
+use Rattle.bal_base.specs.declared.token.Keyword.TheVariants.{Public, «Type» as TypeKey, Const as ConstKey, Final as FinalKey, Isolated as IsolatedKey, Function as FunctionKey, Worker as WorkerKey}
+use Rattle.bal_base.specs.declared.token.TokenKind.TheVariants.{Keyword as KeywordKind, Sign as SignKind}
+use Rattle.bal_base.specs.declared.token.Sign.TheVariants.{Semicolon, Equal, OpenBrace, CloseBrace}
 use Rattle.bal_tree.specs.declared.action.Action.{Action}
 use Rattle.bal_tree.specs.declared.action.ActionOp.{ActionOp}
 use Rattle.bal_tree.specs.declared.action.Rhs.{Rhs}
@@ -36,7 +38,8 @@ use Rattle.bal_tree.specs.StmtPieces.{stmt_pieces, if_pieces, block_pieces, clau
 use Rattle.bal_tree.specs.StmtRules.{else_is_formed, stmt_is_formed, if_is_formed, block_is_formed, clause_is_formed}
 use Rattle.bal_tree.specs.TypePieces.{type_pieces, params_pieces, returning}
 use Rattle.bal_tree.specs.DefPieces.{def_pieces, import_pieces, worker_pieces, body_pieces}
-use Rattle.bal_tree.specs.DefRules.{def_is_formed, worker_is_formed}
+use Rattle.bal_tree.specs.DefRules.{def_is_formed, type_is_formed_if, worker_is_formed}
+use Rattle.bal_tree.specs.TypeRules.{params_are_formed}
 use Rattle.bal_tree.specs.Pieces.{Pieces, starts, ◌&◌, joined, key, key_if, sign, if_boxed}
 use Rattle.bal_tree.specs.Spells.{Spells, onto, kinds_of, first_place}
 use Rattle.parse_types.specs.Nesting.{first_too_deep}
@@ -45,6 +48,8 @@ use Rattle.bal_base.specs.declared.stop.Stop.{Stop}
 use Rattle.bal_base.specs.declared.stop.Stop.TheVariants.{Memory, Fault as FaultOf}
 use Rattle.bal_tree.specs.declared.def.FileTree.{FileTree}
 use Rattle.parse_types.specs.Tokens.{Kinds}
+use Rattle.parse_stmt.specs.declared.stops.Signature.{Signature}
+use denote.Ref.{Bor}
 
 -- a well-formed definition stands at the front of the tokens, and this is left behind it
 abbrev pub StartsDef : List Token → Kinds → Type 0
@@ -69,11 +74,56 @@ pub record BreaksAt (file : ℕ) (tokens rest : List Token) : Type 0 where
   pub no_def : (behind : Kinds) → StartsDef rest behind → ⊥
   pub no_import : defs ≡ [] → (behind : Kinds) → StartsImport rest behind → ⊥
 
+-- the signature of a function: what stands before its body
+abbrev pub signature_pieces : Signature → Pieces
+signature_pieces s =
+    key_if s.public Public & key_if s.isolated IsolatedKey & key FunctionKey & word_pieces s.name & params_pieces s.params
+    & if_boxed (λ t. returning (type_pieces t)) s.result
+
+abbrev pub signature_is_formed : Signature → Bool
+signature_is_formed s = params_are_formed s.params && type_is_formed_if s.result
+
+-- a function that has begun: its signature, the brace that opens its body, and these statements
+abbrev pub begun_pieces : Signature → List Stmt → Pieces
+begun_pieces s stmts = signature_pieces s & sign OpenBrace & joined (map stmt_pieces stmts)
+
+-- whole statements, none or more, stand in the body of a function, behind its signature and its brace
+pub record WithinBody (file : ℕ) (tokens rest : List Token) : Type 0 where
+  pub signature : Signature
+  pub stmts : List Stmt
+  pub signature_formed : signature_is_formed signature ≡ true
+  pub are_formed : list_all stmt_is_formed stmts ≡ true
+  pub spells : Spells file (begun_pieces signature stmts) tokens rest
+
+-- the tokens end, or what closes the body or begins a worker stands there
+abbrev pub ends_stmts : Kinds → Bool
+ends_stmts [] = true
+ends_stmts (SignKind CloseBrace ∷ ks) = true
+ends_stmts (KeywordKind WorkerKey ∷ ks) = true
+ends_stmts (k ∷ ks) = false
+
+-- The body of a function goes wrong at the first token of the rest: whole statements stand before it, as far as they can reach, and
+-- what stands there neither ends the body nor begins a worker.
+pub record StopsAt (file : ℕ) (tokens rest : List Token) : Type 0 where
+  pub within : WithinBody file tokens rest
+  pub is_last : (other : List Token) → WithinBody file tokens other → length rest ≤ length other
+  pub goes_on : ends_stmts (kinds_of rest) ≡ false
+
+-- what stands at the place is no statement
+abbrev pub no_stmt : Place → Fault
+no_stmt at = record { code = Syntax; at = Some at; kept = Count 1 }
+
+-- why a file is refused whose first definition that can't be read begins with these tokens: the body of the function that
+-- begins there goes wrong, or else that definition is none
+abbrev pub IsWrong : ℕ → List Token → Fault → Type 0
+IsWrong file tokens fault =
+    ((rest : List Token) × StopsAt file tokens rest × (fault ≡ no_stmt (first_place file rest)))
+    ⊎ (((rest : List Token) → StopsAt file tokens rest → ⊥) × (fault ≡ refusal Syntax (first_place file tokens)))
+
 -- no token is too deep, and it is refused where it goes wrong
 abbrev pub IsBroken : ℕ → List Token → Fault → Type 0
 IsBroken file tokens fault =
-    (first_too_deep (kinds_of tokens) ≡ None)
-    × ((rest : List Token) × BreaksAt file tokens rest × (fault ≡ refusal Syntax (first_place file rest)))
+    (first_too_deep (kinds_of tokens) ≡ None) × ((rest : List Token) × BreaksAt file tokens rest × IsWrong file rest fault)
 
 -- it is refused for its depth, at the first token of the file whose nesting passes the limit
 abbrev pub IsFileTooDeep : ℕ → List Token → Fault → Type 0
@@ -168,7 +218,19 @@ IsRefused (Ok t) fault = ⊥
 IsRefused (Err Memory) fault = Unit {0}
 IsRefused (Err (FaultOf f)) fault = f ≡ fault
 
--- the answer is the tree where nothing is left, else that the file goes wrong where the rest begins
+-- the place where the body of the function that begins with these tokens goes wrong, or that it doesn't
+abbrev pub IsStop : ℕ → List Token → Option (Bor (List Token)) → Type 0
+IsStop file tokens None = (rest : List Token) → StopsAt file tokens rest → ⊥
+IsStop file tokens (Some rest) = StopsAt file tokens rest.now
+
+-- it is refused so, unless memory ran out
+abbrev pub IsWrongOr : ℕ → List Token → Stop Fault → Type 0
+IsWrongOr file tokens Memory = Unit {0}
+IsWrongOr file tokens (FaultOf f) = IsWrong file tokens f
+
+-- the answer is the tree where nothing is left, else why the file is refused whose rest this is
 abbrev pub WholeOr : FileTree → ℕ → List Token → Result FileTree (Stop Fault) → Type 0
-WholeOr tree file rest result =
-    MatchResult result (λ t. (t ≡ tree) × (rest ≡ [])) (λ stop. (stop ≡ FaultOf (refusal Syntax (first_place file rest))) × (rest ≡ [] → ⊥))
+WholeOr tree file rest result = MatchResult result (λ t. (t ≡ tree) × (rest ≡ [])) (λ stop. (rest ≡ [] → ⊥) × IsWrongOr file rest stop)
+
+abbrev pub FrontReading : Signature → ℕ → List Token → List Token → Type 0
+FrontReading s = Reading (signature_is_formed s) (signature_pieces s & sign OpenBrace)

@@ -206,7 +206,7 @@ impl StmtReader {
     }
 
     /// `returns T`, if it is there.
-    fn result_if_there(
+    pub(crate) fn result_if_there(
         self,
         tokens: &[Token],
     ) -> Result<(Option<Box<TypeTree>>, &[Token]), Stop<Missing>>

@@ -8,6 +8,7 @@
 //! | `files` | the imports and the definitions of a file, as many as read |
 //! | `imports` | an import |
 //! | `defs` | a definition: a type, a constant, a variable, a function with its workers |
+//! | `stops` | where a function that cannot be read goes wrong |
 //! | `stmts` | statements and blocks: which form begins here, and those that hold blocks |
 //! | `plain` | statements without blocks that begin with a word of the language or `_`, and what stands before a block |
 //! | `led` | statements that begin with a type or an expression |
@@ -26,7 +27,7 @@ ghost use Rattle.bal_tree.specs.Reads.{Reads};
 ghost use Rattle.bal_tree.specs.Spells.{kinds_of};
 ghost use Rattle.parse_types.specs.Nesting as nesting_spec;
 ghost use Rattle.bal_base.specs.Stops.{IfFault};
-ghost use Rattle.parse_stmt.specs.Starts.{IsBroken, IsFileTooDeep, IsNotRefused, IsRefused, WholeOr};
+ghost use Rattle.parse_stmt.specs.Starts.{IsBroken, IsFileTooDeep, IsNotRefused, IsRefused};
 
 mod actions;
 mod ahead;
@@ -39,6 +40,7 @@ mod patterns;
 mod plain;
 mod reader;
 mod stmts;
+mod stops;
 
 use crate::reader::StmtReader;
 use bal_base::{Fault, FaultCode, Stop, Token};
@@ -48,8 +50,10 @@ use std::alloc::Global;
 
 /// The tree of a file whose tokens these are. `file` is the file's number in the places.
 ///
-/// `Depth` is answered at the first token that is nested too deeply; else `Syntax` where the file goes wrong: at the first token
-/// that begins no definition, behind whole imports and definitions, and where no definition stands before it, no import either.
+/// `Depth` is answered at the first token that is nested too deeply; else `Syntax` where the file goes wrong. That is at the first
+/// token that begins no definition, behind whole imports and definitions, and where no definition stands before it, no import
+/// either. Where a function's signature and brace stand there, it is behind the whole statements in its body, as many as can be,
+/// if neither the file nor the statements end with them; the fault keeps the count 1 then.
 pub fn parse_file(alloc: Global, file: u32, tokens: &[Token]) -> Result<FileTree, Stop<Fault>>
     ensures reads { IfOk result (λ t. Reads file tokens.now t) }
     ensures not_deep { IfOk result (λ t. nesting_spec.first_too_deep (kinds_of tokens.now) ≡ None) }
@@ -67,15 +71,5 @@ pub fn parse_file(alloc: Global, file: u32, tokens: &[Token]) -> Result<FileTree
     }
     let reader = StmtReader { alloc, file };
     let (tree, rest) = reader.file_front(tokens)?;
-    whole(file, tree, rest)
-}
-
-/// The tree, where nothing is left behind it.
-fn whole(file: u32, tree: FileTree, rest: &[Token]) -> Result<FileTree, Stop<Fault>>
-    ensures { WholeOr tree file rest.now result }
-{
-    if !rest.is_empty() {
-        return Err(refused(FaultCode::Syntax, place(file, rest)));
-    }
-    Ok(tree)
+    reader.whole(tree, rest)
 }

@@ -96,15 +96,32 @@ impl StmtReader {
         match &first.kind {
             TokenKind::Keyword(k) => self.keyword_stmt(room, *k, tokens),
             TokenKind::Sign(Sign::OpenBrace) => {
-                if self.begins_mapping(rest)? {
-                    return self.led(tokens);
-                }
-                let (block, rest) = self.inner_block(room, tokens)?;
-                Ok((Stmt::Block(block), rest))
+                let mapping = self.begins_mapping(rest)?;
+                self.brace_stmt(room, mapping, tokens)
             }
             TokenKind::Sign(Sign::Underscore) => self.ignore(tokens),
             _ => self.led(tokens),
         }
+    }
+
+    /// A statement that begins with `{`: one that begins with a mapping, if one may stand here and does, or else a block.
+    #[cycle(stmts)]
+    fn brace_stmt(
+        self,
+        room: usize,
+        mapping: bool,
+        tokens: &[Token],
+    ) -> Result<(Stmt, &[Token]), Stop<Missing>>
+        ensures end { Leaves (spec.brace_stmt (spec.inside room) mapping (kinds_of tokens.now)) result }
+        ensures reads { IfOk result (λ r. StmtReading r.0 self.file tokens.now r.1.now) }
+    {
+        if mapping {
+            if let Some(found) = optional(self.led(tokens))? {
+                return Ok(found);
+            }
+        }
+        let (block, rest) = self.inner_block(room, tokens)?;
+        Ok((Stmt::Block(block), rest))
     }
 
     /// A statement whose first token is this word of the language.
@@ -150,7 +167,7 @@ impl StmtReader {
         Ok((IfStmt::new(condition, then, otherwise, at), rest))
     }
 
-    /// `else` and what stands behind it, if it is there.
+    /// `else` and what stands behind it, if both are there.
     #[cycle(stmts)]
     fn else_if_there(
         self,
@@ -165,8 +182,10 @@ impl StmtReader {
         let Some(behind) = after_key(tokens, Keyword::Else) else {
             return Ok((None, tokens));
         };
-        let (e, rest) = self.else_behind(room, behind)?;
-        Ok((Some(e), rest))
+        match optional(self.else_behind(room, behind))? {
+            Some((e, rest)) => Ok((Some(e), rest)),
+            None => Ok((None, tokens)),
+        }
     }
 
     /// What stands behind `else`.

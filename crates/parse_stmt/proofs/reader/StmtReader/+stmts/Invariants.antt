@@ -24,6 +24,9 @@ decreases-stmts l = l.room * 16 + 12
 abbrev pub decreases-stmt : goal.decreases-stmt
 decreases-stmt l = l.room * 16 + 10
 
+abbrev pub decreases-brace_stmt : goal.decreases-brace_stmt
+decreases-brace_stmt l = l.room * 16 + 8
+
 abbrev pub decreases-keyword_stmt : goal.decreases-keyword_stmt
 decreases-keyword_stmt l = l.room * 16 + 8
 
