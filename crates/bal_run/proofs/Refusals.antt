@@ -6,6 +6,8 @@ use Rattle.bal_base.specs.declared.fault.FaultCode.{FaultCode}
 use Rattle.bal_base.specs.declared.fault.FaultCode.TheVariants.{NotUtf8, BadToken, Syntax, Depth, LeftOut, NotBuilt, NoMain}
 use Rattle.bal_base.specs.declared.fault.Refusal.{Refusal}
 use Rattle.bal_base.specs.declared.place.Place.{Place}
+use Rattle.bal_base.specs.declared.token.Token.{Token}
+use Rattle.parse_stmt.specs.Starts.{IsWrong}
 use Rattle.bal_lexer.specs.Lexes.{RefusesFrom, left_out, bad_token, past_gap, past_token}
 use Rattle.bal_run.specs.Due.{MainIsRefused}
 use Rattle.bal_run.specs.Files.{Files, HasNoMain, IsRefusalOf}
@@ -33,6 +35,10 @@ refused-code (past_token at text slice after kind code place b r) = refused-code
 by-code : (bytes : List ℕ) (fault : Fault) (code : FaultCode) → fault.code ≡ code → AtCode bytes fault code → AtCode bytes fault fault.code
 by-code bytes fault code e h = subst (AtCode bytes fault) (sym e) h
 
+wrong-code : (file : ℕ) (tokens : List Token) (fault : Fault) → IsWrong file tokens fault → fault.code ≡ Syntax
+wrong-code file tokens fault (inl (stop, at, e)) = ap (λ (f : Fault). f.code) e
+wrong-code file tokens fault (inr (never, e)) = ap (λ (f : Fault). f.code) e
+
 at-code : (bytes : List ℕ) (fault : Fault) → HasFault bytes fault → AtCode bytes fault fault.code
 at-code bytes fault (inl (inl h)) = by-code bytes fault Syntax (ap (λ (f : Fault). f.code) h.1) (inl h)
 at-code bytes fault (inl (inr (inl h))) = by-code bytes fault NotUtf8 (ap (λ (f : Fault). f.code) h.2) h
@@ -40,7 +46,7 @@ at-code bytes fault (inl (inr (inr (inl h)))) =
     let is : fault.code ≡ h.1.0 = ap (λ (f : Fault). f.code) h.1.3 in
     ⊎_elim (λ bad. by-code bytes fault BadToken (is ∙ bad) h) (λ out. by-code bytes fault LeftOut (is ∙ out) h) (refused-code h.1.2)
 at-code bytes fault (inl (inr (inr (inr (inl h))))) = by-code bytes fault Depth (ap (λ (f : Fault). f.code) h.2.2) h
-at-code bytes fault (inl (inr (inr (inr (inr h))))) = by-code bytes fault Syntax (ap (λ (f : Fault). f.code) h.2.1.2) (inr h)
+at-code bytes fault (inl (inr (inr (inr (inr h))))) = by-code bytes fault Syntax (wrong-code 0 h.2.1.0 fault h.2.1.2) (inr h)
 at-code bytes fault (inr (inl h)) = by-code bytes fault NoMain (ap (λ (f : Fault). f.code) h.1) h
 at-code bytes fault (inr (inr h)) = by-code bytes fault NotBuilt (ap (λ (f : Fault). f.code) h.1) h
 

@@ -18,7 +18,7 @@ use Rattle.parse_types.specs.Nesting.{first_too_deep}
 use Rattle.parse_types.specs.Starts.{refusal}
 use Rattle.bal_base.specs.declared.fault.FaultCode.TheVariants.{Depth, NoMain, NotBuilt}
 use Rattle.bal_tree.specs.Spells.{first_place}
-use Rattle.parse_stmt.specs.Starts.{IsBroken, IsFileTooDeep, IsNotRefused, IsRefused, front_pieces}
+use Rattle.parse_stmt.specs.Starts.{IsBroken, IsFileTooDeep, IsNotRefused, IsRefused, IsWrong, begun_pieces, front_pieces}
 use Rattle.bal_run.specs.Source.{HasFault, HasNoTree, HasTokens, IsPlaced, IsText, LacksMain, NotText, NotTokens, ReadsAs, TooLong, fault_at, fault_of}
 use Rattle.bal_tree.specs.declared.def.Def.{Def}
 use Rattle.bal_tree.specs.declared.def.Def.TheVariants.{Function}
@@ -120,11 +120,14 @@ module _ (text : List ℕ) (t : IsText text) where
     are-tokens : AreSpans text 0 tokens → AreTokens text tokens
     are-tokens h = of-spans text 0 tokens h
 
+    wrong-placed : (rest : List Token) (f : FaultOf) → AreTokens text rest → IsWrong 0 rest f → IsPlaced text f
+    wrong-placed rest f here (inl (stop, at, e)) = subst (IsPlaced text) (sym e) (first-placed text stop t.1 small (behind-pieces text 0 (begun_pieces at.within.signature at.within.stmts) rest stop at.within.spells here))
+    wrong-placed rest f here (inr (never, e)) = subst (IsPlaced text) (sym e) (first-placed text rest t.1 small here)
+
     parsed-placed : (f : FaultOf) → AreSpans text 0 tokens → IsFileTooDeep 0 tokens f ⊎ IsBroken 0 tokens f → IsPlaced text f
     parsed-placed f spans (inl d) =
         subst (IsPlaced text) (sym d.2) (first-placed text (drop d.0 tokens) t.1 small (behind-some text d.0 tokens (are-tokens spans)))
-    parsed-placed f spans (inr b) =
-        subst (IsPlaced text) (sym b.1.2) (first-placed text b.1.0 t.1 small (behind-pieces text 0 (front_pieces b.1.1.imports b.1.1.defs) tokens b.1.0 b.1.1.spells (are-tokens spans)))
+    parsed-placed f spans (inr b) = wrong-placed b.1.0 f (behind-pieces text 0 (front_pieces b.1.1.imports b.1.1.defs) tokens b.1.0 b.1.1.spells (are-tokens spans)) b.1.2
 
     pub parses :
         (r : Result FileTree (Stop FaultOf)) → AreSpans text 0 tokens → IfOk r (Reads 0 tokens)
