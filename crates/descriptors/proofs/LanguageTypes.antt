@@ -15,7 +15,8 @@ use Rattle.type_model.specs.Defined.{NamesBelow}
 use Rattle.type_model.specs.Inclusion.{HasExactly}
 use Rattle.type_model.specs.Membership.{CasesMap, EachIn, Fits, In, Maps, MembersIn}
 use Rattle.type_model.proofs.Same.{both, either, itself}
-use Rattle.descriptors.specs.Described.{AreAnydata, HoldAnydata, IsAnydata, IsIsolatedFunction, least_int, plain}
+use Rattle.type_model.specs.Anydata.{AreAnydata, IsAnydata, MembersAreAnydata}
+use Rattle.descriptors.specs.Described.{IsIsolatedFunction, least_int, plain}
 use Rattle.descriptors.specs.Language.{IsAnydataOver, IsEverything, IsSimple}
 
 pub then-same : {A B C : Type 0} → A ↔ B → B ↔ C → A ↔ C
@@ -54,7 +55,7 @@ module _ (env : List AtomDef) (l m : ℕ) (s t : SemType) (at_l : slice_get env 
       λ a. inr (inl ((lists (List' mark w items)).1 (omega arith, same.1 a))),
     )
     by_parts (Mapping' mark w fs) v = let same = fields_are _ fs v.3 in (
-      parts (Mapping' mark w fs) (HoldAnydata fs) (λ a. absurd a) (λ f. absurd f) (λ g. same.0 g.1),
+      parts (Mapping' mark w fs) (MembersAreAnydata fs) (λ a. absurd a) (λ f. absurd f) (λ g. same.0 g.1),
       λ a. inr (inr ((mappings (Mapping' mark w fs)).1 (All-nil _, same.1 a))),
     )
     by_parts (Error' w detail) v = (parts (Error' w detail) ⊥ (λ a. a) (λ f. f) (λ g. g), λ a. absurd a)
@@ -65,7 +66,7 @@ module _ (env : List AtomDef) (l m : ℕ) (s t : SemType) (at_l : slice_get env 
     items_are n end_of-Shape k v = itself
     items_are n (more_of-Shape x xs) k v = both (then-same (members.shapes env x v.0) (by_parts x v.0)) (items_are _ xs (k + 1) v.1)
 
-    fields_are : (n : _) (row : Row_of-Field n) → FieldsValid row → MembersIn env row [] (Some (plain t)) ↔ HoldAnydata row
+    fields_are : (n : _) (row : Row_of-Field n) → FieldsValid row → MembersIn env row [] (Some (plain t)) ↔ MembersAreAnydata row
     fields_are n end_of-Field v = itself
     fields_are n (more_of-Field key x xs) v = both (then-same (fields.shapes env x v.0) (by_parts x v.0)) (fields_are _ xs v.1)
 

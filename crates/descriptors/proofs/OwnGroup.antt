@@ -21,7 +21,8 @@ use Rattle.checks.specs.Checks.{Comes, gives_some}
 use Rattle.checks.specs.Questions.{adds}
 use Rattle.checks.proofs.Steps.{goes_on, some_is, stops}
 use Rattle.descriptors.specs.declared.names.OwnTypes.{OwnTypes}
-use Rattle.descriptors.specs.Described.{IsAnydata, IsIsolatedFunction, IsPlain, plain}
+use Rattle.type_model.specs.Anydata.{IsAnydata}
+use Rattle.descriptors.specs.Described.{IsIsolatedFunction, IsPlain, plain}
 use Rattle.descriptors.specs.Language.{AreOver, IsAnydataOver, IsEverything, IsOwnGroup, own_types}
 use Rattle.descriptors.specs.Steps.{AreOwnTypes}
 use Rattle.descriptors.proofs.LanguageTypes.{all-isolated, all-lists, all-mappings, at-atom, is-anydata, then-same}

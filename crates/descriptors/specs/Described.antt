@@ -8,7 +8,7 @@ use Rattle.bal_base.specs.declared.fault.FaultCode.TheVariants.{Duplicate}
 use Rattle.bal_base.specs.declared.fault.Kept.TheVariants.{Nothing}
 use Rattle.bal_base.specs.declared.place.Place.{Place}
 use Rattle.bal_base.specs.declared.text.Text.{Text}
-use Rattle.bal_base.specs.declared.shape.Shape.{Shape, Nil, Bool as BoolShape, Int, Str, List', Mapping', Error', Function, Future', Row_of-Shape, end_of-Shape, more_of-Shape, Row_of-Fields-items-2 as Row_of-Field, end_of-Fields-items-2 as end_of-Field, more_of-Fields-items-2 as more_of-Field}
+use Rattle.bal_base.specs.declared.shape.Shape.{Shape, Nil, Bool as BoolShape, Int, Str, List', Mapping', Error', Function, Future'}
 use Rattle.bal_tree.specs.declared.name.ConstValue.{ConstValue}
 use Rattle.bal_tree.specs.declared.name.ConstValue.TheVariants.{Literal as LiteralValue, Negative as NegativeValue}
 use Rattle.bal_tree.specs.declared.name.Literal.{Literal}
@@ -24,6 +24,7 @@ use Rattle.type_model.specs.declared.basic.BasicSet.TheVariants.{Nil as NilOnly,
 use Rattle.type_model.specs.declared.basic.Choice.{Choice}
 use Rattle.type_model.specs.declared.basic.SemType.{SemType, Basic, Atom}
 use Rattle.type_model.specs.declared.basic.Ty.{Ty}
+use Rattle.type_model.specs.Anydata.{IsAnydata}
 use Rattle.type_model.specs.Basic.{InBasic}
 use Rattle.type_model.specs.Inclusion.{HasExactly}
 use Rattle.type_model.specs.Membership.{In}
@@ -108,27 +109,6 @@ rewritten t = gives_some (IsRewritten t)
 
 abbrev pub least_int : ℤ
 least_int = negsuc greatest_int
-
--- nil, booleans, ints, strings, and lists and mappings of anydata
-abbrev mutual
-  pub IsAnydata : Shape → Type 0
-  IsAnydata Nil = ⊤
-  IsAnydata (BoolShape b) = ⊤
-  IsAnydata (Int i) = ⊤
-  IsAnydata (Str t) = ⊤
-  IsAnydata (List' mark _ items) = AreAnydata items
-  IsAnydata (Mapping' mark _ fields) = HoldAnydata fields
-  IsAnydata (Error' _ detail) = ⊥
-  IsAnydata (Function isolated graph) = ⊥
-  IsAnydata (Future' _ results) = ⊥
-
-  pub AreAnydata : {n : _} → Row_of-Shape n → Type 0
-  AreAnydata end_of-Shape = ⊤
-  AreAnydata (more_of-Shape x rest) = IsAnydata x × AreAnydata rest
-
-  pub HoldAnydata : {n : _} → Row_of-Field n → Type 0
-  HoldAnydata end_of-Field = ⊤
-  HoldAnydata (more_of-Field key x rest) = IsAnydata x × HoldAnydata rest
 
 abbrev pub IsIsolatedFunction : Shape → Type 0
 IsIsolatedFunction Nil = ⊥

@@ -17,7 +17,8 @@ use Rattle.checks.specs.Checks.{Check, Comes}
 use Rattle.descriptors.specs.declared.names.Names.{Names}
 use Rattle.descriptors.specs.declared.names.OwnTypes.{OwnTypes}
 use Rattle.descriptors.specs.declared.names.Scope.{Scope}
-use Rattle.descriptors.specs.Described.{Atoms, IsPlain, IsAnydata, IsIsolatedFunction, plain}
+use Rattle.type_model.specs.Anydata.{IsAnydata}
+use Rattle.descriptors.specs.Described.{Atoms, IsPlain, IsIsolatedFunction, plain}
 use Rattle.descriptors.specs.Naming.{type_named}
 
 -- the call is the check, types keep their shapes, and what it gives is defined over the atoms that are there then

@@ -6,6 +6,7 @@ use Rattle.bal_base.specs.declared.shape.Case.{Case}
 use Rattle.bal_base.specs.Shapes.{graph_list}
 use Rattle.bal_base.specs.Valid.{IsFrozen, IsMarkedMapping}
 use Rattle.type_model.specs.declared.basic.BasicSet.TheVariants.{StringAll, ListAll, MappingAll, ErrorAll, FunctionAll, FutureAll, Readonly}
+use Rattle.type_model.specs.Anydata.{IsAnydata}
 use Rattle.type_model.specs.Basic.{InBasic}
 
 abbrev pub IsNil : Shape → Type 0
@@ -37,27 +38,6 @@ IsFuture x = InBasic x FutureAll
 
 abbrev pub IsReadonly : Shape → Type 0
 IsReadonly x = InBasic x Readonly
-
--- nil, booleans, ints, strings, lists and mappings of anydata
-abbrev mutual
-  pub IsAnydata : Shape → Type 0
-  IsAnydata Nil = ⊤
-  IsAnydata (BoolShape b) = ⊤
-  IsAnydata (Int i) = ⊤
-  IsAnydata (Str t) = ⊤
-  IsAnydata (List' mark _ items) = AreAnydata items
-  IsAnydata (Mapping' mark _ fields) = MembersAreAnydata fields
-  IsAnydata (Error' _ detail) = ⊥
-  IsAnydata (Function isolated graph) = ⊥
-  IsAnydata (Future' _ results) = ⊥
-
-  pub AreAnydata : {n : _} → Row_of-Shape n → Type 0
-  AreAnydata end_of-Shape = ⊤
-  AreAnydata (more_of-Shape x rest) = IsAnydata x × AreAnydata rest
-
-  pub MembersAreAnydata : {n : _} → Row_of-Field n → Type 0
-  MembersAreAnydata end_of-Field = ⊤
-  MembersAreAnydata (more_of-Field key x rest) = IsAnydata x × MembersAreAnydata rest
 
 -- what may be sent to another worker: anydata, or what can't change
 abbrev pub IsSendable : Shape → Type 0

@@ -8,7 +8,8 @@ use Rattle.type_model.specs.Membership.{In}
 use Rattle.type_model.specs.Parts.{StandsAt}
 use Rattle.operations.specs.declared.library.LibraryCall.{LibraryCall}
 use Rattle.operations.specs.declared.library.LibraryCall.TheVariants.{Println, Print, Readln, FromString, Abs, ToString, Clone, CloneReadOnly, StringLength, StartsWith, Trim, Substring, ToUpperAscii, ToLowerAscii, ToCodePointInts, ListLength, Push, Pop, RemoveItem, Slice, Reverse, MappingLength, Keys, HasKey, Get, RemoveKey, Message, Cause, Detail}
-use Rattle.operations.specs.Kinds.{IsAnydata, IsBoolean, IsDetail, IsError, IsImmutableData, IsInteger, IsList, IsMapping, IsNil, IsString}
+use Rattle.type_model.specs.Anydata.{IsAnydata}
+use Rattle.operations.specs.Kinds.{IsBoolean, IsDetail, IsError, IsImmutableData, IsInteger, IsList, IsMapping, IsNil, IsString}
 use Rattle.operations.specs.Rows.{IsWithin, NoOperand, One, OneAndMore, ResultHas, Three, Two}
 use Rattle.operations.specs.Structures.{IsListAtom}
 

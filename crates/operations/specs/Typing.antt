@@ -8,7 +8,8 @@ use Rattle.type_model.specs.Membership.{In}
 use Rattle.type_model.specs.Parts.{StandsAt}
 use Rattle.operations.specs.declared.operation.Operation.{Operation}
 use Rattle.operations.specs.declared.operation.Operation.TheVariants.{Const, Load, Store, Pop, LoadModule, StoreModule, Tick, Add, Subtract, Multiply, Divide, Remainder, Negate, Concat, Less, LessEqual, Not, Equal, Same, MakeList, MakeMapping, MakeError, MakeFunction, GetItem, GetKey, GetChar, GetField, GetOptional, SetItem, SetKey, Test, Cast, Call, CallValue, Library, Return, Panic, Start, StartValue, Workers, Send, Post, Done, Receive, Flush, WaitWorker, WaitFuture, WaitAny, WaitAll}
-use Rattle.operations.specs.Kinds.{HasMember, IsAnydata, IsBoolean, IsError, IsErrorOf, IsFunction, IsFuture, IsFutureOf, IsImmutableData, IsInteger, IsList, IsMapping, IsNil, IsSendable, IsString}
+use Rattle.type_model.specs.Anydata.{IsAnydata}
+use Rattle.operations.specs.Kinds.{HasMember, IsBoolean, IsError, IsErrorOf, IsFunction, IsFuture, IsFutureOf, IsImmutableData, IsInteger, IsList, IsMapping, IsNil, IsSendable, IsString}
 use Rattle.operations.specs.Rows.{AreBelow, InPairs, IsWithin, MayGive, NeverFails, NoOperand, NoResult, One, OneAndMore, ResultHas, Signature, StandsAtIndex, StandsAtKey, Surroundings, Three, Two, shape_of}
 use Rattle.operations.specs.Structures.{AwaitsAll, AwaitsAny, GivenByFuture, GivenByWorker, IsDetailOf, IsListAtom, IsMade, IsMappingAtom, ItemsFit, MayStandIn, MemberFits, NamesRequired}
 use Rattle.operations.specs.LibraryTyping.{LibraryTyped}

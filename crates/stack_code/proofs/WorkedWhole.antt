@@ -4,13 +4,14 @@ use Rattle.std.specs.Prelude.{All, Any, ◌⊎◌, IsSomeAnd, get_or, option_to_
 use Rattle.bal_base.specs.declared.shape.Shape.{Shape, Nil as NilShape, Bool as BoolShape, Int, Str, List', Mapping', Error', Function, Future'}
 use Rattle.bal_base.specs.Valid.{IsValid}
 use Rattle.type_model.specs.declared.basic.SemType.{SemType}
+use Rattle.type_model.specs.Anydata.{IsAnydata}
 use Rattle.type_model.specs.Defined.{DefBelow, IsDefined}
 use Rattle.type_model.specs.Membership.{In}
 use Rattle.type_model.specs.Places.{HasDistinctFields}
 use Rattle.operations.specs.declared.operation.Constant.TheVariants.{Nil, Int as IntConstant}
 use Rattle.operations.specs.declared.operation.Operation.{Operation}
 use Rattle.operations.specs.declared.operation.Operation.TheVariants as op
-use Rattle.operations.specs.Kinds.{IsAnydata, IsError, IsNil, IsSendable}
+use Rattle.operations.specs.Kinds.{IsError, IsNil, IsSendable}
 use Rattle.operations.specs.Rows.{IsWithin}
 use Rattle.operations.specs.Talk.{Receives, Sends}
 use Rattle.operations.specs.Uses.{atoms_made, units_called, units_used, units_valued, use_of}

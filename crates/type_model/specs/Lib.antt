@@ -1,3 +1,4 @@
+pub mod Anydata
 pub mod Application
 pub mod Basic
 pub mod Calls

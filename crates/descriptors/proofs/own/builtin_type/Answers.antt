@@ -3,7 +3,8 @@ use Rattle.bal_tree.specs.declared.types.BuiltinType.TheVariants.{Any, Boolean}
 use Rattle.type_model.specs.declared.atoms.AtomDef.{AtomDef}
 use Rattle.type_model.specs.Defined.{TyBelow}
 use Rattle.type_model.proofs.DefinedLaws.{TyBelow-more}
-use Rattle.descriptors.specs.Described.{IsAnydata, IsBuiltin, IsCopy}
+use Rattle.descriptors.specs.Described.{IsBuiltin, IsCopy}
+use Rattle.type_model.specs.Anydata.{IsAnydata}
 use Rattle.descriptors.specs.Drafts.{AreNamesBelow}
 use Rattle.descriptors.specs.Steps.{AreOwnTypes}
 use Rattle.descriptors.proofs.Yielding.{weaker, copy-below, copy-means}
