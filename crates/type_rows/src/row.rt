@@ -47,7 +47,7 @@ use row_lines::{Judge, Row, Told};
 use std::alloc::Global;
 use subtype_decider::holds;
 use type_diagrams::{Diagrams, Kind, MARK};
-use type_model::{BasicSet, SemType};
+use type_model::{Answer, BasicSet, SemType};
 
 /// What the lines so far define.
 #[derive(Drop)]
@@ -123,6 +123,9 @@ impl Rows {
         let Some(name) = name(named) else {
             return refuse(Misread::NotALine);
         };
+        if self.sets.is_named(name) {
+            return refuse(Misread::NameTwice);
+        }
         let t = self.set(t)?;
         self.sets.define(name, t)
     }
@@ -169,11 +172,18 @@ impl Rows {
     }
 
     /// Two types with a comma between them.
-    fn two_sets(&mut self, tokens: &[Token]) -> Read<(SemType, SemType)> {
+    fn two_sets(&mut self, tokens: &[Token]) -> Read<Pair> {
         let (s, t) = parted(tokens)?;
+        self.pair(s, t)
+    }
+
+    /// The types that these tokens write.
+    fn pair(&mut self, s: &[Token], t: &[Token]) -> Read<Pair> {
         let s = self.set(s)?;
-        let t = self.set(t)?;
-        Ok((s, t))
+        match self.set(t) {
+            Ok(t) => Ok(Pair { s, t }),
+            Err(stop) => Err(stop),
+        }
     }
 
     /// Whether the type of one word is below that of another one, and the other way round where this is asked too.
@@ -195,22 +205,40 @@ impl Rows {
 
     /// What the product and the decider answer, where both answer the same.
     fn words_below(&mut self, text: &str, s: &[Token], t: &[Token]) -> Read<Reply> {
-        let answer = asked(self.alloc, &self.package, slice(text, s), slice(text, t))?;
-        let s = self.set(s)?;
-        let t = self.set(t)?;
-        let told = shown_between(self.sets.env(), &answer, &s, &t);
-        let kept = is_below(self.alloc, &mut self.sets.decider, &s, &t)?;
+        let pair = self.pair(s, t)?;
+        match asked(self.alloc, &self.package, slice(text, s), slice(text, t)) {
+            Ok(answer) => self.both_below(&answer, &pair),
+            Err(stop) => Err(stop),
+        }
+    }
+
+    fn both_below(&mut self, answer: &Answer, pair: &Pair) -> Read<Reply> {
+        let told = shown_between(self.sets.env(), answer, &pair.s, &pair.t);
+        let kept = self.sets_below(&pair.s, &pair.t)?;
         Ok(if kept == told { kept } else { Reply::Apart })
+    }
+
+    fn sets_below(&mut self, s: &SemType, t: &SemType) -> Read<Reply> {
+        is_below(self.alloc, &mut self.sets.decider, s, t)
     }
 
     /// Whether a type is below another one, and the other way round where this is asked too.
     fn within(&mut self, asked: &[Token], wanted: &[Token], told: &mut Told) -> Read<()> {
-        let (s, t) = self.two_sets(asked)?;
         let (wanted, back) = replies(wanted)?;
-        let decider = &mut self.sets.decider;
-        compare(told, wanted, is_below(self.alloc, decider, &s, &t)?);
+        let pair = self.two_sets(asked)?;
+        self.compare_below(&pair, wanted, back, told)
+    }
+
+    fn compare_below(
+        &mut self,
+        pair: &Pair,
+        wanted: Reply,
+        back: Option<Reply>,
+        told: &mut Told,
+    ) -> Read<()> {
+        compare(told, wanted, self.sets_below(&pair.s, &pair.t)?);
         if let Some(wanted) = back {
-            compare(told, wanted, is_below(self.alloc, decider, &t, &s)?);
+            compare(told, wanted, self.sets_below(&pair.t, &pair.s)?);
         }
         Ok(())
     }
@@ -223,8 +251,8 @@ impl Rows {
 
     /// What a checker is told where a type has to be below another one.
     fn required(&mut self, asked: &[Token]) -> Read<Reply> {
-        let (s, t) = self.two_sets(asked)?;
-        required(self.alloc, &mut self.sets.decider, &s, &t)
+        let pair = self.two_sets(asked)?;
+        required(self.alloc, &mut self.sets.decider, &pair.s, &pair.t)
     }
 
     /// What a checker is told that asks whether a type has a shape.
@@ -236,18 +264,19 @@ impl Rows {
     /// Whether a type is below another one, by a decider of its own.
     fn kept(&self, asked: &[Token]) -> Read<Reply> {
         let mut rows = Rows::new(self.alloc)?;
-        let (s, t) = rows.two_sets(asked)?;
-        keeps(self.alloc, &mut rows.sets.decider, &s, &t)
+        let pair = rows.two_sets(asked)?;
+        keeps(self.alloc, &mut rows.sets.decider, &pair.s, &pair.t)
     }
 
     /// Whether exactly the shapes of a type stand at a key in those of another one.
     fn member(&mut self, asked: &[Token]) -> Read<Reply> {
         let (t, rest) = parted(asked)?;
         let (key, parts) = parted(rest)?;
-        let keys = keys(key)?;
-        let t = self.set(t)?;
-        let parts = self.set(parts)?;
-        stands(self.alloc, &mut self.sets.decider, &t, &keys, &parts)
+        let pair = self.pair(t, parts)?;
+        match keys(key) {
+            Ok(keys) => stands(self.alloc, &mut self.sets.decider, &pair.s, &keys, &pair.t),
+            Err(stop) => Err(stop),
+        }
     }
 
     /// How large the compact form of a type is.
@@ -285,8 +314,9 @@ impl Rows {
 
     /// Whether two types have one diagram.
     fn same(&mut self, asked: &[Token]) -> Read<Reply> {
-        let (s, t) = self.two_sets(asked)?;
-        Ok(Reply::of(are_one(&mut self.diagrams, self.sets.env(), &s, &t)?))
+        let pair = self.two_sets(asked)?;
+        let is_one = are_one(&mut self.diagrams, self.sets.env(), &pair.s, &pair.t)?;
+        Ok(Reply::of(is_one))
     }
 
     /// Whether a type has a simple shape.
@@ -395,6 +425,13 @@ impl Rows {
         let t = self.set(t)?;
         Ok(Reply::of(holds(self.sets.env(), &shape, &t)))
     }
+}
+
+/// Two types.
+#[derive(Drop)]
+struct Pair {
+    s: SemType,
+    t: SemType,
 }
 
 /// The word with which a line begins, or none where it begins with a shape, and what stands behind it.

@@ -10,9 +10,9 @@ use crate::asked::add;
 use crate::misread::{Misread, Read, read, refuse};
 use crate::package::built;
 use crate::pieces::{after, after_keyword, inside, int, is_keyword, split};
-use bal_base::{Keyword, Name, Sign, Token};
+use bal_base::{Keyword, Memory, Name, Sign, Stop, Token};
 use bal_tree::Package;
-use descriptors::{Draft, Entry, Meaning, Names, Scope, plain, type_tree};
+use descriptors::{Draft, Entry, Meaning, ModuleNames, Names, Scope, plain, type_tree};
 use parse_types::parse_type;
 use std::alloc::Global;
 use subtype_decider::Decider;
@@ -57,21 +57,24 @@ impl Sets {
         self.decider.env()
     }
 
-    /// Gives a type a name that has none yet.
-    pub fn define(&mut self, name: &Name, t: SemType) -> Read<()> {
-        let Some(home) = self.names.modules.get_mut(0) else {
-            return refuse(Misread::NotALine);
-        };
-        if home.entries.contains_key(name) {
-            return refuse(Misread::NameTwice);
+    /// Whether a type has the name.
+    pub fn is_named(&self, name: &Name) -> bool {
+        match self.names.modules.first() {
+            Some(home) => home.entries.contains_key(name),
+            None => false,
         }
-        let meaning = Meaning::TypeName(plain(self.alloc, t));
+    }
+
+    /// Gives a type a name.
+    pub fn define(&mut self, name: &Name, t: SemType) -> Read<()> {
         let entry = Entry {
             public: false,
-            meaning,
+            meaning: Meaning::TypeName(plain(self.alloc, t)),
         };
-        home.entries.insert(name.share(), entry)?;
-        Ok(())
+        match self.names.modules.first_mut() {
+            Some(home) => enter(home, name.share(), entry),
+            None => forget(entry),
+        }
     }
 
     /// The atom that a name stands for.
@@ -100,7 +103,7 @@ impl Sets {
             let (front, more) = operand(behind, Sign::Bar);
             rest = more;
             let right = self.meet(front, below)?;
-            t = SemType::Or(Box::new(self.alloc, t)?, Box::new(self.alloc, right)?);
+            t = either(self.alloc, t, right)?;
         }
         Ok(t)
     }
@@ -117,7 +120,7 @@ impl Sets {
             let (front, more) = operand(behind, Sign::Ampersand);
             rest = more;
             let right = self.part(front, levels)?;
-            t = SemType::And(Box::new(self.alloc, t)?, Box::new(self.alloc, right)?);
+            t = both(self.alloc, t, right)?;
         }
         Ok(t)
     }
@@ -194,6 +197,32 @@ impl Sets {
     pub fn atoms(&self) -> u32 {
         self.env().defs().len() as u32
     }
+}
+
+fn either(alloc: Global, s: SemType, t: SemType) -> Result<SemType, Memory> {
+    let s = Box::new(alloc, s)?;
+    Ok(SemType::Or(s, Box::new(alloc, t)?))
+}
+
+fn both(alloc: Global, s: SemType, t: SemType) -> Result<SemType, Memory> {
+    let s = Box::new(alloc, s)?;
+    Ok(SemType::And(s, Box::new(alloc, t)?))
+}
+
+fn enter(home: &mut ModuleNames, name: Name, entry: Entry) -> Read<()> {
+    match home.entries.insert(name, entry) {
+        Ok(old) => forget_old(old),
+        Err(failed) => Err(Stop::from(failed)),
+    }
+}
+
+fn forget_old(_old: Option<Entry>) -> Read<()> {
+    Ok(())
+}
+
+/// There is no module, which no package is without.
+fn forget(_entry: Entry) -> Read<()> {
+    refuse(Misread::NotALine)
 }
 
 /// The atom that a type is.
