@@ -1,3 +1,4 @@
 pub mod AllWays
+pub mod Narrowed
 pub mod Settled
 pub mod TaskWalk

@@ -4,6 +4,7 @@ pub mod Expressions
 pub mod Inherent
 pub mod Laws
 pub mod Loops
+pub mod Narrowed
 pub mod Statements
 pub mod TaskWalk
 pub mod Tasks

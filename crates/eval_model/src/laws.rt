@@ -1,5 +1,6 @@
 //! Laws of typed trees. These calls do nothing: their clauses are laws.
 ghost use Rattle.eval_model.specs.Laws.{ChoiceKeepsWays, EachTreeHasAWay, EvalKeepsWays, ExecKeepsWays, TreesRunOnce, TreesSettle, TreesStepOnce, TurnKeepsWays};
+ghost use Rattle.eval_model.specs.Narrowed.{NarrowedReadsGoOn};
 
 use run_model::Meaning;
 
@@ -36,4 +37,9 @@ pub fn frames_keep_ways<W: AnyWays>()
 /// There is a way through each construct, where everything is one.
 pub fn each_tree_has_a_way()
     ensures { EachTreeHasAWay }
+{}
+
+/// A narrowed variable that holds a value of its narrower type is read by itself, with no operation that could fail.
+pub fn narrowed_reads_go_on()
+    ensures { NarrowedReadsGoOn }
 {}
