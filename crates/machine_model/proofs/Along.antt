@@ -14,7 +14,7 @@ use Rattle.machine_model.specs.Runs.{Running, Picking, start, begins_with, first
 use Rattle.machine_model.specs.Following.{AreFine, Both, Quiet, here, step, pass, Held, ComesTo, FramesFollow, EndsFrame}
 use Rattle.machine_model.specs.Keeping.{Invariant, IsKept, Caught, BeginsWell, AllBegin, EffectFits, AskFits, FramesFit, StateFits}
 use Rattle.machine_model.specs.Along.{beside, call_of, Along, AlongBelow, along, FlowsBegin, AllFlow, EffectFlows, AskFlows, FlowsKept}
-use Rattle.machine_model.specs.Laws.{KeepsAlong, SoundFollowersDoTheSame}
+use Rattle.machine_model.specs.Laws.{KeepsAlong, SoundFollowersAreFine, SoundFollowersDoTheSame}
 use Rattle.machine_model.proofs.Lifts.{GoesOn, goes-on}
 use Rattle.machine_model.proofs.Keeping.{kept-holds}
 use Rattle.machine_model.proofs.SameOutcomes.{followers-do-the-same}
@@ -184,6 +184,9 @@ module _ {A B : Type 0} (natives : Answers) (M : Machine A) (N : Machine B) (Fol
 
 pub along-kept : {A B : Type 0} (natives : Answers) (M : Machine A) (N : Machine B) (Follows : A → B → Type 0) (Fine : Common → A → Type 0) (I : Invariant B) (Flows : Common → Frame A → Type 0) (FlowsBehind : Common → Frame A → ℕ → Type 0) → KeepsAlong natives M N Follows Fine I Flows FlowsBehind
 along-kept natives M N Follows Fine I Flows FlowsBehind sim kept flows = keeps-along natives M N Follows Fine I Flows FlowsBehind sim kept flows
+
+pub sound-followers-are-fine : {A B : Type 0} (natives : Answers) (M : Machine A) (N : Machine B) (Follows : A → B → Type 0) (Fine : Common → A → Type 0) (I : Invariant B) (Flows : Common → Frame A → Type 0) (FlowsBehind : Common → Frame A → ℕ → Type 0) → SoundFollowersAreFine natives M N Follows Fine I Flows FlowsBehind
+sound-followers-are-fine natives M N Follows Fine I Flows FlowsBehind sim kept flows = fine-along natives M N Follows Fine I Flows FlowsBehind sim kept flows
 
 pub sound-followers-do-the-same : {A B : Type 0} (natives : Answers) (M : Machine A) (N : Machine B) (Follows : A → B → Type 0) (Fine : Common → A → Type 0) (I : Invariant B) (Flows : Common → Frame A → Type 0) (FlowsBehind : Common → Frame A → ℕ → Type 0) → SoundFollowersDoTheSame natives M N Follows Fine I Flows FlowsBehind
 sound-followers-do-the-same natives M N Follows Fine I Flows FlowsBehind sim kept flows settles =

@@ -13,7 +13,8 @@ use Rattle.machine_model.specs.Machine.{Machine, On, Does, Stuck, Frame, State, 
 use Rattle.machine_model.specs.Runs.{Phase, Running, Picking, Stop, Over, TicksSpent, PastLimit, Runs, moves, blocks, ends, needs_tick, passes, picks, over, picked}
 use Rattle.machine_model.specs.Steps.{state_at}
 use Rattle.machine_model.specs.Following.{AreAlike, Quiet, here, step, Held, ComesTo, FramesFollow, AreFine, Settles, asks, stuck, on}
-use Rattle.machine_model.proofs.Lifts.{SameCall, BelowMatch, FramesMatch, OthersMatch, StateMatch, NextMatch, carried-match, back-some, goes-on, same-asker}
+use Rattle.machine_model.specs.Matching.{AskAlike, SameCall, BelowMatch, FramesMatch, OthersMatch, StateMatch}
+use Rattle.machine_model.proofs.Lifts.{NextMatch, carried-match, back-some, goes-on, same-asker}
 use Rattle.machine_model.proofs.Steps.{one-quiet}
 use Rattle.machine_model.proofs.Quietly.{quietly, quiet-then, quiet-past}
 use Rattle.machine_model.proofs.Forth.{Came, came-moved, came-blocked, came-ended, came-picked, same-picked}
@@ -36,21 +37,19 @@ module _ {C : Type 0} (natives : Answers) (M : Machine C) where
 
 module _ {A B : Type 0} (natives : Answers) (M : Machine A) (N : Machine B) (Follows : A → B → Type 0) (Fine : Common → A → Type 0) (sim : FramesFollow natives M N Follows Fine)
     (fine : AreFine natives M Fine) (words : List Text) (input : List ℕ) (ticks : ℕ) (texts : All IsText words) where
-  abbrev IsCame : Phase → State A → Type 0
+  abbrev pub IsCame : Phase → State A → Type 0
   IsCame phase s = Came natives M words input ticks phase s
 
   -- ---- where both machines ask for the same
 
-  abbrev Asked : ℕ → A → B → Type 0
-  Asked unit x y =
-      ((op : Operation) × (vs : List Value) × (k : A) × (m : B) × (other : Operation) × (M.look unit x ≡ Does op vs k) × (N.look unit y ≡ Does other vs m) × AreAlike N.facts natives op other × Held M N Follows op x y k m)
-      ⊎ ((M.look unit x ≡ Stuck) × (N.look unit y ≡ Stuck))
+  abbrev pub Asked : ℕ → A → B → Type 0
+  Asked unit x y = AskAlike M N Follows natives unit x y
 
-  abbrev Meet : Common → Frame A → List (Frame A) → List (List (Frame A)) → A → B → Type 0
+  abbrev pub Meet : Common → Frame A → List (Frame A) → List (List (Frame A)) → A → B → Type 0
   Meet c f fs os a b =
       (x : A) × (y : B) × Quiet natives M (asker f fs) c a x × Quiet natives N (asker f fs) c b y × IsCame Running (state_at c f x fs os) × Asked f.unit x y
 
-  meet : (c : Common) (f : Frame A) (fs : List (Frame A)) (os : List (List (Frame A))) {a : A} (b : B) → Settles M f.unit a → IsCame Running (state_at c f a fs os) → Follows a b → Meet c f fs os a b
+  pub meet : (c : Common) (f : Frame A) (fs : List (Frame A)) (os : List (List (Frame A))) {a : A} (b : B) → Settles M f.unit a → IsCame Running (state_at c f a fs os) → Follows a b → Meet c f fs os a b
   meet c f fs os {a = a} b (asks {k = k} {op = op} {vs = vs} e) good r =
       let h : ComesTo M N Follows natives (asker f fs) c a (Does op vs k) b = subst (λ o. ComesTo M N Follows natives (asker f fs) c a o b) e (sim.answers (asker f fs) c a b (fine words input ticks (state_at c f a fs os) (goes_to f a) fs texts good refl) r) in
       (a, h.0, here, h.3, good, inl (op, vs, k, h.1, h.2, e, h.4, h.5, h.6))
@@ -100,7 +99,7 @@ module _ {A B : Type 0} (natives : Answers) (M : Machine A) (N : Machine B) (Fol
   with-limit s _ limit h w = absurd w
 
   -- the frame of the second machine asks for an operation: its step is a step of the first one
-  back-asked : (c : Common) (f : Frame A) (g : Frame B) (fs : List (Frame A)) (gs : List (Frame B)) (os : List (List (Frame A))) (ps : List (List (Frame B))) (x k : A) (y m : B) (op other : Operation) (vs : List Value) → SameCall f g → OthersMatch M N Follows os ps → BelowMatch M N Follows fs gs → M.look f.unit x ≡ Does op vs k → N.look g.unit y ≡ Does other vs m → AreAlike N.facts natives op other → Held M N Follows op x y k m → (next : Next B) → Step natives N (state_at c g y gs ps) next → (first : Next A) × Step natives M (state_at c f x fs os) first × NextMatch M N Follows first next
+  pub back-asked : (c : Common) (f : Frame A) (g : Frame B) (fs : List (Frame A)) (gs : List (Frame B)) (os : List (List (Frame A))) (ps : List (List (Frame B))) (x k : A) (y m : B) (op other : Operation) (vs : List Value) → SameCall f g → OthersMatch M N Follows os ps → BelowMatch M N Follows fs gs → M.look f.unit x ≡ Does op vs k → N.look g.unit y ≡ Does other vs m → AreAlike N.facts natives op other → Held M N Follows op x y k m → (next : Next B) → Step natives N (state_at c g y gs ps) next → (first : Next A) × Step natives M (state_at c f x fs os) first × NextMatch M N Follows first next
   back-asked c f g fs gs os ps x k y m op other vs call om below e d alike held next h =
       let s = state_at c f x fs os in
       let t = state_at c g y gs ps in

@@ -9,7 +9,8 @@ use Rattle.run_model.specs.Common.{Common}
 use Rattle.machine_model.specs.Machine.{Machine, Frame, State, Moved, Blocked, Ended, NeedsTick, Limit, Step}
 use Rattle.machine_model.specs.Runs.{Phase, Running, Picking, Stop, Over, TicksSpent, PastLimit, Runs, moves, blocks, ends, needs_tick, passes, picks, over, picked, taken_up, IsReached, after_move, after_block, after_end, after_pick}
 use Rattle.machine_model.specs.Following.{FramesFollow, AreFine}
-use Rattle.machine_model.proofs.Lifts.{StateMatch, picked-match}
+use Rattle.machine_model.specs.Matching.{StateMatch}
+use Rattle.machine_model.proofs.Lifts.{picked-match}
 use Rattle.machine_model.proofs.Steps.{Moves, stay, move, Lifted, step-lifts, FineTop}
 
 module _ {A : Type 0} (natives : Answers) (M : Machine A) (words : List Text) (input : List ℕ) (ticks : ℕ) where

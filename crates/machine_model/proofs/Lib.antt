@@ -18,6 +18,7 @@ pub mod Once
 pub mod Onward
 pub mod Places
 pub mod Quietly
+pub mod Reached
 pub mod RunsOnce
 pub mod SameOutcomes
 pub mod ShapeRows

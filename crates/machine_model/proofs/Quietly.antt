@@ -21,10 +21,10 @@ module _ {C : Type 0} (natives : Answers) (M : Machine C) where
 
   -- ---- a run takes the quiet steps first
 
-  same-next : (c : Common) (f : Frame C) (fs : List (Frame C)) (os : List (List (Frame C))) (a b : C) (next : Next C) → M.look f.unit a ≡ On b → Step natives M (state_at c f a fs os) next → next ≡ Moved (state_at c f b fs os)
+  pub same-next : (c : Common) (f : Frame C) (fs : List (Frame C)) (os : List (List (Frame C))) (a b : C) (next : Next C) → M.look f.unit a ≡ On b → Step natives M (state_at c f a fs os) next → next ≡ Moved (state_at c f b fs os)
   same-next c f fs os a b next e h = subst (λ x. Takes natives M (state_at c f a fs os) (goes_to f a) fs x next) e h
 
-  same-pass : (c : Common) (f : Frame C) (fs : List (Frame C)) (os : List (List (Frame C))) (a k : C) (op : Operation) (vs ws : List Value) (next : Next C) → M.look f.unit a ≡ Does op vs k → ((effect : Effect) → Performs M.facts natives op vs (asker f fs) c effect → effect ≡ Gives ws c) → Step natives M (state_at c f a fs os) next → next ≡ Moved (state_at c f (M.resume k ws) fs os)
+  pub same-pass : (c : Common) (f : Frame C) (fs : List (Frame C)) (os : List (List (Frame C))) (a k : C) (op : Operation) (vs ws : List Value) (next : Next C) → M.look f.unit a ≡ Does op vs k → ((effect : Effect) → Performs M.facts natives op vs (asker f fs) c effect → effect ≡ Gives ws c) → Step natives M (state_at c f a fs os) next → next ≡ Moved (state_at c f (M.resume k ws) fs os)
   same-pass c f fs os a k op vs ws next e u h =
       let taken : Takes natives M (state_at c f a fs os) (goes_to f a) fs (Does op vs k) next = subst (λ x. Takes natives M (state_at c f a fs os) (goes_to f a) fs x next) e h in
       some-same next (Moved (state_at c f (M.resume k ws) fs os)) (sym taken.2 ∙ ap (λ z. carried M (state_at c f a fs os) (goes_to f a) k fs z) (u taken.0 taken.1))

@@ -9,7 +9,8 @@ use Rattle.machine_model.specs.Machine.{Machine, begun}
 use Rattle.machine_model.specs.Runs.{start, starts, begins_with, first_common, units_to_run, main_arguments}
 use Rattle.machine_model.specs.Following.{Both, FramesFollow, AreFine, Settles}
 use Rattle.machine_model.specs.Laws.{FollowersDoTheSame, HaveSameOutcomes}
-use Rattle.machine_model.proofs.Lifts.{StateMatch, FrameMatch, both-map, forth-some, back-some, begun-match}
+use Rattle.machine_model.specs.Matching.{StateMatch}
+use Rattle.machine_model.proofs.Lifts.{FrameMatch, both-map, forth-some, back-some, begun-match}
 use Rattle.machine_model.proofs.Forth.{forth}
 use Rattle.machine_model.proofs.Back.{back-pick}
 
@@ -23,7 +24,7 @@ module _ {A B : Type 0} (natives : Answers) (M : Machine A) (N : Machine B) (Fol
           both-map (FrameMatch M N Follows) (StateMatch M N Follows) _ _ (λ f g r. ((λ i. record (e i) { to_run = ws }), tt, ((r.0, r.1, tt), tt)))
           (begun M u.0 u.1 None) (begun N u.0 u.1 None) (begun-match M N Follows sim.enters u.0 u.1 None)
 
-  starts-match : (words : List Text) (input : List ℕ) (ticks : ℕ) → Both (StateMatch M N Follows) (start M words input ticks) (start N words input ticks)
+  pub starts-match : (words : List Text) (input : List ℕ) (ticks : ℕ) → Both (StateMatch M N Follows) (start M words input ticks) (start N words input ticks)
   starts-match words input ticks =
       begins-match (first_common M.launch words input ticks) (first_common N.launch words input ticks) (units_to_run M) (units_to_run N)
       (ap (λ l. first_common l words input ticks) sim.launch)

@@ -47,8 +47,12 @@ KeepsAlong natives M N Follows Fine I Flows FlowsBehind =
     FramesFollow natives M N Follows Fine → IsKept natives N I → FlowsKept natives M N Follows Fine I Flows FlowsBehind →
     IsKept natives M (along natives M N Follows Fine I Flows FlowsBehind)
 
--- machines whose frames answer alike have the same outcomes, where what the second one keeps leaves each frame of the first
--- as it has to be
+-- so the first machine's frames are as they have to be
+abbrev pub SoundFollowersAreFine : {A B : Type 0} → Answers → Machine A → Machine B → (A → B → Type 0) → (Common → A → Type 0) → Invariant B → (Common → Frame A → Type 0) → (Common → Frame A → ℕ → Type 0) → Type 0
+SoundFollowersAreFine natives M N Follows Fine I Flows FlowsBehind =
+    FramesFollow natives M N Follows Fine → IsKept natives N I → FlowsKept natives M N Follows Fine I Flows FlowsBehind → AreFine natives M Fine
+
+-- and where they answer alike, both have the same outcomes
 abbrev pub SoundFollowersDoTheSame : {A B : Type 0} → Answers → Machine A → Machine B → (A → B → Type 0) → (Common → A → Type 0) → Invariant B → (Common → Frame A → Type 0) → (Common → Frame A → ℕ → Type 0) → Type 0
 SoundFollowersDoTheSame {A} natives M N Follows Fine I Flows FlowsBehind =
     FramesFollow natives M N Follows Fine → IsKept natives N I → FlowsKept natives M N Follows Fine I Flows FlowsBehind →

@@ -3,6 +3,7 @@ pub mod Following
 pub mod Keeping
 pub mod Laws
 pub mod Machine
+pub mod Matching
 pub mod Outcomes
 pub mod Runs
 pub mod Steps

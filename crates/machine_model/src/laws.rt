@@ -1,6 +1,7 @@
 //! Laws of machines. These calls do nothing: their clauses are laws.
 ghost use Rattle.machine_model.specs.Machine.{Machine};
-ghost use Rattle.machine_model.specs.Laws.{StepsOnce, RunsOnce, FollowersDoTheSame, KeptHolds, KeepsAlong, SoundFollowersDoTheSame};
+ghost use Rattle.machine_model.specs.Laws.{StepsOnce, RunsOnce, FollowersDoTheSame, KeptHolds, KeepsAlong, SoundFollowersAreFine, SoundFollowersDoTheSame};
+ghost use Rattle.machine_model.specs.Matching.{ReachedFollow};
 ghost use Rattle.machine_model.specs.Strands.{HoldOfStrands};
 ghost use Rattle.machine_model.specs.Steps.{GoesAreSteps, StepsChain, StepsAreReached, StepsThenRuns};
 
@@ -91,9 +92,11 @@ pub fn states_have_one_next<N: Meaning, M: AnyMachine>()
     ensures runs { RunsOnce N.answers M.machine }
 {}
 
-/// Machines whose frames answer alike have the same outcomes.
+/// Machines whose frames answer alike have the same outcomes, and each state that the second reaches goes along with one that
+/// the first reaches.
 pub fn followers_do_the_same<N: Meaning, P: Followed>()
-    ensures { FollowersDoTheSame N.answers P.first P.second P.follows P.fine }
+    ensures outcomes { FollowersDoTheSame N.answers P.first P.second P.follows P.fine }
+    ensures reached { ReachedFollow N.answers P.first P.second P.follows P.fine }
 {}
 
 /// What single frames and what they share keep holds of each state that a machine reaches.
@@ -101,9 +104,11 @@ pub fn what_is_kept_holds<N: Meaning, K: Kept>()
     ensures { KeptHolds N.answers K.machine K.invariant }
 {}
 
-/// Facts of the first machine's frames that ride on what the second one keeps are kept, and then both have the same outcomes.
+/// Facts of the first machine's frames that ride on what the second one keeps are kept. So these frames are as they have to be,
+/// and both machines have the same outcomes.
 pub fn sound_followers_do_the_same<N: Meaning, P: FollowedAlong>()
     ensures keeps { KeepsAlong N.answers P.first P.second P.follows P.fine P.invariant P.flows P.flows_behind }
+    ensures fine { SoundFollowersAreFine N.answers P.first P.second P.follows P.fine P.invariant P.flows P.flows_behind }
     ensures outcomes { SoundFollowersDoTheSame N.answers P.first P.second P.follows P.fine P.invariant P.flows P.flows_behind }
 {}
 
