@@ -14,6 +14,7 @@ pub mod Receiving
 pub mod Returning
 pub mod Sending
 pub mod Serving
+pub mod Settling
 pub mod Shapes
 pub mod Staying
 pub mod Taking

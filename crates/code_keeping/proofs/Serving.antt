@@ -18,7 +18,7 @@ use Rattle.code_keeping.specs.Laws.{GoodHeapsAreServed, table_for}
 use Rattle.code_keeping.proofs.Lists.{all-at, at-some, of-some, some-there, there}
 use Rattle.code_keeping.proofs.Shapes.{get-map}
 
-all-to : {A : Type 0} (P Q : A → Type 0) → ((x : A) → P x → Q x) → (xs : List A) → All P xs → All Q xs
+pub all-to : {A : Type 0} (P Q : A → Type 0) → ((x : A) → P x → Q x) → (xs : List A) → All P xs → All Q xs
 all-to P Q f xs h k d l = f _ (h k d l)
 
 all-zipped : {A B : Type 0} (P : A → B → Type 0) (Q : A → Type 0) → ((x : A) (y : B) → P x y → Q x) → (xs : List A) (ys : List B) → AllZip P xs ys → All Q xs

@@ -14,18 +14,18 @@ use Rattle.value_model.specs.Table.{Serves, TestTable, table_of}
 use Rattle.run_model.specs.Common.{Common, Role, End, Returned, Panicked}
 use Rattle.run_model.specs.Local.{Local, acts, takes}
 use Rattle.run_model.specs.Messages.{one_sent, with_received}
-use Rattle.run_model.specs.Strands.{channel_at, with_channel, worker_end}
+use Rattle.run_model.specs.Strands.{channel_at, settled, with_channel, worker_end}
 use Rattle.machine_model.specs.Following.{EndsFrame}
 use Rattle.machine_model.specs.Keeping.{AreApart, AskFits, Caught}
 use Rattle.machine_model.specs.Machine.{Frame, On, goes_to}
-use Rattle.machine_model.specs.Runs.{Running}
+use Rattle.machine_model.specs.Runs.{Phase, Running}
 use Rattle.stack_code.specs.declared.code.Code.{Code}
 use Rattle.stack_code.specs.CodeMachine.{Standing, codes}
 use Rattle.stack_code.specs.Commands.{Do, command_at}
 use Rattle.stack_code.specs.Flow.{tally_then}
 use Rattle.stack_code.specs.Frames.{AwaitsResult, TallyIs, TopFits}
 use Rattle.stack_code.specs.Activations.{FitsBehind, GoodActivations}
-use Rattle.stack_code.specs.Good.{GoodCommon, IsLater, code_invariant}
+use Rattle.stack_code.specs.Good.{GoodCommon, IsLater, NearlyCommon, code_invariant}
 use Rattle.stack_code.specs.Messages.{IsLast}
 use Rattle.stack_code.specs.Places.{stack_at, tally_at}
 use Rattle.stack_code.specs.Tables.{UnitAt}
@@ -140,3 +140,11 @@ table_for code answers fillers = table_of code.atoms code.inherent code.tested (
 abbrev pub GoodHeapsAreServed : Type 0
 GoodHeapsAreServed =
     (code : Code) (answers : List (List Bool)) (fillers : List (List Filler)) (c : Common) → GoodHeap code c → Serves (table_for code answers fillers) c.world.heap
+
+-- ---- who wakes
+
+-- when those whose needs are met are ready, all that is shared is good, and nothing else has changed
+abbrev pub SettlingKeeps : Type 0
+SettlingKeeps =
+    (code : Code) (c : Common) (phase : Phase) → NearlyCommon code c phase →
+    GoodCommon code (settled c) phase × ((q : Option Role) → IsLater q c (settled c))

@@ -1,5 +1,5 @@
 //! Laws of steps. These calls do nothing: their clauses are laws.
-ghost use Rattle.code_keeping.specs.Laws.{AwaitedComes, CallsKeep, EndsKeep, FlushesKeep, GoesOnByItself, GoodHeapsAreServed, MessagesKeep, ReturnsKeep, SendsKeep, StrictOperationsKeep};
+ghost use Rattle.code_keeping.specs.Laws.{AwaitedComes, CallsKeep, EndsKeep, FlushesKeep, GoesOnByItself, GoodHeapsAreServed, MessagesKeep, ReturnsKeep, SendsKeep, SettlingKeeps, StrictOperationsKeep};
 
 use run_model::Meaning;
 
@@ -37,4 +37,9 @@ pub fn messages_keep()
 /// A table of tests for the code serves each good heap.
 pub fn good_heaps_are_served()
     ensures { GoodHeapsAreServed }
+{}
+
+/// When those whose needs are met are ready, all that is shared is good.
+pub fn settling_keeps()
+    ensures { SettlingKeeps }
 {}
