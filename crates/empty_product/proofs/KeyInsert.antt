@@ -11,13 +11,11 @@ use Rattle.std.proofs.lemmas.List.{get_or-take, get_or-drop, take-append-drop}
 use Rattle.std.proofs.lemmas.List.Elements.{All-nil, All-cons, All-head, All-tail, All-push, All-append, All-get_or, All-weaker, All-contains_itself, Contains-append_left, Contains-append_right}
 use Rattle.bal_base.specs.declared.text.Text.{Text}
 use Rattle.bal_base.specs.Valid.{IsText}
+use Rattle.type_model.proofs.TextOrder.{Below, below-further, above-below, KeysSorted, Sorted-rise, rise-Sorted}
 use Rattle.type_diagrams.proofs.Elements.{All-parts}
 use Rattle.empty_product.specs.Keys.{Rise, AreInOrder, HasAdded, IsBehind}
-use Rattle.empty_product.proofs.TextOrder.{Below, below-further, above-below, Sorted, Sorted-rise, rise-Sorted, Sorted-append, Sorted-push}
+use Rattle.empty_product.proofs.SortedLists.{Sorted-append, Sorted-push}
 use Rattle.empty_product.proofs.Zipped.{none_some, some_same, All-slice_get}
-
-abbrev pub KeysSorted : List Text → Type 0
-KeysSorted keys = Sorted (λ k. k) keys
 
 pub rise-keys : (keys : List Text) → Rise keys → KeysSorted keys
 rise-keys keys h = Sorted-rise (λ k. k) keys h

@@ -41,7 +41,7 @@ pub mod PlacedParts
 pub mod ProductItems
 pub mod RowItems
 pub mod SlotPlaces
+pub mod SortedLists
 pub mod Splitting
 pub mod Targets
-pub mod TextOrder
 pub mod Zipped

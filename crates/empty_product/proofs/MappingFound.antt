@@ -23,11 +23,12 @@ use Rattle.empty_product.specs.Mappings.{wanted_at, IsPlaceOf, IsAskingOf, IsMap
 use Rattle.empty_product.specs.Products.{IsIn, Avoids}
 use Rattle.empty_product.specs.Slots.{Place, MayHave, HasNone, MustHave, Asking, IsAt, AvoidsAt}
 use Rattle.empty_product.proofs.AtomFields.{Requires-Names, member_of-unnamed}
-use Rattle.empty_product.proofs.KeyInsert.{KeysSorted, rise-keys}
+use Rattle.empty_product.proofs.KeyInsert.{rise-keys}
 use Rattle.empty_product.proofs.MappingMembers.{members_in-Mapping, FitsAtom, In-members, required-key, has-required}
 use Rattle.empty_product.proofs.MappingParts.{map-at, at-map, wanted-met, wanted_at-unnamed, not-named, behind-not-there}
 use Rattle.empty_product.proofs.MemberLists.{Member, HasName, members_at-is, members_at-has, members_at-all, members_at-sorted, members_at-none}
-use Rattle.empty_product.proofs.TextOrder.{Below, below-apart, rise-Sorted, Sorted-append}
+use Rattle.empty_product.proofs.SortedLists.{Sorted-append}
+use Rattle.type_model.proofs.TextOrder.{Below, below-apart, KeysSorted, rise-Sorted}
 use Rattle.empty_product.proofs.Zipped.{none_some, All-slice_get, All-from_slice_get, at-Contains, Contains-at, Any-is, Any-of, AllZip-at, AllZip-back, AllZip-length}
 
 -- ---- lists put together

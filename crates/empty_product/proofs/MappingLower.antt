@@ -29,7 +29,7 @@ use Rattle.empty_product.proofs.AtomFields.{Requires-Names}
 use Rattle.empty_product.proofs.MappingMembers.{members_in, members-known, AreMembers, FitsAtom, In-members, required-key, needed-Requires}
 use Rattle.empty_product.proofs.MappingParts.{all_or_one, there_or_not, map-at, map-length, wanted-met}
 use Rattle.empty_product.proofs.MemberLists.{Member, HasName, part_at, part_at-Some, part_at-None, part_at-member}
-use Rattle.empty_product.proofs.TextOrder.{Sorted, Sorted-rise}
+use Rattle.type_model.proofs.TextOrder.{Sorted, Sorted-rise}
 use Rattle.empty_product.proofs.Zipped.{some_same, Contains-at, Any-is, Any-of, AllZip-at, AllZip-back, AllZip-length}
 
 module _ (env : List AtomDef) (small : length env ≤ the_mark) (x : Shape) (kind : IsOfKind Mappings x) (valid : IsValid x) where

@@ -16,7 +16,7 @@ use Rattle.type_diagrams.proofs.Meeting.{Meets-asks, Meets-frozen}
 use Rattle.empty_product.specs.Keys.{Names, HasNamedKeys, IsBehind}
 use Rattle.empty_product.specs.Mappings.{conditions_at, wanted_at}
 use Rattle.empty_product.proofs.AtomFields.{member_of-unnamed}
-use Rattle.empty_product.proofs.TextOrder.{Below, below-apart}
+use Rattle.type_model.proofs.TextOrder.{Below, below-apart}
 use Rattle.empty_product.proofs.Zipped.{none_some, some_same}
 
 -- ---- lists

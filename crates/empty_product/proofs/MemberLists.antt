@@ -8,8 +8,8 @@ use Rattle.bal_base.specs.declared.text.Text.{Text}
 use Rattle.bal_base.specs.declared.shape.Shape.{Shape}
 use Rattle.type_model.specs.Places.{is_same_text, HasKey}
 use Rattle.empty_product.specs.Mappings.{members_at}
-use Rattle.empty_product.proofs.TextOrder.{Below, below-apart, Sorted, Sorted-at}
-use Rattle.empty_product.proofs.KeyInsert.{KeysSorted}
+use Rattle.type_model.proofs.TextOrder.{Below, below-apart, Sorted, KeysSorted}
+use Rattle.empty_product.proofs.SortedLists.{Sorted-at}
 use Rattle.empty_product.proofs.Zipped.{none_some, some_same, All-slice_get, Contains-at, Any-none, Any-more}
 
 abbrev pub Member : Type 0

@@ -18,7 +18,7 @@ use Rattle.value_model.specs.declared.value.Value.TheVariants.{Struct}
 use Rattle.value_model.specs.Heap.{Heap, Members, Items, Entries, entry_at}
 use Rattle.value_model.specs.Stands.{HasShape, HaveShapes, HaveFields, IsList, IsMapping}
 use Rattle.plain_tests.specs.Shapes.{IsInner}
-use Rattle.plain_tests.proofs.OneShape.{one, there-some}
+use Rattle.value_model.proofs.OneShape.{one, there-some}
 
 either-of : (k a b : ℕ) → k ≤ max a b → (k ≤ a) ⊎ (k ≤ b)
 either-of k a b le = grind arith

@@ -10,7 +10,7 @@ use Rattle.value_model.specs.Heap.{Heap, ErrorObject, Structure, Members}
 use Rattle.value_model.specs.Stands.{HasShape, HaveShapes, HaveFields, IsList, IsMapping}
 use Rattle.plain_tests.specs.Shapes.{Finds, FindsError, FindsShape, IsHeld, IsInner, IsOfDetail, IsWithDetail, detail_at, frozen_at, frozen_in}
 use Rattle.plain_tests.proofs.FewLevels.{few-levels}
-use Rattle.plain_tests.proofs.OneShape.{one}
+use Rattle.value_model.proofs.OneShape.{one}
 
 module _ (h : Heap) where
   -- ---- structures

@@ -19,14 +19,15 @@ use Rattle.bal_base.proofs.Rows.{row_of, fields_of, IsValid-List, IsValid-Mappin
 use Rattle.bal_base.proofs.SameShapes.{keys_of}
 use Rattle.type_diagrams.proofs.Elements.{All-unmap}
 use Rattle.type_model.specs.Places.{is_same_text}
-use Rattle.empty_product.proofs.KeyInsert.{KeysSorted, rise-keys as sorted-from}
+use Rattle.type_model.proofs.TextOrder.{KeysSorted}
+use Rattle.empty_product.proofs.KeyInsert.{rise-keys as sorted-from}
 use Rattle.empty_product.proofs.Zipped.{Any-first, Any-is, Any-later, Any-more, AllZip-length}
 use Rattle.value_model.specs.declared.value.Value.{Value}
 use Rattle.value_model.specs.Heap.{Heap, Items, Entries, entry_at}
 use Rattle.value_model.specs.Stands.{HasShape, HaveShapes, HaveFields}
 use Rattle.plain_tests.specs.Shapes.{AreKeysOf, FindsHeld, HasNone, IsField, IsInner, IsNamed}
-use Rattle.plain_tests.proofs.EntryKeys.{Contains-split, HasEntry, at-Contains, found-in, keys-at-most, keys-fill, same-text, sorted-apart, text-same}
-use Rattle.plain_tests.proofs.OneShape.{fields-entries, rise-keys, there-some}
+use Rattle.value_model.proofs.EntryKeys.{Contains-split, HasEntry, at-Contains, found-in, keys-at-most, keys-fill, same-text, sorted-apart, text-same}
+use Rattle.value_model.proofs.OneShape.{fields-entries, rise-keys, there-some}
 
 -- ---- pairs of lists
 

@@ -1,11 +1,9 @@
 pub mod Doing
-pub mod EntryKeys
 pub mod FewLevels
 pub mod Finding
 pub mod HeldShapes
 pub mod KeyLists
 pub mod Keying
-pub mod OneShape
 pub mod OwnTypes
 pub mod Steps
 pub mod Telling

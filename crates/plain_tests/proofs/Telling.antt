@@ -24,7 +24,7 @@ use Rattle.plain_tests.specs.Own.{TellsAtomIf, TellsMutableIf, arrow_at, arrow_o
 use Rattle.plain_tests.specs.Shapes.{FindsShape, TellsOne, frozen_in}
 use Rattle.plain_tests.specs.Tells.{IsOfMutable, Tells, TellsIf, TellsIfOne}
 use Rattle.plain_tests.proofs.Finding.{has_held}
-use Rattle.plain_tests.proofs.OneShape.{one}
+use Rattle.value_model.proofs.OneShape.{one}
 
 -- ---- the answer of a question
 

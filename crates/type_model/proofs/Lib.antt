@@ -9,4 +9,5 @@ pub mod PartLaws
 pub mod Same
 pub mod SameShapes
 pub mod SameTypes
+pub mod TextOrder
 pub mod Unfolding

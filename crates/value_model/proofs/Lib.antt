@@ -1,2 +1,4 @@
+pub mod EntryKeys
 pub mod Lookups
+pub mod OneShape
 pub mod Stability

@@ -19,7 +19,7 @@ mod tests;
 mod value;
 
 pub use filler::{Filler, FillerList};
-pub use laws::belonging_is_stable;
+pub use laws::{belonging_is_stable, shape_is_one};
 pub use native::{Native, NativeFault, Natives};
 pub use panics::PanicName;
 pub use tests::Tests;

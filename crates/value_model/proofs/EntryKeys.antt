@@ -11,8 +11,7 @@ use Rattle.std.proofs.lemmas.Map.Keys.{IsDistinct-cons}
 use Rattle.std.proofs.lemmas.Map.Steps.{length-le_from_keys}
 use Rattle.bal_base.specs.declared.text.Text.{Text}
 use Rattle.type_model.specs.Places.{is_same_text}
-use Rattle.empty_product.proofs.KeyInsert.{KeysSorted}
-use Rattle.empty_product.proofs.TextOrder.{Below, below-further, below-apart, not-below-itself}
+use Rattle.type_model.proofs.TextOrder.{Below, below-further, below-apart, not-below-itself, KeysSorted}
 use Rattle.value_model.specs.declared.value.Value.{Value}
 use Rattle.value_model.specs.Heap.{entry_at}
 

@@ -1,13 +1,11 @@
--- Texts in order: lists that rise, and one more text in them.
-use Rattle.std.proofs.Common.{◌≡◌, ℕ, zero, suc, ◌+◌, ◌<◌, List, [], ◌∷◌, ◌++◌, length, get_or, All, Some, slice_get, refl, sym, ap, subst, ◌∙◌, arith}
+-- Texts in order, and lists that rise.
+use Rattle.std.proofs.Common.{◌≡◌, ℕ, zero, suc, ◌+◌, ◌<◌, List, [], ◌∷◌, length, get_or, All, refl, sym, ap, subst, ◌∙◌, arith}
 use Rattle.std.specs.Prelude.{⊤}
 use Rattle.std.specs.declared.cmp.Ordering.TheVariants.{Less, Greater}
 use Rattle.std.specs.Ordering.{nat_cmp, ordering_reverse}
 use Rattle.std.specs.Cmp.Lexicographic.{slice_cmp, nat_list_cmp_total}
-use Rattle.std.proofs.lemmas.List.Elements.{All-nil, All-cons, All-head, All-tail, All-weaker, All-get_or, All-push}
+use Rattle.std.proofs.lemmas.List.Elements.{All-nil, All-cons, All-get_or, All-weaker}
 use Rattle.bal_base.specs.declared.text.Text.{Text}
-use Rattle.type_diagrams.proofs.Elements.{All-parts}
-use Rattle.empty_product.proofs.Zipped.{none_some, some_same, All-slice_get}
 
 abbrev pub Below : Text → Text → Type 0
 Below s t = slice_cmp nat_cmp s t ≡ Less
@@ -59,23 +57,6 @@ module _ {A : Type 0} (f : A → Text) where
       let e : suc (k + 1) ≡ suc k + 1 = omega arith in
       subst (λ j. Below (f (get_or xs k d)) (f (get_or (x ∷ xs) j d))) e (rise-Sorted xs h.1 k d (omega (arith, lt)))
 
-  -- an element of which the text is that of another one is at the same place
-  pub Sorted-append : (xs ys : List A) → Sorted (xs ++ ys) → Sorted xs × Sorted ys × All (λ x. All (λ y. Below (f x) (f y)) ys) xs
-  Sorted-append [] ys h = (tt, h, All-nil _)
-  Sorted-append (x ∷ xs) ys h =
-      let rest = Sorted-append xs ys h.1 in
-      let both = All-parts (λ y. Below (f x) (f y)) xs ys h.0 in
-      ((both.0, rest.0), rest.1, All-cons (λ z. All (λ y. Below (f z) (f y)) ys) x xs both.1 rest.2)
-
-  pub Sorted-push : (xs : List A) (y : A) → Sorted xs → All (λ x. Below (f x) (f y)) xs → Sorted (xs ++ y ∷ [])
-  Sorted-push [] y h above = (All-nil _, tt)
-  Sorted-push (x ∷ xs) y h above =
-      (All-push (λ z. Below (f x) (f z)) xs y h.0 (All-head (λ z. Below (f z) (f y)) x xs above), Sorted-push xs y h.1 (All-tail (λ z. Below (f z) (f y)) x xs above))
-
--- two places of a list that rises with one text are one
-pub Sorted-at : (ks : List Text) → Sorted (λ k. k) ks → (i j : ℕ) (k : Text) → slice_get ks i ≡ Some k → slice_get ks j ≡ Some k → i ≡ j
-Sorted-at [] h i j k p q = absurd (none_some p)
-Sorted-at (l ∷ ks) h zero zero k p q = refl
-Sorted-at (l ∷ ks) h zero (suc j) k p q = absurd (below-apart l k (All-slice_get (Below l) ks j k h.0 q) (some_same p))
-Sorted-at (l ∷ ks) h (suc i) zero k p q = absurd (below-apart l k (All-slice_get (Below l) ks i k h.0 p) (some_same q))
-Sorted-at (l ∷ ks) h (suc i) (suc j) k p q = ap suc (Sorted-at ks h.1 i j k p q)
+-- keys in order
+abbrev pub KeysSorted : List Text → Type 0
+KeysSorted keys = Sorted (λ k. k) keys

@@ -8,13 +8,12 @@ use Rattle.bal_base.specs.declared.shape.Shape.{Shape, Nil as NilShape, Bool as 
 use Rattle.bal_base.specs.Same.{IsSame, AreSame, FieldsSame}
 use Rattle.bal_base.specs.Valid.{IsValid, AreValid, FieldsValid, KeysRise}
 use Rattle.bal_base.proofs.SameShapes.{keys_of}
-use Rattle.empty_product.proofs.KeyInsert.{KeysSorted}
-use Rattle.empty_product.proofs.TextOrder.{Below, Sorted, Sorted-rise}
+use Rattle.type_model.proofs.TextOrder.{Below, Sorted, Sorted-rise, KeysSorted}
 use Rattle.value_model.specs.declared.value.Value.{Value}
 use Rattle.value_model.specs.declared.value.Value.TheVariants.{Nil, Bool as Truth, Int, Str, Struct, Error}
 use Rattle.value_model.specs.Heap.{Heap, Structure, Members, Items, Entries, entry_at}
 use Rattle.value_model.specs.Stands.{HasShape, HaveShapes, HaveFields, FrontIs, IsList, IsMapping}
-use Rattle.plain_tests.proofs.EntryKeys.{HasEntry, keys-fill, one-order}
+use Rattle.value_model.proofs.EntryKeys.{HasEntry, keys-fill, one-order}
 
 -- ---- keys of fields
 
