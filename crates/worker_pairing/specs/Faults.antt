@@ -147,17 +147,18 @@ module _ (ms : Members) where
   abbrev pub is_nth_receive : ℕ × ℕ → ℕ → Numbered → Bool
   is_nth_receive r k e = (e.worker == r.1) && (receives_from r.0 e.saying.kind && (before (receives_from r.0) (kinds_of r.1) e.number == k))
 
-  -- the pair of each send, in text order of the sends
-  abbrev sends : Numbered → Option (ℕ × ℕ) → Option (ℕ × ℕ)
-  sends e (Some r) = if e.worker == r.0 then Some r else None
-  sends e None = None
+  -- of a send its route
+  abbrev as_send : Numbered → Option (ℕ × ℕ) → Option (ℕ × ℕ)
+  as_send e (Some r) = if e.worker == r.0 then Some r else None
+  as_send e None = None
 
   abbrev pub pairs_on : Numbered → Option (ℕ × ℕ) → List Pair
   pairs_on e (Some r) = map (pair_with e) (filter (is_nth_receive r (place_on e r)) (in_text ms))
   pairs_on e None = []
 
+  -- the pair of each send, in text order of the sends
   abbrev pub pairs_of : List Pair
-  pairs_of = flat_map (λ e. pairs_on e (sends e (route e.worker e.saying.kind))) (in_text ms)
+  pairs_of = flat_map (λ e. pairs_on e (as_send e (route e.worker e.saying.kind))) (in_text ms)
 
 -- ---- the numbering
 

@@ -7,7 +7,7 @@ use Rattle.type_model.specs.declared.basic.SemType.{SemType, Basic}
 use Rattle.operations.specs.Talk.{workers_in}
 use Rattle.typed_tree.specs.declared.event.EventKind.{EventKind}
 use Rattle.typed_tree.specs.declared.event.EventKind.TheVariants.{Send, Post, Done, Receive, Flush, Wait, End}
-use Rattle.typed_tree.specs.declared.expr.TypedExpr.{TypedExpr, para-TypedExpr}
+use Rattle.typed_tree.specs.declared.expr.TypedExpr.{TypedExpr}
 use Rattle.typed_tree.specs.declared.expr.TypedExpr.TheOpen as layer
 use Rattle.typed_tree.specs.declared.form.StrictForm.{StrictForm}
 use Rattle.typed_tree.specs.declared.form.StrictForm.TheVariants as form
@@ -22,7 +22,7 @@ use Rattle.typed_tree.specs.declared.unit.TypedBody.TheVariants.{Block as BlockB
 use Rattle.typed_tree.specs.declared.unit.TypedFunction.{TypedFunction}
 use Rattle.typed_tree.specs.declared.unit.TypedWorker.{TypedWorker}
 use Rattle.typed_tree.specs.Exprs.{place_of, type_of}
-use Rattle.typed_tree.specs.ExprLayers.{TypedExprOf}
+use Rattle.typed_tree.specs.ExprLayers.{TypedExprOf, of_typed_expr}
 use Rattle.typed_tree.specs.Listed.{Listed, nothing, one, ◌&◌, joined, run}
 use Rattle.typed_tree.specs.SharedTypes.{sem_of}
 use Rattle.typed_tree.specs.StmtLayers.{TypedStmtOf, TypedClauseOf, TypedStmtSteps, of_typed_stmt}
@@ -50,15 +50,19 @@ set_apart nothing = nothing
 set_apart (one m) = one (apart m)
 set_apart (p & q) = set_apart p & set_apart q
 
--- ---- expressions and actions: a part beside what is marked in it
+-- ---- expressions and actions: of each part its type, and what is marked in it
 
-abbrev With : Type 0
-With = TypedExpr × Listed Mark
+abbrev pub With : Type 0
+With = SemType × Listed Mark
+
+abbrev pub marked : List With → Listed Mark
+marked [] = nothing
+marked (e ∷ es) = e.1 & marked es
 
 -- the type of the last one, which is what is sent
 abbrev pub last_type : List With → SemType
 last_type [] = nil_type
-last_type (e ∷ []) = sem_of (type_of e.0)
+last_type (e ∷ []) = e.0
 last_type (e ∷ x ∷ more) = last_type (x ∷ more)
 
 -- a wait on no worker is no event
@@ -105,42 +109,46 @@ if_checked true = nothing
 if_checked false = one Early
 
 -- an anonymous function is none of its worker's
-abbrev expr_step : TypedExprOf With → Listed Mark
+abbrev pub expr_step : TypedExprOf With → With
 expr_step (layer.Strict form operands type at) =
-    joined (map (λ e. e.1) operands.items) & form_marks form (last_type operands.items) (sem_of type) at
-expr_step (layer.Implied value type at) = nothing
-expr_step (layer.Local slot narrowed type at) = nothing
-expr_step (layer.And left right type at) = left.value.1 & set_apart right.value.1
-expr_step (layer.Or left right type at) = left.value.1 & set_apart right.value.1
-expr_step (layer.Conditional condition middle last type at) = condition.value.1 & set_apart middle.value.1 & set_apart last.value.1
-expr_step (layer.Elvis own left right type at) = left.value.1 & set_apart right.value.1
-expr_step (layer.Check panics own operand type at) = operand.value.1 & if_checked panics
-expr_step (layer.Trap operand type at) = guarded operand.value.1
-expr_step (layer.Function function value type at) = nothing
-expr_step (layer.Parens inner type at) = inner.value.1
+    (sem_of type, marked operands.items & form_marks form (last_type operands.items) (sem_of type) at)
+expr_step (layer.Implied value type at) = (sem_of type, nothing)
+expr_step (layer.Local slot narrowed type at) = (sem_of type, nothing)
+expr_step (layer.And left right type at) = (sem_of type, left.value.1 & set_apart right.value.1)
+expr_step (layer.Or left right type at) = (sem_of type, left.value.1 & set_apart right.value.1)
+expr_step (layer.Conditional condition middle last type at) =
+    (sem_of type, condition.value.1 & set_apart middle.value.1 & set_apart last.value.1)
+expr_step (layer.Elvis own left right type at) = (sem_of type, left.value.1 & set_apart right.value.1)
+expr_step (layer.Check panics own operand type at) = (sem_of type, operand.value.1 & if_checked panics)
+expr_step (layer.Trap operand type at) = (sem_of type, guarded operand.value.1)
+expr_step (layer.Function function value type at) = (sem_of type, nothing)
+expr_step (layer.Parens inner type at) = (sem_of type, inner.value.1)
+
+abbrev pub typed_marks : TypedExpr → With
+typed_marks = of_typed_expr expr_step
 
 abbrev pub expr_marks : TypedExpr → Listed Mark
-expr_marks = para-TypedExpr (Listed Mark) expr_step
+expr_marks e = (typed_marks e).1
 
 abbrev pub exprs_marks : List TypedExpr → Listed Mark
 exprs_marks es = joined (map expr_marks es)
 
 -- ---- statements
 
-abbrev target_marks : UpdateTarget → Listed Mark
+abbrev pub target_marks : UpdateTarget → Listed Mark
 target_marks (Local slot narrowed type) = nothing
 target_marks (Variable m) = nothing
 target_marks (MemberTarget own read container key type) = expr_marks container.value & expr_marks key.value
 
-abbrev source_marks : Source → Listed Mark
+abbrev pub source_marks : Source → Listed Mark
 source_marks (Range own end from to) = expr_marks from.value & expr_marks to.value
 source_marks (ListSource own list) = expr_marks list.value
 
-abbrev return_marks : Option (Box TypedExpr) → Place → Listed Mark
+abbrev pub return_marks : Option (Box TypedExpr) → Place → Listed Mark
 return_marks None at = one (Returns nil_type at)
 return_marks (Some e) at = expr_marks e.value & one Early & one (Returns (sem_of (type_of e.value)) at)
 
-abbrev stmt_step : TypedStmtOf (Listed Mark) → Listed Mark
+abbrev pub stmt_step : TypedStmtOf (Listed Mark) → Listed Mark
 stmt_step (stmt_layer.Set slot value at) = expr_marks value.value
 stmt_step (stmt_layer.Perform form operands at) = exprs_marks operands.items
 stmt_step (stmt_layer.Update target op value at) = target_marks target & expr_marks value.value
@@ -154,10 +162,10 @@ stmt_step (stmt_layer.Block stmts at) = set_apart (joined stmts.items)
 stmt_step (stmt_layer.Break at) = nothing
 stmt_step (stmt_layer.Continue at) = nothing
 
-abbrev clause_step : TypedClauseOf (Listed Mark) → Listed Mark
+abbrev pub clause_step : TypedClauseOf (Listed Mark) → Listed Mark
 clause_step c = joined c.stmts.items
 
-abbrev marking : TypedStmtSteps (Listed Mark)
+abbrev pub marking : TypedStmtSteps (Listed Mark)
 marking = record { stmt = stmt_step; clause = clause_step }
 
 abbrev pub stmts_marks : List TypedStmt → Listed Mark
@@ -196,32 +204,33 @@ kinds m = map (λ s. s.kind) m.sayings
 
 -- ---- from marks to events and returns
 
-pub record Read : Type 0 where
+-- what is known of a worker by the marks so far
+pub record SoFar : Type 0 where
   pub sayings : List Saying
   pub returns : List Returning
   pub early : Bool
 
-abbrev says : Read → EventKind → Place → Bool → Bool → SemType → List Saying
+abbrev says : SoFar → EventKind → Place → Bool → Bool → SemType → List Saying
 says r kind at initial inner type =
     r.sayings ++ record { kind = kind; at = at; initial = initial; inner = inner; early = r.early; type = type } ∷ []
 
-abbrev gives_back : Read → SemType → Place → List Returning
+abbrev gives_back : SoFar → SemType → Place → List Returning
 gives_back r type at = r.returns ++ record { before = length r.sayings; type = type; at = at } ∷ []
 
 -- one mark more, in the initial part or behind it: in the initial part no worker runs, so a return there ends none
-abbrev pub read : Bool → Mark → Read → Read
-read initial (Says kind at inner type) r = record { sayings = says r kind at initial inner type; returns = r.returns; early = r.early }
-read initial Early r = record { sayings = r.sayings; returns = r.returns; early = if initial then r.early else true }
-read initial (Returns type at) r =
+abbrev pub with_mark : Bool → Mark → SoFar → SoFar
+with_mark initial (Says kind at inner type) r = record { sayings = says r kind at initial inner type; returns = r.returns; early = r.early }
+with_mark initial Early r = record { sayings = r.sayings; returns = r.returns; early = if initial then r.early else true }
+with_mark initial (Returns type at) r =
     record { sayings = r.sayings; returns = if initial then r.returns else gives_back r type at; early = r.early }
 
-abbrev pub nothing_read : Read
-nothing_read = record { sayings = []; returns = []; early = false }
+abbrev pub nothing_yet : SoFar
+nothing_yet = record { sayings = []; returns = []; early = false }
 
 -- a worker with this result type, of what is marked in its initial part and behind it; its end is its last event
 abbrev pub member_of : SemType → (initial rest : Listed Mark) → Place → Member
 member_of result initial rest end =
-    let r = run (read false) (rest & one (Says End end false nil_type)) (run (read true) initial nothing_read) in
+    let r = run (with_mark false) (rest & one (Says End end false nil_type)) (run (with_mark true) initial nothing_yet) in
     record { sayings = r.sayings; returns = r.returns; result = result }
 
 abbrev pub named_member : TypedWorker → Member
@@ -233,8 +242,8 @@ members_of_body result (BlockBody initial workers rest ends close) =
     member_of result (stmts_marks initial.items) (stmts_marks rest.items) close ∷ map named_member workers.items
 members_of_body result (ValueBody value) = member_of result nothing (expr_marks value.value) (place_of value.value) ∷ []
 
-abbrev pub members : TypedFunction → Members
-members f = members_of_body (sem_of f.unit.result) f.body
+abbrev pub members_of : TypedFunction → Members
+members_of f = members_of_body (sem_of f.unit.result) f.body
 
 -- ---- text order: the initial part, the named workers, and then the rest of the default one
 

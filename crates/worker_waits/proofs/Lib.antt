@@ -1,3 +1,4 @@
+pub mod Agreeing
 pub mod Left
 pub mod LeftStmts
 pub mod NoRing

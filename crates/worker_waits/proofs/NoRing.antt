@@ -7,7 +7,8 @@ use Rattle.run_model.specs.Strands.{channel_at}
 use Rattle.machine_model.specs.Machine.{Machine, State}
 use Rattle.worker_pairing.specs.Events.{ArePaired, Crew, IsNumbering, Needs, NeedsAs, before, events_of, receives_from, sends_to}
 use Rattle.worker_waits.specs.Standing.{AreAt, IsUnmet, said}
-use Rattle.worker_waits.specs.Waiting.{HasNoRing, IsUnfinished, Waits, awaited_by}
+use Rattle.machine_model.specs.Strands.{IsUnfinished}
+use Rattle.worker_waits.specs.Waiting.{HasNoRing, Waits, awaited_workers}
 use Rattle.std.proofs.lemmas.Bool.{cases_lt, eq-eqb}
 use Rattle.std.proofs.lemmas.List.Elements.{All-contains}
 use Rattle.worker_pairing.proofs.Counts.{at-most-all, before-all, not-before, nth-length, nth-there}
@@ -86,7 +87,7 @@ module _ {C : Type 0} (M : Machine C) (s : State C) (a : ℕ) (crew : Crew) (mad
       by (suc j) e = let l = at.left u live in (j, (among, sym e), omega (arith, l, e), omega (arith, e))
 
   event-behind : (e : EventKind) (w u : ℕ) → IsUnfinished s.common a u → IsUnfinished s.common a w → slice_get (events w) (made w) ≡ Some e
-      → IsUnmet s.common a w (said e) → Contains (awaited_by (said e)) u → IsBehind e w u
+      → IsUnmet s.common a w (said e) → Contains (awaited_workers (said e)) u → IsBehind e w u
   event-behind (Receive (Some v)) w u live own next unmet among =
       let same = only v u among in
       subst (λ x. IsBehind (Receive (Some v)) w x) (sym same) (receive-behind w v (subst (λ x. IsUnfinished s.common a x) same live) own next unmet)
@@ -121,7 +122,7 @@ module _ {C : Type 0} (M : Machine C) (s : State C) (a : ℕ) (crew : Crew) (mad
       by : (o : Option EventKind) → slice_get (events w) (made w) ≡ o → IsSomeAnd o (λ e. said e ≡ waits.talk) → IsUnmet s.common a w waits.talk → rank u (made u) < rank w (made w)
       by None next same unmet = absurd same
       by (Some e) next same unmet =
-          let b = event-behind e w u waits.unfinished own next (subst (λ t. IsUnmet s.common a w t) (sym same) unmet) (subst (λ t. Contains (awaited_by t) u) (sym same) waits.awaits) in
+          let b = event-behind e w u waits.unfinished own next (subst (λ t. IsUnmet s.common a w t) (sym same) unmet) (subst (λ t. Contains (awaited_workers t) u) (sym same) waits.awaits) in
           let needs : Needs crew w (made w) u b.0 = subst (λ o. IsSomeAnd o (λ x. NeedsAs crew x w (made w) u b.0)) (sym next) b.1
           in rises b.0 b.2 b.3 (n.follows w (made w) u b.0 needs)
 

@@ -7,7 +7,8 @@ use Rattle.run_model.specs.Common.{Common, End}
 use Rattle.run_model.specs.Strands.{activation_at, has_ended}
 use Rattle.machine_model.specs.Machine.{Machine, State}
 use Rattle.worker_waits.specs.Standing.{AreStuck, IsLastOf}
-use Rattle.worker_waits.specs.Waiting.{HasNoRing, IsUnfinished, Waits}
+use Rattle.machine_model.specs.Strands.{IsUnfinished}
+use Rattle.worker_waits.specs.Waiting.{HasNoRing, Waits}
 
 -- ---- the unfinished ones of the first workers
 

@@ -10,7 +10,9 @@ use Rattle.eval_model.specs.Expressions.{eval}
 use Rattle.eval_model.specs.Statements.{exec}
 use Rattle.eval_model.specs.Tasks.{Eval, Exec, Task}
 use Rattle.worker_pairing.specs.Events.{ArePaired, Crew, IsNumbering}
-use Rattle.worker_waits.specs.Left.{expr_shown, tasks_shown}
+use Rattle.worker_pairing.specs.Marks.{expr_marks, stmts_marks}
+use Rattle.worker_waits.specs.Agreement.{AreShown}
+use Rattle.worker_waits.specs.Left.{expr_shown, stmts_shown, tasks_shown}
 use Rattle.worker_waits.specs.Standing.{AreAt, AreStuck}
 use Rattle.worker_waits.specs.Waiting.{HasNoRing}
 
@@ -52,3 +54,7 @@ abbrev pub ExecKeepsEvents : Type 0
 ExecKeepsEvents =
     (s : TypedStmt) → IsPlain s → (ts : List Task) → (tasks_shown (Exec s ∷ ts)).wrong ≡ 0 →
     ((tasks_shown (exec s ts)).wrong ≡ 0) × ((k : List EventKind) → (tasks_shown (exec s ts)).own k ≡ (tasks_shown (Exec s ∷ ts)).own k)
+
+-- pairing sees just the events that are made on the way through
+abbrev pub MarksAreShown : Type 0
+MarksAreShown = ((e : TypedExpr) → AreShown (expr_marks e) (expr_shown e)) × ((ss : List TypedStmt) → AreShown (stmts_marks ss) (stmts_shown ss))

@@ -1,3 +1,4 @@
+pub mod Agreement
 pub mod Laws
 pub mod Left
 pub mod Standing

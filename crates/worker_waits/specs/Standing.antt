@@ -7,7 +7,8 @@ use Rattle.run_model.specs.Strands.{channel_at, has_ended}
 use Rattle.machine_model.specs.Machine.{Machine, State}
 use Rattle.operations.specs.Talk.{Talk, Sends, Receives, Flushes, StartsWorkers, AwaitsWorkers, NoTalk}
 use Rattle.worker_pairing.specs.Events.{Crew, before, events_of, receives_from, sends_to}
-use Rattle.worker_waits.specs.Waiting.{IsUnfinished, StopsAt, Waits, awaited_by, frames_of, role_of, top_role}
+use Rattle.machine_model.specs.Strands.{IsUnfinished, frames_of, role_of, top_role}
+use Rattle.worker_waits.specs.Waiting.{StopsAt, Waits, awaited_workers}
 
 -- what a worker says at an event
 abbrev pub to_peer : (ℕ → Talk) → Option ℕ → Talk
@@ -42,7 +43,7 @@ pub record AreAt {C : Type 0} (M : Machine C) (s : State C) (a : ℕ) (crew : Cr
   -- what was sent and not received is in the queue
   pub queue : (v w : ℕ) → (channel_at s.common a v w).sent ≤ length (channel_at s.common a v w).queue + (channel_at s.common a v w).received
   -- where a worker is blocked and awaits another one, its next event is what it is to do, which can't be done yet
-  pub stops : (w n u : ℕ) (talk : Talk) → StopsAt M s a w n talk → IsUnfinished s.common a w → Contains (awaited_by talk) u →
+  pub stops : (w n u : ℕ) (talk : Talk) → StopsAt M s a w n talk → IsUnfinished s.common a w → Contains (awaited_workers talk) u →
       IsSomeAnd (slice_get (events_of crew w) (made w)) (λ e. said e ≡ talk) × IsUnmet s.common a w talk
 
 -- the last call of strand n belongs to the unfinished worker w of the activation a, which is one of so many

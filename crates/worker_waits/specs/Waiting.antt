@@ -1,36 +1,23 @@
 -- Workers that wait for one another, in states of any machine.
-use Rattle.std.specs.Prelude.{◌≡◌, ℕ, true, List, [], ◌∷◌, Option, Some, None, IsSomeAnd, All, Any, Contains, get_or, slice_get}
+use Rattle.std.specs.Prelude.{◌≡◌, ℕ, true, List, [], ◌∷◌, Some, IsSomeAnd, All, Any, Contains, slice_get}
 use Rattle.bal_base.specs.declared.text.Text.{Text}
 use Rattle.bal_base.specs.Valid.{IsText}
 use Rattle.value_model.specs.Meaning.{Answers}
-use Rattle.run_model.specs.Common.{Common, Role, Need, IsBlocked}
+use Rattle.run_model.specs.Common.{Need, IsBlocked}
 use Rattle.run_model.specs.Strands.{activation_at, has_ended, strand_at}
-use Rattle.machine_model.specs.Machine.{Machine, Frame, State}
+use Rattle.machine_model.specs.Machine.{Machine, State}
 use Rattle.machine_model.specs.Runs.{Picking, Phase, IsReached, next_operation}
+use Rattle.machine_model.specs.Strands.{IsUnfinished, frames_of, role_of, top_role}
 use Rattle.operations.specs.Talk.{Talk, Sends, Receives, Flushes, StartsWorkers, AwaitsWorkers, NoTalk, talk_of}
 
 -- whose events an operation awaits
-abbrev pub awaited_by : Talk → List ℕ
-awaited_by (Sends w) = []
-awaited_by (Receives w) = w ∷ []
-awaited_by (Flushes w) = w ∷ []
-awaited_by StartsWorkers = []
-awaited_by (AwaitsWorkers ws) = ws
-awaited_by NoTalk = []
-
-abbrev pub role_of : ℕ → ℕ → Role
-role_of a w = record { activation = a; worker = w }
-
-abbrev pub top_role : {C : Type 0} → List (Frame C) → Option Role
-top_role [] = None
-top_role (f ∷ fs) = f.role
-
--- it is a worker of the activation, and has not ended
-abbrev pub IsUnfinished : Common → ℕ → ℕ → Type 0
-IsUnfinished c a w = slice_get (activation_at c a).ends w ≡ Some None
-
-abbrev pub frames_of : {C : Type 0} → State C → ℕ → List (Frame C)
-frames_of s n = get_or s.others n []
+abbrev pub awaited_workers : Talk → List ℕ
+awaited_workers (Sends w) = []
+awaited_workers (Receives w) = w ∷ []
+awaited_workers (Flushes w) = w ∷ []
+awaited_workers StartsWorkers = []
+awaited_workers (AwaitsWorkers ws) = ws
+awaited_workers NoTalk = []
 
 -- strand n is blocked in the worker w of the activation a, where it is to do this
 pub record StopsAt {C : Type 0} (M : Machine C) (s : State C) (a w n : ℕ) (talk : Talk) : Type 0 where
@@ -45,7 +32,7 @@ pub record Waits {C : Type 0} (M : Machine C) (s : State C) (a w u : ℕ) : Type
   pub strand : ℕ
   pub talk : Talk
   pub stops : StopsAt M s a w strand talk
-  pub awaits : Contains (awaited_by talk) u
+  pub awaits : Contains (awaited_workers talk) u
   pub unfinished : IsUnfinished s.common a u
 
 -- no workers of an activation, but none at all, are unfinished and wait each for another of them

@@ -1,5 +1,5 @@
 //! Laws of workers that wait. These calls do nothing: their clauses are laws.
-ghost use Rattle.worker_waits.specs.Laws.{EndsAll, EvalKeepsEvents, ExecKeepsEvents, RingsNever, SilenceShowsNothing};
+ghost use Rattle.worker_waits.specs.Laws.{EndsAll, EvalKeepsEvents, ExecKeepsEvents, MarksAreShown, RingsNever, SilenceShowsNothing};
 
 use machine_model::AnyMachine;
 
@@ -22,4 +22,9 @@ pub fn expressions_keep_events()
 /// And so it does where statements are taken apart.
 pub fn statements_keep_events()
     ensures { ExecKeepsEvents }
+{}
+
+/// The events that pairing sees in expressions and statements are just those that are made on the way through them.
+pub fn marks_are_shown()
+    ensures { MarksAreShown }
 {}
