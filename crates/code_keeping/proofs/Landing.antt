@@ -40,30 +40,33 @@ heads x y xs ys e = let q : x ≡ y = cc in q
 rests : (x y : ℕ) (xs ys : List ℕ) → Some (x ∷ xs) ≡ Some (y ∷ ys) → xs ≡ ys
 rests x y xs ys e = let q : xs ≡ ys = cc in q
 
+-- t was opened so many places behind the first one, in the reach of the others
 abbrev WasOpened : Code → ℕ → ℕ → ℕ → List ℕ → Type 0
-WasOpened code first n t ts = (k : ℕ) × (k < n) × (t ≡ first + k) × (traps_from code first k ≡ Some ts)
+WasOpened code first n t ts = (k landing : ℕ) × (k < n) × (t ≡ first + k) × (command_at code t ≡ Some (OpenTrap landing)) × (traps_from code first k ≡ Some ts)
 
 later-opened : (code : Code) (first n m t : ℕ) (ts : List ℕ) → n ≤ m → WasOpened code first n t ts → WasOpened code first m t ts
-later-opened code first n m t ts le (k, l, e, h) = (k, omega (arith, l, le), e, h)
+later-opened code first n m t ts le (k, landing, l, e, c, h) = (k, landing, omega (arith, l, le), e, c, h)
 
 -- by the number of places, which bounds how far back it is
-opened : (code : Code) (first fuel n t : ℕ) (ts : List ℕ) → n ≤ fuel → traps_from code first n ≡ Some (t ∷ ts) → WasOpened code first n t ts
+pub opened : (code : Code) (first fuel n t : ℕ) (ts : List ℕ) → n ≤ fuel → traps_from code first n ≡ Some (t ∷ ts) → WasOpened code first n t ts
 opened code first fuel zero t ts le e = absurd (let q : ⊥ = cc in q)
 opened code first zero (suc n) t ts le e = absurd (omega (arith, le))
-opened code first (suc fuel) (suc n) t ts le e = by (λ m x xs k h. opened code first fuel m x xs k h) (command_at code (first + n)) (traps_from code first n) refl e
+opened code first (suc fuel) (suc n) t ts le e = by (λ m x xs k h. opened code first fuel m x xs k h) (command_at code (first + n)) (traps_from code first n) refl refl e
   where
     by : ((m x : ℕ) (xs : List ℕ) → m ≤ fuel → traps_from code first m ≡ Some (x ∷ xs) → WasOpened code first m x xs) →
-        (c : Option Command) (o : Option (List ℕ)) → traps_from code first n ≡ o → traps_then (first + n) c o ≡ Some (t ∷ ts) → WasOpened code first (suc n) t ts
-    by go c None e h = absurd (let q : ⊥ = cc in q)
-    by go (Some (OpenTrap landing)) (Some traps) e h = (n, omega arith, sym (heads (first + n) t traps ts h), e ∙ ap (λ xs. Some xs) (rests (first + n) t traps ts h))
-    by go (Some CloseTrap) (Some []) e h = absurd (let q : ⊥ = cc in q)
-    by go (Some CloseTrap) (Some (x ∷ traps)) e h =
-        let (k, l, is, more) = go n x traps (omega (arith, le)) e in
+        (c : Option Command) (o : Option (List ℕ)) → command_at code (first + n) ≡ c → traps_from code first n ≡ o → traps_then (first + n) c o ≡ Some (t ∷ ts) → WasOpened code first (suc n) t ts
+    by go c None ec e h = absurd (let q : ⊥ = cc in q)
+    by go (Some (OpenTrap landing)) (Some traps) ec e h =
+        let same : first + n ≡ t = heads (first + n) t traps ts h in
+        (n, landing, omega arith, sym same, subst (λ q. command_at code q ≡ Some (OpenTrap landing)) same ec, e ∙ ap (λ xs. Some xs) (rests (first + n) t traps ts h))
+    by go (Some CloseTrap) (Some []) ec e h = absurd (let q : ⊥ = cc in q)
+    by go (Some CloseTrap) (Some (x ∷ traps)) ec e h =
+        let (k, landing, l, is, does, more) = go n x traps (omega (arith, le)) e in
         later-opened code first k (suc n) t ts (omega (arith, l)) (go k t ts (omega (arith, l, le)) (more ∙ h))
-    by go (Some (Do o)) (Some traps) e h = later-opened code first n (suc n) t ts (omega arith) (go n t ts (omega (arith, le)) (e ∙ h))
-    by go (Some (GoTo to)) (Some traps) e h = later-opened code first n (suc n) t ts (omega arith) (go n t ts (omega (arith, le)) (e ∙ h))
-    by go (Some (GoToIfNot to)) (Some traps) e h = later-opened code first n (suc n) t ts (omega arith) (go n t ts (omega (arith, le)) (e ∙ h))
-    by go None (Some traps) e h = later-opened code first n (suc n) t ts (omega arith) (go n t ts (omega (arith, le)) (e ∙ h))
+    by go (Some (Do o)) (Some traps) ec e h = later-opened code first n (suc n) t ts (omega arith) (go n t ts (omega (arith, le)) (e ∙ h))
+    by go (Some (GoTo to)) (Some traps) ec e h = later-opened code first n (suc n) t ts (omega arith) (go n t ts (omega (arith, le)) (e ∙ h))
+    by go (Some (GoToIfNot to)) (Some traps) ec e h = later-opened code first n (suc n) t ts (omega arith) (go n t ts (omega (arith, le)) (e ∙ h))
+    by go None (Some traps) ec e h = later-opened code first n (suc n) t ts (omega arith) (go n t ts (omega (arith, le)) (e ∙ h))
 
 -- ---- errors
 
@@ -125,7 +128,7 @@ module _ (code : Code) (f : Frame Standing) (u : CodeUnit) (eu : slice_get code.
   caught q in-q c d e closed error later slots numbers own held stack (trap ∷ traps) None er h = absurd h
   caught q in-q c d e closed error later slots numbers own held stack (trap ∷ traps) (Some []) er h = absurd h
   caught q in-q c d e closed error later slots numbers own held stack (trap ∷ traps) (Some (t ∷ ts)) er ((command, fit, (more, is)), others) =
-      let (k, lt, et, ek) = opened code u.first (q - u.first) (q - u.first) t ts (omega arith) er in
+      let (k, landing, lt, et, ec, ek) = opened code u.first (q - u.first) (q - u.first) t ts (omega arith) er in
       let at-t : traps_at code u t ≡ Some ts = ap (λ n. traps_from code u.first n) (place t k et) ∙ ek in
       let in-t : IsIn u t = (omega (arith, et), omega (arith, et, lt, in-q.0, in-q.1)) in
       let there = typed t in-t in

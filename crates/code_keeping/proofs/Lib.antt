@@ -19,3 +19,4 @@ pub mod Shapes
 pub mod Staying
 pub mod Taking
 pub mod Talking
+pub mod Trapped

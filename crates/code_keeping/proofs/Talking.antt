@@ -99,7 +99,7 @@ pub record IsTalking (code : Code) (c : Common) (f : Frame Standing) (r : Role) 
   pub many-received : length tally.received ≡ length (crew code x.unit)
   pub good : GoodActivation code c r.activation x
 
-sizes : (m : StackMap) (n : ℕ) (t : Tally) → tally_of m ≡ Some t → (IsTrue m.counted → (length m.sent ≡ n) × (length m.received ≡ n)) → (length t.sent ≡ n) × (length t.received ≡ n)
+pub sizes : (m : StackMap) (n : ℕ) (t : Tally) → tally_of m ≡ Some t → (IsTrue m.counted → (length m.sent ≡ n) × (length m.received ≡ n)) → (length t.sent ≡ n) × (length t.received ≡ n)
 sizes m n t e h = by m.counted refl
   where
     by : (b : _) → m.counted ≡ b → (length t.sent ≡ n) × (length t.received ≡ n)

@@ -1,9 +1,9 @@
 -- What steps of well-typed code keep, as laws.
-use Rattle.std.specs.Prelude.{◌≡◌, ◌⊎◌, ◌<◌, ℕ, Bool, List, [], ◌∷◌, Option, Some, length}
+use Rattle.std.specs.Prelude.{◌≡◌, ◌⊎◌, ◌<◌, ◌+◌, ℕ, Bool, List, [], ◌∷◌, Option, Some, length, slice_get}
 use Rattle.type_model.specs.declared.basic.SemType.{SemType}
 use Rattle.operations.specs.declared.operation.Operation.{Operation}
 use Rattle.operations.specs.declared.operation.Operation.TheVariants as op
-use Rattle.operations.specs.Talk.{NoTalk, talk_of}
+use Rattle.operations.specs.Talk.{Talk, NoTalk, Receives, Sends, talk_of}
 use Rattle.operations.specs.Typing.{OpTyped}
 use Rattle.operations.specs.Rows.{Surroundings}
 use Rattle.value_model.specs.declared.filler.Filler.{Filler}
@@ -20,6 +20,7 @@ use Rattle.machine_model.specs.Keeping.{AreApart, AskFits, Caught}
 use Rattle.machine_model.specs.Machine.{Frame, On, goes_to}
 use Rattle.machine_model.specs.Runs.{Phase, Running}
 use Rattle.stack_code.specs.declared.code.Code.{Code}
+use Rattle.stack_code.specs.declared.code.Unit.{Unit as CodeUnit}
 use Rattle.stack_code.specs.CodeMachine.{Standing, codes}
 use Rattle.stack_code.specs.Commands.{Do, command_at}
 use Rattle.stack_code.specs.Flow.{tally_then}
@@ -27,7 +28,7 @@ use Rattle.stack_code.specs.Frames.{AwaitsResult, TallyIs, TopFits}
 use Rattle.stack_code.specs.Activations.{FitsBehind, GoodActivations}
 use Rattle.stack_code.specs.Good.{GoodCommon, IsLater, NearlyCommon, code_invariant}
 use Rattle.stack_code.specs.Messages.{IsLast}
-use Rattle.stack_code.specs.Places.{stack_at, tally_at}
+use Rattle.stack_code.specs.Places.{IsIn, IsStation, Station, stack_at, tally_at, traps_at}
 use Rattle.stack_code.specs.Tables.{UnitAt}
 use Rattle.stack_code.specs.Values.{Fits, GoodHeap, IsMadeError, code_types}
 use Rattle.stack_code.specs.WellTyped.{WellTyped}
@@ -129,6 +130,19 @@ FlushesKeep =
     StandsAt code c f r o → (o ≡ op.Flush w) ⊎ (o ≡ op.Done w) →
     (let x = channel_at c r.activation r.worker w in x.received < x.sent) → worker_end c r.activation w ≡ Some end →
     EndIsReceived code c f.control.place end
+
+-- in the reach of no trap, behind a tick: a panic there would come from before the message and from behind it, with other numbers
+abbrev pub StandsInNoTrap : (ℕ → Talk) → Type 0
+StandsInNoTrap says =
+    (code : Code) (unit : ℕ) (u : CodeUnit) (station : Station) (p w : ℕ) (o : Operation) →
+    WellTyped code → slice_get code.units unit ≡ Some u → IsStation code unit station → IsIn u p → IsIn u (p + 1) →
+    command_at code p ≡ Some (Do op.Tick) → command_at code (p + 1) ≡ Some (Do o) → talk_of o ≡ says w → traps_at code u (p + 1) ≡ Some []
+
+abbrev pub NoTrappedReceive : Type 0
+NoTrappedReceive = StandsInNoTrap Receives
+
+abbrev pub NoTrappedSend : Type 0
+NoTrappedSend = StandsInNoTrap Sends
 
 -- ---- tables of tests
 

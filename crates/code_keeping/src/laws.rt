@@ -1,5 +1,5 @@
 //! Laws of steps. These calls do nothing: their clauses are laws.
-ghost use Rattle.code_keeping.specs.Laws.{AwaitedComes, CallsKeep, EndsKeep, FlushesKeep, GoesOnByItself, GoodHeapsAreServed, MessagesKeep, ReturnsKeep, SendsKeep, SettlingKeeps, StrictOperationsKeep};
+ghost use Rattle.code_keeping.specs.Laws.{AwaitedComes, CallsKeep, EndsKeep, FlushesKeep, GoesOnByItself, GoodHeapsAreServed, MessagesKeep, NoTrappedReceive, NoTrappedSend, ReturnsKeep, SendsKeep, SettlingKeeps, StrictOperationsKeep};
 
 use run_model::Meaning;
 
@@ -42,4 +42,10 @@ pub fn good_heaps_are_served()
 /// When those whose needs are met are ready, all that is shared is good.
 pub fn settling_keeps()
     ensures { SettlingKeeps }
+{}
+
+/// In well-typed code no message is received or sent behind a tick in the reach of a trap.
+pub fn no_trapped_message()
+    ensures receives { NoTrappedReceive }
+    ensures sends { NoTrappedSend }
 {}

@@ -5,6 +5,7 @@
 //!   included, by the operation's row (`specs/Rows.antt`).
 //! - [`calls_and_returns_keep`] and [`awaited_results_come`]: calls, returns, and what awaits a result.
 //! - [`messages_keep`]: sends, receives and flushes between the workers of an activation.
+//! - [`no_trapped_message`]: messages stand in the reach of no trap.
 //! - [`settling_keeps`]: who wakes becomes ready.
 //! - [`good_heaps_are_served`]: what calls of the library need of the heap.
 //!
@@ -15,5 +16,5 @@ mod laws;
 
 pub use laws::{
     awaited_results_come, calls_and_returns_keep, goes_on_by_itself, good_heaps_are_served,
-    messages_keep, settling_keeps, strict_operations_keep,
+    messages_keep, no_trapped_message, settling_keeps, strict_operations_keep,
 };
