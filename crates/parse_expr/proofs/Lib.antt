@@ -2,6 +2,7 @@ pub mod Ending
 pub mod ExprReadings
 pub mod ExprRolls
 pub mod Follows
+pub mod Fronts
 pub mod ItemsLaw
 pub mod Law
 pub mod LayerLaw

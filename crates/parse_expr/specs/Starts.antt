@@ -12,8 +12,13 @@ use Rattle.bal_tree.specs.declared.expr.Member.{Member}
 use Rattle.bal_tree.specs.declared.expr.Postfix.{Postfix}
 use Rattle.bal_tree.specs.declared.expr.Primary.{Primary}
 use Rattle.bal_tree.specs.declared.level.Level.{Level}
+use Rattle.bal_tree.specs.declared.name.QualifiedName.{QualifiedName}
+use Rattle.bal_tree.specs.declared.params.Params.{Params}
+use Rattle.bal_tree.specs.NamePieces.{name_pieces}
+use Rattle.bal_tree.specs.TypePieces.{params_pieces}
+use Rattle.bal_tree.specs.TypeRules.{name_fits, params_are_formed}
 use Rattle.bal_tree.specs.ExprPieces.{expr_pieces, postfix_pieces, primary_pieces, key_pieces, member_pieces, detail_pieces}
-use Rattle.bal_tree.specs.ExprRules.{ExprEnd, expr_facts, postfix_facts, level, expr_is_formed, postfix_is_formed, primary_is_formed, key_is_formed, member_is_formed, detail_is_formed}
+use Rattle.bal_tree.specs.ExprRules.{ExprEnd, expr_facts, postfix_facts, level, name_begins_with_word, expr_is_formed, postfix_is_formed, primary_is_formed, key_is_formed, member_is_formed, detail_is_formed}
 use Rattle.bal_tree.specs.Levels.{rank}
 use Rattle.bal_tree.specs.Spells.{onto, kinds_of, first_place}
 use Rattle.parse_types.specs.Nesting.{first_too_deep, enclosed}
@@ -27,6 +32,15 @@ use Rattle.parse_expr.specs.Reaches.{Left}
 -- a well-formed expression stands at the front of the tokens, and this is left behind it
 abbrev pub StartsExpr : List Token → Kinds → Type 0
 StartsExpr tokens rest = (e : Expr) × (expr_is_formed e false ≡ true) × (kinds_of tokens ≡ onto (expr_pieces e) rest)
+
+-- the same of the parameters of a function, in parentheses
+abbrev pub StartsParams : List Token → Kinds → Type 0
+StartsParams tokens rest = (p : Params) × (params_are_formed p ≡ true) × (kinds_of tokens ≡ onto (params_pieces p) rest)
+
+-- and of a name whose first token is a word, in the middle of a conditional expression or not
+abbrev pub StartsName : Bool → List Token → Kinds → Type 0
+StartsName middle tokens rest =
+    (n : QualifiedName) × (name_fits middle n.prefix ≡ true) × (name_begins_with_word n.prefix ≡ true) × (kinds_of tokens ≡ onto (name_pieces n) rest)
 
 -- no token is too deep, and it is refused at its first one, since no expression stands there
 abbrev pub HasNoExpr : ℕ → List Token → Fault → Type 0

@@ -1,25 +1,43 @@
 //! The parameters of a function.
 #![tactic(auto, using(parse_types::proofs::Readings::spelling))]
 
-ghost use Rattle.std.specs.Prelude.{true, map, IfOk};
+ghost use Rattle.std.specs.Prelude.{◌≡◌, true, map, IfOk, IfErr};
 ghost use Rattle.std.specs.List.{list_all};
 ghost use Rattle.bal_base.specs.declared.token.Sign.TheVariants.{Comma};
 ghost use Rattle.bal_tree.specs.Pieces.{separated};
 ghost use Rattle.bal_tree.specs.Spells.{kinds_of};
 ghost use Rattle.bal_tree.specs.TypePieces.{type_pieces, param_pieces, rest_param_pieces, params_pieces, with_last};
 ghost use Rattle.bal_tree.specs.TypeRules.{type_is_formed, type_end, params_are_formed};
-ghost use Rattle.parse_types.specs.Starts.{Leaves, Reading, Settled};
-ghost use Rattle.parse_types.specs.Tokens.{take_word};
+ghost use Rattle.parse_types.specs.Starts.{IfMissing, Leaves, Reading, Settled};
+ghost use Rattle.parse_types.specs.Tokens.{Kinds, take_word};
 ghost use Rattle.bal_tree.specs.NamePieces.{word_pieces};
 ghost use Rattle.parse_expr.specs.Reaches as spec;
+ghost use Rattle.parse_expr.specs.Starts.{StartsParams};
 
 use bal_base::{Sign, Stop, Token};
 use bal_tree::{Param, Params, TypeTree, Word};
 use parse_types::{Missing, after_sign, longest_type, place, sign, word};
 use std::alloc::Global;
 
-/// The parameters of a function, in parentheses, and what follows them.
+/// The parameters of a function, in parentheses, and what follows them: no other well-formed ones stand there.
+///
+/// `Missing` is answered where none stand there.
 pub fn params(
+    alloc: Global,
+    file: u32,
+    tokens: &[Token],
+) -> Result<(Params, &[Token]), Stop<Missing>>
+    ensures reads { IfOk result (λ r. Reading (params_are_formed r.0) (params_pieces r.0) file tokens.now r.1.now) }
+    ensures exact { IfOk result (λ r. (rest : Kinds) → StartsParams tokens.now rest → kinds_of r.1.now ≡ rest) }
+    ensures none { IfErr result (λ stop. IfMissing stop ((rest : Kinds) → StartsParams tokens.now rest → ⊥)) }
+
+    // For the proofs of parsers of what has parameters: how far they go is a function of the tokens alone.
+    ensures end { Leaves (spec.params (kinds_of tokens.now)) result }
+{
+    in_parens(alloc, file, tokens)
+}
+
+fn in_parens(
     alloc: Global,
     file: u32,
     tokens: &[Token],
