@@ -1,0 +1,3 @@
+pub mod Agreeing
+pub mod Members
+pub mod Running
