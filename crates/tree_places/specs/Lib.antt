@@ -1,0 +1,8 @@
+pub mod Assigned
+pub mod Breaks
+pub mod ExprPlaces
+pub mod Gathered
+pub mod NameOf
+pub mod StmtPlaces
+pub mod UsedInExprs
+pub mod UsedInStmts
