@@ -1,5 +1,5 @@
 -- How checks in which atoms are added stand one behind another.
-use Rattle.std.proofs.Common.{◌≡◌, ℕ, zero, suc, ◌<◌, ◌≤◌, List, [], length, Result, Ok, Err, IfOk, IsErr, IsErrAnd, refl, sym, subst, ◌∙◌, arith}
+use Rattle.std.proofs.Common.{◌≡◌, ℕ, zero, suc, ◌<◌, ◌≤◌, List, [], length, Result, Ok, Err, IfOk, IfSome, IsErr, IsErrAnd, Option, None, Some, refl, sym, subst, ◌∙◌, arith}
 use Rattle.std.proofs.lemmas.Bool.{false≢true}
 use Rattle.bal_base.specs.declared.fault.Fault.{Fault}
 use Rattle.bal_base.specs.declared.shape.Shape.{Shape}
@@ -14,13 +14,15 @@ use Rattle.type_model.specs.Defined.{NamesBelow, ChoicesBelow, TyBelow}
 use Rattle.type_model.proofs.DefinedLaws.{TyBelow-more}
 use Rattle.type_model.proofs.Kept.{KeepsTypes-same}
 use Rattle.type_model.proofs.SameTypes.{In-same, NamesBelow-same}
-use Rattle.std.proofs.lemmas.List.Elements.{All-cons, All-nil}
+use Rattle.std.proofs.lemmas.List.Elements.{All-cons, All-nil, All-weaker}
 use Rattle.checks.specs.Checks.{Check, gives_some, ◌▷◌}
 use Rattle.checks.proofs.Steps.{goes_on, stops, some_is, ran_out}
 use Rattle.descriptors.specs.declared.names.Names.{Names}
 use Rattle.descriptors.specs.declared.names.OwnTypes.{OwnTypes}
 use Rattle.descriptors.specs.Described.{Atoms, HasMeaning, IsCopy, IsPlain, choice_of, list_of, mapping_of, plain}
-use Rattle.descriptors.specs.Steps.{AreNames, AreOwnTypes, Yields}
+use Rattle.descriptors.specs.Steps.{AreNames, AreOwnTypes, MeaningBelow, Yields}
+use Rattle.descriptors.specs.declared.names.Meaning.{Meaning}
+use Rattle.descriptors.specs.declared.names.Meaning.TheVariants.{TypeName, Constant, Variable, Function}
 
 -- ---- atoms that are kept
 
@@ -92,9 +94,32 @@ own-kept old new own k a =
       isolated_defined = omega (arith, a.isolated_defined, le);
     }
 
+-- ---- names that are kept
+
+number-kept : (old new : List AtomDef) (n : ℕ) → KeepsTypes old new → n < length old → n < length new
+number-kept old new n k h = let le : length old ≤ length new = kept-grows old new k in omega (arith, h, le)
+
+rest-kept : (old new : List AtomDef) (rest : Option Ty) → KeepsTypes old new → IfSome rest (TyBelow (length old)) → IfSome rest (TyBelow (length new))
+rest-kept old new None k h = tt
+rest-kept old new (Some t) k h = below-kept old new t k h
+
+said-kept : (old new : List AtomDef) (m : Meaning) → KeepsTypes old new → MeaningBelow (length old) m → MeaningBelow (length new) m
+said-kept old new (TypeName t) k h = below-kept old new t k h
+said-kept old new (Constant t) k h = below-kept old new t k h
+said-kept old new (Variable number final t) k h = below-kept old new t k h
+said-kept old new (Function s) k h = (
+  All-weaker (TyBelow (length old)) (TyBelow (length new)) (λ t. below-kept old new t k) s.params h.0,
+  rest-kept old new s.rest k h.1,
+  below-kept old new s.result k h.2,
+  number-kept old new s.arrow k h.3,
+  number-kept old new s.lists k h.4,
+  number-kept old new s.future k h.5,
+)
+
 pub names-kept : (old new : List AtomDef) (names : Names) → KeepsTypes old new → AreNames old names → AreNames new names
 names-kept old new names k a = record {
   types = λ scope name t e. below-kept old new t k (a.types scope name t e);
+  meanings = λ m name e at. said-kept old new e.meaning k (a.meanings m name e at);
   own = own-kept old new names.own k a.own;
 }
 

@@ -1,5 +1,5 @@
 -- What type descriptors mean, as checks in order.
-use Rattle.std.specs.Prelude.{◌≡◌, ◌==◌, ◌⊎◌, ℕ, ℤ, Bool, true, false, List, [], ◌∷◌, ◌++◌, length, map, fold, All, Option, None, Some, Result, Ok, Err, ⊤, if◌then◌else◌, pos, negsuc}
+use Rattle.std.specs.Prelude.{◌≡◌, ◌==◌, ◌⊎◌, ℕ, ℤ, Bool, true, false, List, [], ◌∷◌, ◌++◌, length, map, fold, All, Option, None, Some, Result, Ok, Err, if◌then◌else◌, pos, negsuc}
 use Rattle.std.specs.List.{list_any}
 use Rattle.std.specs.Int.{int_wrapping_neg, w64}
 use Rattle.bal_base.specs.Limits.{greatest_int}

@@ -42,35 +42,47 @@ module_of (Module m) = Some m
 abbrev pub as_type : Meaning → Result Ty FaultCode
 as_type (TypeName t) = Ok t
 as_type (Constant t) = Ok t
-as_type (Variable final t) = Err Unknown
+as_type (Variable number final t) = Err Unknown
 as_type (Function signature) = Err Unknown
+
+abbrev pub its_type : Result Meaning FaultCode → Result Ty FaultCode
+its_type (Ok m) = as_type m
+its_type (Err code) = Err code
 
 -- what a module defines under this name
 abbrev pub entry_in : Names → Name → ℕ → Option Entry
 entry_in names name m = option_and_then (λ found. get_by (is_same_text name) found.entries) (slice_get names.modules.items m)
 
 module _ (names : Names) (scope : Scope) where
+  -- what a prefix stands for: the library or a module of the package
+  abbrev pub source_named : Name → Option Source
+  source_named prefix = option_and_then (source_in prefix scope.file) (slice_get names.modules.items scope.module)
+
   -- the module in which a name with this prefix is sought
   abbrev pub imported : Name → Option ℕ
-  imported prefix = option_and_then module_of (option_and_then (source_in prefix scope.file) (slice_get names.modules.items scope.module))
+  imported prefix = option_and_then module_of (source_named prefix)
 
   abbrev pub home_of : Option Prefix → Option ℕ
   home_of None = Some scope.module
   home_of (Some (IntPrefix at)) = None
   home_of (Some (WordPrefix prefix)) = imported prefix.name
 
-  abbrev pub if_public : Bool → Entry → Result Ty FaultCode
-  if_public visible e = if visible then as_type e.meaning else Err NotPublic
+  abbrev pub if_public : Bool → Entry → Result Meaning FaultCode
+  if_public visible e = if visible then Ok e.meaning else Err NotPublic
 
-  abbrev pub if_defined : ℕ → Option Entry → Result Ty FaultCode
+  abbrev pub if_defined : ℕ → Option Entry → Result Meaning FaultCode
   if_defined home None = Err Unknown
   if_defined home (Some e) = if_public (home == scope.module || e.public) e
 
-  abbrev pub if_imported : Name → Option ℕ → Result Ty FaultCode
+  abbrev pub if_imported : Name → Option ℕ → Result Meaning FaultCode
   if_imported name None = Err Unknown
   if_imported name (Some home) = if_defined home (entry_in names name home)
 
-  -- The type that a name stands for in a descriptor, or why it stands for none. In its own module all names are seen, and in others
-  -- those that are public.
+  -- What a name stands for, or why for nothing: a type, a constant, a variable or a function. In its own module all names are seen,
+  -- and in others those that are public.
+  abbrev pub meaning_named : QualifiedName → Result Meaning FaultCode
+  meaning_named name = if_imported name.word.name (home_of name.prefix)
+
+  -- the type that a name stands for in a descriptor, or why it stands for none
   abbrev pub type_named : QualifiedName → Result Ty FaultCode
-  type_named name = if_imported name.word.name (home_of name.prefix)
+  type_named name = its_type (meaning_named name)

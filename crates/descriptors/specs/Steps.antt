@@ -1,25 +1,30 @@
 -- A check in which atoms are added, and what names need of the atoms that are there.
-use Rattle.std.specs.Prelude.{◌≡◌, ℕ, ◌<◌, List, length, Option, IfOk, IfSome, Result, Ok, Err, All}
+use Rattle.std.specs.Prelude.{◌≡◌, ℕ, ◌<◌, List, length, Option, IfOk, IfSome, Some, Result, Ok, Err, All}
 use Rattle.bal_base.specs.declared.fault.Fault.{Fault}
 use Rattle.bal_base.specs.declared.stop.Memory.{Memory as NoMemory}
 use Rattle.bal_base.specs.declared.stop.Stop.{Stop}
 use Rattle.bal_base.specs.declared.stop.Stop.TheVariants.{Memory}
+use Rattle.bal_base.specs.declared.text.Name.{Name}
 use Rattle.bal_tree.specs.declared.name.QualifiedName.{QualifiedName}
 use Rattle.type_model.specs.declared.atoms.AtomDef.{AtomDef}
 use Rattle.type_model.specs.declared.atoms.FieldDef.{FieldDef}
 use Rattle.type_model.specs.declared.basic.BasicSet.TheVariants.{ListAll, MappingAll}
 use Rattle.type_model.specs.declared.basic.SemType.{Atom}
 use Rattle.type_model.specs.declared.basic.Ty.{Ty}
+use Rattle.type_model.specs.Anydata.{IsAnydata}
 use Rattle.type_model.specs.Basic.{InBasic}
 use Rattle.type_model.specs.Calls.{KeepsTypes}
 use Rattle.type_model.specs.Defined.{TyBelow}
 use Rattle.checks.specs.Checks.{Check, Comes}
+use Rattle.descriptors.specs.declared.names.Entry.{Entry}
+use Rattle.descriptors.specs.declared.names.Meaning.{Meaning}
+use Rattle.descriptors.specs.declared.names.Meaning.TheVariants.{TypeName, Constant, Variable, Function}
 use Rattle.descriptors.specs.declared.names.Names.{Names}
 use Rattle.descriptors.specs.declared.names.OwnTypes.{OwnTypes}
 use Rattle.descriptors.specs.declared.names.Scope.{Scope}
-use Rattle.type_model.specs.Anydata.{IsAnydata}
+use Rattle.descriptors.specs.declared.names.Signature.{Signature}
 use Rattle.descriptors.specs.Described.{Atoms, IsPlain, IsIsolatedFunction, plain}
-use Rattle.descriptors.specs.Naming.{type_named}
+use Rattle.descriptors.specs.Naming.{entry_in, type_named}
 
 -- the call is the check, types keep their shapes, and what it gives is defined over the atoms that are there then
 pub record Yields {A : Type 0} (IsOver : ℕ → A → Type 0) (check : Check Atoms A) (old : List AtomDef) (r : Result A (Stop Fault)) (new : List AtomDef) : Type 0 where
@@ -65,7 +70,20 @@ pub record AreOwnTypes (env : List AtomDef) (own : OwnTypes) : Type 0 where
   pub isolated : IsPlain IsIsolatedFunction env (plain (Atom own.isolated))
   pub isolated_defined : own.isolated < length env
 
--- What holds of names over atoms: each type that a name stands for is defined, and the language's own types are what they are.
+-- ---- which atoms meanings name
+
+abbrev pub SignatureBelow : ℕ → Signature → Type 0
+SignatureBelow n s = All (TyBelow n) s.params × IfSome s.rest (TyBelow n) × TyBelow n s.result × (s.arrow < n) × (s.lists < n) × (s.future < n)
+
+abbrev pub MeaningBelow : ℕ → Meaning → Type 0
+MeaningBelow n (TypeName t) = TyBelow n t
+MeaningBelow n (Constant t) = TyBelow n t
+MeaningBelow n (Variable number final t) = TyBelow n t
+MeaningBelow n (Function s) = SignatureBelow n s
+
+-- What holds of names over atoms: what a name stands for, in a descriptor and elsewhere, names only atoms that are there, and the
+-- language's own types are what they are.
 pub record AreNames (env : List AtomDef) (names : Names) : Type 0 where
   pub types : (scope : Scope) (name : QualifiedName) (t : Ty) → type_named names scope name ≡ Ok t → TyBelow (length env) t
+  pub meanings : (m : ℕ) (name : Name) (e : Entry) → entry_in names name m ≡ Some e → MeaningBelow (length env) e.meaning
   pub own : AreOwnTypes env names.own

@@ -92,7 +92,7 @@ pub(crate) fn new_plain(
 }
 
 /// Functions that give a result in `gives` to lists with these types at their first places, and then members of `rest`, or none.
-pub fn new_arrow(
+pub(crate) fn new_arrow(
     alloc: Global,
     draft: &mut Draft,
     isolated: bool,

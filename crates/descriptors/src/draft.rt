@@ -17,7 +17,7 @@ pub struct Draft {
 
 impl Draft {
     /// An atom more, and its number: `AtomLimit` at the place where there would be too many.
-    pub(crate) fn atom(&mut self, def: AtomDef, at: Place) -> Result<u32, Stop<Fault>>
+    pub fn atom(&mut self, def: AtomDef, at: Place) -> Result<u32, Stop<Fault>>
         requires { HasDistinctFields def }
         ensures { Drafts (λ n. DefBelow n def) IsAtom (numbered_on def at) self.old result self.new }
     {

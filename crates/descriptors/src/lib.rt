@@ -7,7 +7,7 @@
 //! - [`Names`]: what the names of a package stand for.
 //! - [`describe`]: a descriptor as it stands in a module, as a type.
 //! - [`own_types`]: the types that the language itself names, over atoms that are added once.
-//! - [`Draft`], [`type_tree`], [`rewritten`], [`new_arrow`] and their kin: the same by parts, for whoever makes the names. Atoms are
+//! - [`Draft`], [`type_tree`], [`rewritten`] and their kin: the same by parts, for whoever makes the names. Atoms are
 //!   drafted first, and then added as one group.
 #![tactic(auto)]
 
@@ -25,7 +25,6 @@ mod rewriting;
 mod sides;
 mod together;
 
-pub use atoms::new_arrow;
 pub use describing::describe;
 pub use descriptors::{result_type, type_if, type_tree};
 pub use draft::Draft;

@@ -61,8 +61,8 @@ pub enum Meaning {
     TypeName(Ty),
     /// A constant, with the type of its value alone.
     Constant(Ty),
-    /// A variable of the module, with its declared type.
-    Variable { is_final: bool, ty: Ty },
+    /// A variable of a module, with its number among those of the package, from 0 in text order, and its declared type.
+    Variable { number: u32, is_final: bool, ty: Ty },
     /// A function.
     Function(Signature),
 }
@@ -76,8 +76,12 @@ pub struct Signature {
     pub params: TyList,
     pub rest: Option<Ty>,
     pub result: Ty,
-    /// The type of the function as a value.
-    pub arrow: Ty,
+    /// The number of the atom of the function's own type.
+    pub arrow: u32,
+    /// The number of the atom of the lists of what takes the rest, or of the empty list where nothing does.
+    pub lists: u32,
+    /// The number of the atom of the futures of its result.
+    pub future: u32,
 }
 
 /// Where a descriptor stands: in a module, and in one of its files, where the file is known.

@@ -1,7 +1,7 @@
 //! What a name stands for in a descriptor, as it is seen from a module and a file.
 ghost use Rattle.std.specs.Prelude.{◌≡◌, IfOk, IfErr, Ok as Found, Err as Wrong};
 ghost use Rattle.std.specs.Option.{option_copied};
-ghost use Rattle.descriptors.specs.Naming.{file_source, first_source as first_source_of, source_in, module_of as module_of_source, home_of, imported as imported_as, entry_in, as_type as type_of, type_named as type_named_in};
+ghost use Rattle.descriptors.specs.Naming.{file_source, first_source as first_source_of, source_in, module_of as module_of_source, home_of, imported as imported_as, entry_in, as_type as type_of, meaning_named, source_named, type_named as type_named_in};
 
 use crate::names::{Entry, FileNames, Meaning, ModuleNames, Names, Scope, Source};
 use bal_base::{FaultCode, Name};
@@ -68,12 +68,18 @@ impl Meaning {
 }
 
 impl Names {
+    /// What a prefix stands for, seen from a module and a file: the library or a module of the package, if it stands for anything.
+    pub fn source(&self, scope: Scope, prefix: &Name) -> Option<Source>
+        ensures { result ≡ source_named self.now scope prefix.now }
+    {
+        self.modules.get(scope.module)?.source(scope.file, prefix)
+    }
+
     /// The module for which a prefix stands.
     fn imported(&self, scope: Scope, prefix: &Name) -> Option<usize>
         ensures { result ≡ imported_as self.now scope prefix.now }
     {
-        let module = self.modules.get(scope.module)?;
-        Some(module.source(scope.file, prefix)?.module()? as usize)
+        Some(self.source(scope, prefix)?.module()? as usize)
     }
 
     /// The module in which a name with this prefix is sought.
@@ -94,10 +100,11 @@ impl Names {
         self.modules.get(module)?.entries.get(name)
     }
 
-    /// The type that a name stands for in a descriptor: `Unknown` or `NotPublic` where it stands for none.
-    pub(crate) fn type_named(&self, scope: Scope, name: &QualifiedName) -> Result<&Ty, FaultCode>
-        ensures found { IfOk result (λ t. type_named_in self.now scope name.now ≡ Found t.now) }
-        ensures none { IfErr result (λ code. type_named_in self.now scope name.now ≡ Wrong code) }
+    /// What a name stands for, a type, a constant, a variable or a function, seen from a module and a file (Ballerina specification,
+    /// section 8): `Unknown` where it stands for nothing, and `NotPublic` where it is another module's and isn't public.
+    pub fn meaning(&self, scope: Scope, name: &QualifiedName) -> Result<&Meaning, FaultCode>
+        ensures found { IfOk result (λ m. meaning_named self.now scope name.now ≡ Found m.now) }
+        ensures none { IfErr result (λ code. meaning_named self.now scope name.now ≡ Wrong code) }
     {
         let Some(home) = self.home(scope, &name.prefix) else {
             return Err(FaultCode::Unknown);
@@ -106,9 +113,17 @@ impl Names {
             return Err(FaultCode::Unknown);
         };
         if home == scope.module || entry.public {
-            entry.meaning.as_type()
+            Ok(&entry.meaning)
         } else {
             Err(FaultCode::NotPublic)
         }
+    }
+
+    /// The type that a name stands for in a descriptor: `Unknown` or `NotPublic` where it stands for none.
+    pub(crate) fn type_named(&self, scope: Scope, name: &QualifiedName) -> Result<&Ty, FaultCode>
+        ensures found { IfOk result (λ t. type_named_in self.now scope name.now ≡ Found t.now) }
+        ensures none { IfErr result (λ code. type_named_in self.now scope name.now ≡ Wrong code) }
+    {
+        self.meaning(scope, name)?.as_type()
     }
 }
