@@ -78,8 +78,8 @@ module _ (names : Names) (scope : Scope) where
   if_imported name None = Err Unknown
   if_imported name (Some home) = if_defined home (entry_in names name home)
 
-  -- What a name stands for, or why for nothing: a type, a constant, a variable or a function. In its own module all names are seen,
-  -- and in others those that are public.
+  -- What a name stands for, or why for nothing: a type, a constant, a variable or a function. In its own module all
+  -- names are seen, and in others those that are public.
   abbrev pub meaning_named : QualifiedName → Result Meaning FaultCode
   meaning_named name = if_imported name.word.name (home_of name.prefix)
 

@@ -81,8 +81,8 @@ MeaningBelow n (Constant t) = TyBelow n t
 MeaningBelow n (Variable number final t) = TyBelow n t
 MeaningBelow n (Function s) = SignatureBelow n s
 
--- What holds of names over atoms: what a name stands for, in a descriptor and elsewhere, names only atoms that are there, and the
--- language's own types are what they are.
+-- What holds of names over atoms: what a name stands for, in a descriptor and elsewhere, names only atoms that are
+-- there, and the language's own types are what they are.
 pub record AreNames (env : List AtomDef) (names : Names) : Type 0 where
   pub types : (scope : Scope) (name : QualifiedName) (t : Ty) → type_named names scope name ≡ Ok t → TyBelow (length env) t
   pub meanings : (m : ℕ) (name : Name) (e : Entry) → entry_in names name m ≡ Some e → MeaningBelow (length env) e.meaning

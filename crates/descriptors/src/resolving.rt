@@ -68,7 +68,8 @@ impl Meaning {
 }
 
 impl Names {
-    /// What a prefix stands for, seen from a module and a file: the library or a module of the package, if it stands for anything.
+    /// What a prefix stands for, seen from a module and a file: the library or a module of the package, if it stands
+    /// for anything.
     pub fn source(&self, scope: Scope, prefix: &Name) -> Option<Source>
         ensures { result ≡ source_named self.now scope prefix.now }
     {
@@ -100,8 +101,9 @@ impl Names {
         self.modules.get(module)?.entries.get(name)
     }
 
-    /// What a name stands for, a type, a constant, a variable or a function, seen from a module and a file (Ballerina specification,
-    /// section 8): `Unknown` where it stands for nothing, and `NotPublic` where it is another module's and isn't public.
+    /// What a name stands for, a type, a constant, a variable or a function, seen from a module and a file (Ballerina
+    /// specification, section 8): `Unknown` where it stands for nothing, and `NotPublic` where it is another module's
+    /// and isn't public.
     pub fn meaning(&self, scope: Scope, name: &QualifiedName) -> Result<&Meaning, FaultCode>
         ensures found { IfOk result (λ m. meaning_named self.now scope name.now ≡ Found m.now) }
         ensures none { IfErr result (λ code. meaning_named self.now scope name.now ≡ Wrong code) }

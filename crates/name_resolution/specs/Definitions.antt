@@ -56,6 +56,13 @@ functions_in (Const d) = 0
 functions_in (VariableOf d) = 0
 functions_in (FunctionOf d) = 1
 
+-- how many variables it defines
+abbrev pub variables_in : Def → ℕ
+variables_in (TypeOf d) = 0
+variables_in (Const d) = 0
+variables_in (VariableOf d) = 1
+variables_in (FunctionOf d) = 0
+
 -- it defines the name in the module
 abbrev pub defines : ℕ → Name → Placed → Bool
 defines m name p = (m == p.«module») && is_same_text name (name_of p.def)

@@ -80,9 +80,11 @@ rest-adds (Some p) = places-add (descriptor_of p.ty.value)
 
 function-adds : (d : FunctionDef) → Adds (function_places d)
 function-adds d =
-    then-added (λ before. result (rest (params before)) ++ d.at ∷ []) d.at
+    then-added (λ before. ((result (rest (params before)) ++ d.at ∷ []) ++ d.at ∷ []) ++ d.at ∷ []) d.at
+    (then-added (λ before. (result (rest (params before)) ++ d.at ∷ []) ++ d.at ∷ []) d.at
+    (then-added (λ before. result (rest (params before)) ++ d.at ∷ []) d.at
     (then-added (λ before. result (rest (params before))) d.at
-    (both-add (λ before. rest (params before)) result (both-add params rest (params-add d.params.params.items) (rest-adds d.params.rest)) (if-add (descriptor_if d.result))))
+    (both-add (λ before. rest (params before)) result (both-add params rest (params-add d.params.params.items) (rest-adds d.params.rest)) (if-add (descriptor_if d.result))))))
   where
     params : List Place → List Place
     params before = fold param_places before d.params.params.items

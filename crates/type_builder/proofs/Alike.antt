@@ -1,5 +1,5 @@
 -- Entries that are alike, where types are named: names that have them stand for the same types.
-use Rattle.std.proofs.Common.{◌≡◌, ◌==◌, ◌||◌, ℕ, zero, suc, Bool, true, false, List, [], ◌∷◌, set, cond, Option, None, Some, Err, refl, sym, ap, subst, ◌∙◌}
+use Rattle.std.proofs.Common.{◌≡◌, ◌==◌, ◌||◌, ℕ, zero, suc, Bool, true, false, List, [], ◌∷◌, set, cond, Option, None, Some, Ok, Err, refl, sym, ap, subst, ◌∙◌}
 use Rattle.std.specs.Prelude.{slice_get}
 use Rattle.std.specs.List.{AllZip}
 use Rattle.std.proofs.lemmas.Option.{same_Some}
@@ -11,7 +11,7 @@ use Rattle.descriptors.specs.declared.names.Entry.{Entry}
 use Rattle.descriptors.specs.declared.names.Names.{Names}
 use Rattle.descriptors.specs.declared.names.OwnTypes.{OwnTypes}
 use Rattle.descriptors.specs.declared.names.Scope.{Scope}
-use Rattle.descriptors.specs.Naming.{as_type, home_of, if_defined, if_imported, type_named}
+use Rattle.descriptors.specs.Naming.{as_type, home_of, if_defined, if_imported, type_named, its_type}
 use Rattle.name_resolution.specs.Definitions.{Placed, defines, definitions_of, scope_at}
 use Rattle.type_builder.specs.Building.{first_entry}
 use Rattle.type_builder.specs.Passes.{AreEntries}
@@ -44,11 +44,15 @@ alike-set (e ∷ es) (g ∷ fs) zero x f all at one = (subst (IsAlike x) (sym (s
 alike-set (e ∷ es) (g ∷ fs) (suc n) x f all at one = (all.0, alike-set es fs n x f all.1 at one)
 
 module _ (names others : Names) (scope : Scope) (home : ℕ) (name : Name) where
-  visible : (e f : Entry) → IsAlike e f → if_defined names scope home (Some e) ≡ if_defined others scope home (Some f)
-  visible e f same =
-      ap (λ b. cond (home == scope.«module» || b) (as_type e.meaning) (Err NotPublic)) same.0 ∙ ap (λ r. cond (home == scope.«module» || f.public) r (Err NotPublic)) same.1
+  visible : (e f : Entry) → IsAlike e f → its_type (if_defined names scope home (Some e)) ≡ its_type (if_defined others scope home (Some f))
+  visible e f same = ap (λ b. its_type (cond (home == scope.«module» || b) (Ok e.meaning) (Err NotPublic))) same.0 ∙ by (home == scope.«module» || f.public)
+    where
+      by : (b : Bool) → its_type (cond b (Ok e.meaning) (Err NotPublic)) ≡ its_type (cond b (Ok f.meaning) (Err NotPublic))
+      by true = same.1
+      by false = refl
 
-  first-alike : (ps : List Placed) (es fs : List Entry) → AreAlike es fs → if_defined names scope home (first_entry home name ps es) ≡ if_defined others scope home (first_entry home name ps fs)
+  first-alike : (ps : List Placed) (es fs : List Entry) → AreAlike es fs
+      → its_type (if_defined names scope home (first_entry home name ps es)) ≡ its_type (if_defined others scope home (first_entry home name ps fs))
   unfolding AreAlike
   first-alike [] es fs all = refl
   first-alike (p ∷ ps) [] [] all = refl
@@ -56,18 +60,18 @@ module _ (names others : Names) (scope : Scope) (home : ℕ) (name : Name) where
   first-alike (p ∷ ps) (e ∷ es) [] all = absurd all
   first-alike (p ∷ ps) (e ∷ es) (f ∷ fs) all = by (defines home name p) (first-alike ps es fs all.1)
     where
-      by : (b : Bool) → if_defined names scope home (first_entry home name ps es) ≡ if_defined others scope home (first_entry home name ps fs)
-          → if_defined names scope home (cond b (Some e) (first_entry home name ps es)) ≡ if_defined others scope home (cond b (Some f) (first_entry home name ps fs))
+      by : (b : Bool) → its_type (if_defined names scope home (first_entry home name ps es)) ≡ its_type (if_defined others scope home (first_entry home name ps fs))
+          → its_type (if_defined names scope home (cond b (Some e) (first_entry home name ps es))) ≡ its_type (if_defined others scope home (cond b (Some f) (first_entry home name ps fs)))
       by true rest = visible e f all.0
       by false rest = rest
 
 module _ (p : Package) (own other : OwnTypes) (es fs : List Entry) (names others : Names) (mine : AreEntries p own es names) (theirs : AreEntries p other fs others) (all : AreAlike es fs) where
   pub same-types : (q : Placed) (name : QualifiedName) → type_named names (scope_at q) name ≡ type_named others (scope_at q) name
   same-types q name =
-      from (home_of names (scope_at q) name.prefix) ∙ ap (if_imported others (scope_at q) name.word.name) (same-home p own es names mine q name.prefix ∙ sym (same-home p other fs others theirs q name.prefix))
+      from (home_of names (scope_at q) name.prefix) ∙ ap (λ o. its_type (if_imported others (scope_at q) name.word.name o)) (same-home p own es names mine q name.prefix ∙ sym (same-home p other fs others theirs q name.prefix))
     where
-      from : (o : Option ℕ) → if_imported names (scope_at q) name.word.name o ≡ if_imported others (scope_at q) name.word.name o
+      from : (o : Option ℕ) → its_type (if_imported names (scope_at q) name.word.name o) ≡ its_type (if_imported others (scope_at q) name.word.name o)
       from None = refl
       from (Some home) =
-          ap (if_defined names (scope_at q) home) (mine.named home name.word.name) ∙ first-alike names others (scope_at q) home name.word.name (definitions_of p) es fs all
-          ∙ sym (ap (if_defined others (scope_at q) home) (theirs.named home name.word.name))
+          ap (λ o. its_type (if_defined names (scope_at q) home o)) (mine.named home name.word.name) ∙ first-alike names others (scope_at q) home name.word.name (definitions_of p) es fs all
+          ∙ sym (ap (λ o. its_type (if_defined others (scope_at q) home o)) (theirs.named home name.word.name))

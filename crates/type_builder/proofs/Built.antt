@@ -1,6 +1,8 @@
 -- How the steps of `build` stand one behind another.
-use Rattle.std.proofs.Common.{◌≡◌, ◌≤◌, ◌+◌, ◌++◌, ℕ, length, length-append, None, Some, Result, Ok, Err, IsErr, IsErrAnd, sym, subst, ap, ◌∙◌, arith}
+use Rattle.std.proofs.Common.{◌≡◌, ◌≤◌, ◌+◌, ◌++◌, ℕ, length, length-append, Option, None, Some, Result, refl, Ok, Err, IsErr, IsErrAnd, sym, subst, ap, ◌∙◌, arith}
+use Rattle.std.specs.Option.{option_and_then}
 use Rattle.std.proofs.lemmas.Bool.{false≢true}
+use Rattle.std.proofs.lemmas.Option.{none-some, same_Some}
 use Rattle.bal_base.specs.Stops.{IfFault}
 use Rattle.bal_base.specs.declared.fault.Fault.{Fault}
 use Rattle.bal_base.specs.declared.limits.TheConstants.{MOST_ATOMS}
@@ -13,7 +15,7 @@ use Rattle.checks.specs.Checks.{Check, Comes}
 use Rattle.checks.specs.Questions.{adds}
 use Rattle.descriptors.specs.Described.{Atoms}
 use Rattle.descriptors.specs.Naming.{as_type, entry_in, type_named}
-use Rattle.descriptors.specs.Steps.{AreNames, AreOwnTypes}
+use Rattle.descriptors.specs.Steps.{AreNames, AreOwnTypes, MeaningBelow}
 use Rattle.descriptors.specs.declared.names.Entry.{Entry}
 use Rattle.descriptors.specs.declared.names.Meaning.{Meaning}
 use Rattle.descriptors.specs.declared.names.Meaning.TheVariants.{TypeName, Constant, Variable, Function}
@@ -24,11 +26,12 @@ use Rattle.name_resolution.specs.Faults.{all_named}
 use Rattle.name_resolution.specs.Outlines.{outlines_of}
 use Rattle.name_resolution.proofs.Faultless.{are-named}
 use Rattle.type_builder.proofs.KeptStages.{named-entry, same-ok, wrong}
+use Rattle.type_builder.specs.MainFunction.{ResultsAreDefined, result_of}
 use Rattle.type_builder.specs.AtomPlaces.{package_places, room_for}
-use Rattle.type_builder.specs.Building.{AreMeanings, AreNamesOf, MeaningBelow, defines_all}
+use Rattle.type_builder.specs.Building.{AreNamesOf, defines_all}
 use Rattle.type_builder.specs.Passes.{AreNamed, HaveRoom}
 use Rattle.type_model.specs.declared.basic.Ty.{Ty}
-use Rattle.type_model.specs.Defined.{TyBelow}
+use Rattle.type_model.specs.Defined.{IsDefined, TyBelow}
 
 -- ---- answers
 
@@ -87,7 +90,7 @@ module _ (n : ℕ) (names : Names) (below : (m : ℕ) (name : Name) (e : Entry) 
   type-below : (m : Meaning) (t : Ty) → MeaningBelow n m → as_type m ≡ Ok t → TyBelow n t
   type-below (TypeName s) t h is = subst (TyBelow n) (same-ok is) h
   type-below (Constant s) t h is = subst (TyBelow n) (same-ok is) h
-  type-below (Variable final s) t h is = absurd (wrong is)
+  type-below (Variable number final s) t h is = absurd (wrong is)
   type-below (Function s) t h is = absurd (wrong is)
 
   pub named-below : (scope : Scope) (name : QualifiedName) (t : Ty) → type_named names scope name ≡ Ok t → TyBelow n t
@@ -97,11 +100,23 @@ module _ (n : ℕ) (names : Names) (below : (m : ℕ) (name : Name) (e : Entry) 
 pub are-names : (env : Atoms) (n : ℕ) (names : Names) → n ≡ length env → AreOwnTypes env names.own → ((m : ℕ) (name : Name) (e : Entry) → entry_in names name m ≡ Some e → MeaningBelow n e.meaning) → AreNames env names
 are-names env n names same own below = record {
   types = λ scope name t is. subst (λ k. TyBelow k t) same (named-below n names below scope name t is);
+  meanings = λ m name e at. subst (λ k. MeaningBelow k e.meaning) same (below m name e at);
   own = own;
 }
 
-pub are-meanings : (env : Atoms) (n : ℕ) (names : Names) → n ≡ length env → ((m : ℕ) (name : Name) (e : Entry) → entry_in names name m ≡ Some e → MeaningBelow n e.meaning) → AreMeanings env names
-are-meanings env n names same below m name e at = subst (λ k. MeaningBelow k e.meaning) same (below m name e at)
+-- what functions give is defined where names are
+pub results-defined : (env : Atoms) (names : Names) (home : ℕ) → AreNames env names → ResultsAreDefined env names home
+results-defined env names home are name t is = found (entry_in names name home) refl is
+  where
+    found : (o : Option Entry) → entry_in names name home ≡ o → option_and_then (λ e. result_of e.meaning) o ≡ Some t → IsDefined env t
+    found None at h = absurd (none-some t h)
+    found (Some e) at h = of e.meaning (are.meanings home name e at) h
+      where
+        of : (m : Meaning) → MeaningBelow (length env) m → result_of m ≡ Some t → IsDefined env t
+        of (TypeName s) b h = absurd (none-some t h)
+        of (Constant s) b h = absurd (none-some t h)
+        of (Variable number final s) b h = absurd (none-some t h)
+        of (Function f) b h = subst (IsDefined env) (same_Some f.result.sem t h) b.2.0
 
 pub long-added : (old new group : Atoms) (first end : ℕ) → new ≡ old ++ group → first ≡ length old → first + length group ≡ end → end ≡ length new
 long-added old new group first end is at long = let longer : length new ≡ length old + length group = ap length is ∙ length-append old group in omega (arith, at, long, longer)

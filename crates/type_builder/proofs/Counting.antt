@@ -73,7 +73,7 @@ module _ {S : Type 0} (size : S → ℕ) where
     pub some-same : (A : Type 0) (P : Atoms → A → Type 0) → Counted (some A P) as_before
     some-same A P s a t before e h = some_keeps A P s a t h ∙ e
 
-    atom-counted : (def : AtomDef) (at : Place) → Counted (atom def at) (one_more at)
+    pub atom-counted : (def : AtomDef) (at : Place) → Counted (atom def at) (one_more at)
     atom-counted def at s n t before e h = atom_adds def at s n t h ∙ ap (λ k. k + 1) e ∙ sym (length-append before (at ∷ []))
 
     list-counted : (fixed : List Ty) (rest : Option Ty) (at : Place) → Counted (list_by atom fixed rest at) (one_more at)

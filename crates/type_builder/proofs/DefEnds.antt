@@ -1,5 +1,5 @@
 -- The second pass: how it begins, and what is so at its end.
-use Rattle.std.proofs.Common.{◌≡◌, ◌≤◌, ◌||◌, ℕ, suc, ◌+◌, ◌++◌, List, [], ◌∷◌, length, fold, take, cond, All, get_or, None, Some, Err, refl, sym, ap, subst, ◌∙◌, arith}
+use Rattle.std.proofs.Common.{◌≡◌, ◌≤◌, ◌||◌, ℕ, suc, ◌+◌, ◌++◌, List, [], ◌∷◌, length, fold, take, cond, All, get_or, None, Some, Ok, Err, refl, sym, ap, subst, ◌∙◌, arith}
 use Rattle.std.specs.Prelude.{slice_get}
 use Rattle.std.proofs.lemmas.Bool.Decides.{Decides-eqb}
 use Rattle.std.proofs.lemmas.List.{take_all}
@@ -23,14 +23,15 @@ use Rattle.descriptors.specs.declared.names.Names.{Names}
 use Rattle.descriptors.specs.declared.names.OwnTypes.{OwnTypes}
 use Rattle.descriptors.specs.Described.{Atoms, plain, value_set}
 use Rattle.descriptors.specs.Drafts.{AreNamesBelow, AreSound, next_of, numbered_on, wherever}
-use Rattle.descriptors.specs.Naming.{as_type, entry_in, if_defined, type_named}
-use Rattle.descriptors.specs.Steps.{AreOwnTypes}
+use Rattle.descriptors.specs.Naming.{as_type, entry_in, if_defined, type_named, its_type}
+use Rattle.descriptors.specs.Steps.{AreOwnTypes, MeaningBelow}
 use Rattle.name_resolution.specs.Definitions.{Placed, definitions_of, is_public, name_of, scope_at}
 use Rattle.name_resolution.proofs.Known.{first-placed, known}
 use Rattle.type_builder.specs.AtomPlaces.{package_places}
-use Rattle.type_builder.specs.Building.{AreNamesOf, MeaningBelow}
+use Rattle.type_builder.specs.Building.{AreNamesOf}
 use Rattle.type_builder.specs.Keeping.{AreKept, IsKeptAs}
-use Rattle.type_builder.specs.Meanings.{entries, entries_by}
+use Rattle.type_builder.specs.Meanings.{entries, entries_by, nothing_earlier}
+use Rattle.type_builder.specs.declared.earlier.Earlier.{Earlier}
 use Rattle.type_builder.specs.Passes.{AreNamed, IsEmptyFrom, end_of, first_meaning, placed_places}
 use Rattle.type_builder.proofs.Alike.{alike-back, alike-themselves, same-types}
 use Rattle.type_builder.proofs.DefStages.{IsDefinedTo, kept-at}
@@ -42,7 +43,7 @@ use Rattle.type_builder.proofs.Standing.{Stands}
 all-each : {X : Type 0} (P : X → Type 0) (xs : List X) → ((k : ℕ) (x : X) → slice_get xs k ≡ Some x → P x) → All P xs
 all-each P xs f = λ k d lt. f k (get_or xs k d) (slice_get-get_or xs k d lt)
 
-nothing-drafted : (names : Names) (s : Draft) → entries_by numbered_on (wherever names) names 0 [] s (Gives []) s
+nothing-drafted : (names : Names) (s : Draft) → entries_by numbered_on (wherever names) names nothing_earlier [] s (Gives []) s
 unfolding gives_some
 nothing-drafted names s = (refl, refl)
 
@@ -62,7 +63,7 @@ module _ (p : Package) (own : OwnTypes) (first : ℕ) (known-names : Names) (kep
       let first_is = sym (first-placed p q.«module» (name_of q.def)) ∙ (known p named n q at).first ∙ ap Some (let same : n ≡ n + 0 = omega arith in same) in
       let found : entry_in known-names (name_of q.def) q.«module» ≡ Some e =
       kept.entries.named q.«module» (name_of q.def) ∙ first-entry q.«module» (name_of q.def) 0 n (definitions_of p) kept.es kept.long first_is ∙ there in
-      ap (if_defined known-names (scope_at q) q.«module») found ∙ ap (λ b. cond (b || e.public) (as_type e.meaning) (Err NotPublic)) ((Decides-eqb q.«module» q.«module»).1 refl)
+      ap (λ o. its_type (if_defined known-names (scope_at q) q.«module» o)) found ∙ ap (λ b. its_type (cond (b || e.public) (Ok e.meaning) (Err NotPublic))) ((Decides-eqb q.«module» q.«module»).1 refl)
 
   plain-below : (s : BasicSet) → TyBelow (end_of first p) (plain (Basic s))
   plain-below s = (tt, All-nil _, All-nil _)
@@ -82,7 +83,7 @@ module _ (p : Package) (own : OwnTypes) (first : ℕ) (known-names : Names) (kep
       by q (FunctionOf d) def_is at start same =
           subst (λ x. MeaningBelow (end_of first p) x.meaning) (sym (same ∙ ap (λ x. record { public = is_public q.def; meaning = first_meaning x }) def_is)) (plain-below Never)
 
-  pub nothing-defined : (s : Draft) → IsEmptyFrom first s → IsDefinedTo p own first known-names kept 0 s 0 known-names
+  pub nothing-defined : (s : Draft) → IsEmptyFrom first s → IsDefinedTo p own first known-names kept 0 s nothing_earlier known-names
   nothing-defined s (at, none) = record {
     start = s;
     empty = (at, none);
@@ -101,7 +102,7 @@ module _ (p : Package) (own : OwnTypes) (first : ℕ) (known-names : Names) (kep
 
   -- ---- at the end
 
-  module _ (places-are : fold placed_places [] (definitions_of p) ≡ package_places p) (i : ℕ) (draft : Draft) (unit : ℕ) (names : Names) (all : length (definitions_of p) ≤ i)
+  module _ (places-are : fold placed_places [] (definitions_of p) ≡ package_places p) (i : ℕ) (draft : Draft) (unit : Earlier) (names : Names) (all : length (definitions_of p) ≤ i)
       (stage : IsDefinedTo p own first known-names kept i draft unit names) where
     whole : take i (definitions_of p) ≡ definitions_of p
     whole = take_all i (definitions_of p) all
@@ -134,9 +135,9 @@ module _ (p : Package) (own : OwnTypes) (first : ℕ) (known-names : Names) (kep
         own_are = stage.entries.own_are;
         files = stage.entries.files;
         es = stage.es;
-        defined = subst (λ n. entries (old ++ draft.atoms.items) names 0 (definitions_of p) n (Gives stage.es) (length old + length draft.atoms.items)) (begin ∙ sym long)
-            (subst (λ n. entries (old ++ draft.atoms.items) names 0 (definitions_of p) (next_of stage.start) (Gives stage.es) n) after
-            (entries-there (old ++ draft.atoms.items) known-names owned-too names (same-types p own own kept.es stage.es known-names names kept.entries stage.entries (alike-back stage.es kept.es stage.alike)) 0
+        defined = subst (λ n. entries (old ++ draft.atoms.items) names nothing_earlier (definitions_of p) n (Gives stage.es) (length old + length draft.atoms.items)) (begin ∙ sym long)
+            (subst (λ n. entries (old ++ draft.atoms.items) names nothing_earlier (definitions_of p) (next_of stage.start) (Gives stage.es) n) after
+            (entries-there (old ++ draft.atoms.items) known-names owned-too names (same-types p own own kept.es stage.es known-names names kept.entries stage.entries (alike-back stage.es kept.es stage.alike)) nothing_earlier
             (definitions_of p) stage.start draft stage.es stand drafted-all));
         named = stage.entries.named;
       }
@@ -147,7 +148,7 @@ module _ (p : Package) (own : OwnTypes) (first : ℕ) (known-names : Names) (kep
           after : next_of draft ≡ length old + length draft.atoms.items
           after = let at : draft.first ≡ first = stage.first_is in omega (arith, at, long)
 
-          drafted-all : entries_by numbered_on (wherever known-names) known-names 0 (definitions_of p) stage.start (Gives stage.es) draft
+          drafted-all : entries_by numbered_on (wherever known-names) known-names nothing_earlier (definitions_of p) stage.start (Gives stage.es) draft
           drafted-all =
-              subst (λ es. entries_by numbered_on (wherever known-names) known-names 0 (definitions_of p) stage.start (Gives es) draft) (take_all i stage.es (let many : length stage.es ≡ length (definitions_of p) = stage.long in omega (arith, many, all)))
-              (subst (λ qs. entries_by numbered_on (wherever known-names) known-names 0 qs stage.start (Gives (take i stage.es)) draft) whole stage.drafted)
+              subst (λ es. entries_by numbered_on (wherever known-names) known-names nothing_earlier (definitions_of p) stage.start (Gives es) draft) (take_all i stage.es (let many : length stage.es ≡ length (definitions_of p) = stage.long in omega (arith, many, all)))
+              (subst (λ qs. entries_by numbered_on (wherever known-names) known-names nothing_earlier qs stage.start (Gives (take i stage.es)) draft) whole stage.drafted)

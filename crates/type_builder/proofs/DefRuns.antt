@@ -27,7 +27,8 @@ use Rattle.descriptors.specs.Drafts.{drafted}
 use Rattle.descriptors.specs.Steps.{AreOwnTypes}
 use Rattle.name_resolution.specs.Definitions.{Placed, functions_in, scope_at}
 use Rattle.type_builder.specs.AtomPlaces.{def_places, function_places}
-use Rattle.type_builder.specs.Meanings.{entries_by, entry_by, meaning_by, meaning_drafted}
+use Rattle.type_builder.specs.Meanings.{earlier_with, entries_by, entry_by, meaning_by, meaning_drafted}
+use Rattle.type_builder.specs.declared.earlier.Earlier.{Earlier}
 use Rattle.type_builder.specs.Passes.{entry_for, placed_places, started}
 use Rattle.type_builder.proofs.Adding.{all-placed-add, def-adds}
 
@@ -37,12 +38,12 @@ take-one xs i x at = take_more xs i x (slice_get_within xs i x at) ∙ ap (λ y.
 -- ---- so many functions, so many atoms
 
 -- how many functions come before what follows
-abbrev pub units : ℕ → List Placed → ℕ
-units = fold (λ n p. n + functions_in p.def)
+abbrev pub units : Earlier → List Placed → Earlier
+units = fold (λ n p. earlier_with n p.def)
 
-pub units-more : (unit : ℕ) (ps : List Placed) (q : Placed) → units unit (ps ++ q ∷ []) ≡ units unit ps + functions_in q.def
+pub units-more : (unit : Earlier) (ps : List Placed) (q : Placed) → units unit (ps ++ q ∷ []) ≡ earlier_with (units unit ps) q.def
 units-more unit [] q = refl
-units-more unit (p ∷ ps) q = units-more (unit + functions_in p.def) ps q
+units-more unit (p ∷ ps) q = units-more (earlier_with unit p.def) ps q
 
 -- a function needs an atom
 one-needed : (d : FunctionDef) → 1 ≤ length (function_places d [])
@@ -57,10 +58,10 @@ needed (Const d) = omega arith
 needed (VariableOf d) = omega arith
 needed (FunctionOf d) = one-needed d
 
-pub units-within : (unit : ℕ) (ps : List Placed) → units unit ps ≤ unit + length (fold placed_places [] ps)
+pub units-within : (unit : Earlier) (ps : List Placed) → (units unit ps).functions ≤ unit.functions + length (fold placed_places [] ps)
 units-within unit [] = omega arith
 units-within unit (p ∷ ps) =
-    let more : units (unit + functions_in p.def) ps ≤ unit + functions_in p.def + length (fold placed_places [] ps) = units-within (unit + functions_in p.def) ps in
+    let more : (units (earlier_with unit p.def) ps).functions ≤ unit.functions + functions_in p.def + length (fold placed_places [] ps) = units-within (earlier_with unit p.def) ps in
     let own : functions_in p.def ≤ length (def_places [] p.def) = needed p.def in
     let all : length (fold placed_places (placed_places [] p) ps) ≡ length (placed_places [] p) + length (fold placed_places [] ps) = all-placed-add ps (placed_places [] p) in omega (arith, more, own, all)
 
@@ -90,12 +91,12 @@ places-within (suc n) (p ∷ ps) =
 -- ---- entries
 
 module _ {S : Type 0} (atom : AtomDef → Place → Check S ℕ) (some : (A : Type 0) → (Atoms → A → Type 0) → Check S A) (names : Names) where
-  pub entry-comes : (unit : ℕ) (q : Placed) (s t : S) (m : Meaning) → meaning_by atom some names (scope_at q) unit q.def s (Gives m) t → entry_by atom some names unit q s (Gives (entry_for q m)) t
+  pub entry-comes : (unit : Earlier) (q : Placed) (s t : S) (m : Meaning) → meaning_by atom some names (scope_at q) unit q.def s (Gives m) t → entry_by atom some names unit q s (Gives (entry_for q m)) t
   unfolding ◌▷◌ gives_some
   entry-comes unit q s t m h = (m, t, h, (refl, refl))
 
   -- the entry of one definition more
-  pub entries-push : (unit : ℕ) (ps : List Placed) (q : Placed) (s t v : S) (es : List Entry) (e : Entry) → entries_by atom some names unit ps s (Gives es) t → entry_by atom some names (units unit ps) q t (Gives e) v
+  pub entries-push : (unit : Earlier) (ps : List Placed) (q : Placed) (s t v : S) (es : List Entry) (e : Entry) → entries_by atom some names unit ps s (Gives es) t → entry_by atom some names (units unit ps) q t (Gives e) v
       → entries_by atom some names unit (ps ++ q ∷ []) s (Gives (es ++ e ∷ [])) v
   unfolding ◌▷◌ gives_some
   entries-push unit [] q s t v es e (none, same) h =
@@ -107,14 +108,14 @@ module _ {S : Type 0} (atom : AtomDef → Place → Check S ℕ) (some : (A : Ty
     (
       rest ++ e ∷ [],
       v,
-      entries-push (unit + functions_in p.def) ps q mid end v rest e more (subst (λ x. entry_by atom some names (units unit (p ∷ ps)) q x (Gives e) v) same h),
+      entries-push (earlier_with unit p.def) ps q mid end v rest e more (subst (λ x. entry_by atom some names (units unit (p ∷ ps)) q x (Gives e) v) same h),
       (ap (λ xs. xs ++ e ∷ []) is, refl),
     ),
   )
 
 -- ---- what single definitions mean
 
-module _ (names : Names) (scope : Scope) (unit : ℕ) (s t : Draft) (m : Meaning) where
+module _ (names : Names) (scope : Scope) (unit : Earlier) (s t : Draft) (m : Meaning) where
   -- a type with the same shapes in place of the one that was drafted
   pub type-exchanged : (d : TypeDef) (k : Ty) → ((a : Ty) (u : Draft) (env : Atoms) → drafted names scope (descriptor_of d.ty.value) s (Gives a) u → AreOwnTypes env names.own → IsRewritten a env k)
       → meaning_drafted names scope unit (TypeOf d) s (Gives m) t → meaning_drafted names scope unit (TypeOf d) s (Gives (TypeName k)) t
@@ -125,7 +126,7 @@ module _ (names : Names) (scope : Scope) (unit : ℕ) (s t : Draft) (m : Meaning
   unfolding ◌▷◌ gives_some
   constant-is d (declared, mid, first, (is, last)) = is
 
-  pub variable-is : (d : VariableDef) → meaning_drafted names scope unit (VariableOf d) s (Gives m) t → (u : Ty) × (m ≡ Variable d.is_final u)
+  pub variable-is : (d : VariableDef) → meaning_drafted names scope unit (VariableOf d) s (Gives m) t → (u : Ty) × (m ≡ Variable unit.variables d.is_final u)
   unfolding ◌▷◌ gives_some
   variable-is d (a, mid, first, (u, end, kept, (is, last))) = (u, is)
 

@@ -27,14 +27,14 @@ use Rattle.descriptors.specs.declared.names.OwnTypes.{OwnTypes}
 use Rattle.descriptors.specs.Described.{Atoms, plain, value_set}
 use Rattle.descriptors.specs.Drafts.{AreNamesBelow, AreSound, Drafts, next_of, numbered_on, wherever}
 use Rattle.descriptors.specs.Naming.{as_type, entry_in}
-use Rattle.descriptors.specs.Steps.{AreOwnTypes}
+use Rattle.descriptors.specs.Steps.{AreOwnTypes, MeaningBelow}
 use Rattle.name_resolution.specs.Definitions.{Placed, definitions_of, functions_in, is_public, scope_at}
 use Rattle.name_resolution.specs.Named.{IsClearDef, IsKnown, gives_type}
 use Rattle.name_resolution.proofs.Known.{apart-placed, known}
 use Rattle.type_builder.specs.AtomPlaces.{def_places, package_places}
-use Rattle.type_builder.specs.Building.{MeaningBelow}
 use Rattle.type_builder.specs.Keeping.{AreKept, IsKeptAs, IsKeptType}
-use Rattle.type_builder.specs.Meanings.{entries_by, entry_by, meaning_by, meaning_drafted}
+use Rattle.type_builder.specs.Meanings.{earlier_with, entries_by, entry_by, meaning_by, meaning_drafted, nothing_earlier}
+use Rattle.type_builder.specs.declared.earlier.Earlier.{Earlier}
 use Rattle.type_builder.specs.Passes.{AreEntries, AreNamed, HaveRoom, IsEmptyFrom, IsNoted, IsValueNoted, end_of, entry_for, first_meaning, first_of, placed_places}
 use Rattle.type_builder.proofs.Adding.{started-at}
 use Rattle.type_builder.proofs.Alike.{AreAlike, IsAlike, alike-set, same-types}
@@ -83,7 +83,7 @@ module _ (p : Package) (own : OwnTypes) (first : ℕ) (known-names : Names) (kep
       by n start q e (FunctionOf d) def_is same = (ap (λ x. x.public) same, λ h. absurd (false≢true (sym (ap gives_type def_is) ∙ h)))
 
   -- after so many definitions
-  pub record IsDefinedTo (i : ℕ) (draft : Draft) (unit : ℕ) (names : Names) : Type 0 where
+  pub record IsDefinedTo (i : ℕ) (draft : Draft) (unit : Earlier) (names : Names) : Type 0 where
     pub start : Draft
     pub empty : IsEmptyFrom first start
     pub es : List Entry
@@ -92,8 +92,8 @@ module _ (p : Package) (own : OwnTypes) (first : ℕ) (known-names : Names) (kep
     pub alike : AreAlike es kept.es
     pub left : (k : ℕ) → i ≤ k → slice_get es k ≡ slice_get kept.es k
     pub below : All (λ e. MeaningBelow (end_of first p) e.meaning) es
-    pub drafted : entries_by numbered_on (wherever known-names) known-names 0 (take i (definitions_of p)) start (Gives (take i es)) draft
-    pub unit_is : unit ≡ units 0 (take i (definitions_of p))
+    pub drafted : entries_by numbered_on (wherever known-names) known-names nothing_earlier (take i (definitions_of p)) start (Gives (take i es)) draft
+    pub unit_is : unit ≡ units nothing_earlier (take i (definitions_of p))
     pub first_is : draft.first ≡ first
     pub next_is : next_of draft ≡ first + length (fold placed_places [] (take i (definitions_of p)))
     pub sound : AreSound (end_of first p) draft.atoms.items
@@ -103,10 +103,10 @@ module _ (p : Package) (own : OwnTypes) (first : ℕ) (known-names : Names) (kep
     type-below : (m : Meaning) (t : Ty) → MeaningBelow (end_of first p) m → as_type m ≡ Ok t → TyBelow (end_of first p) t
     type-below (TypeName u) t h is = subst (TyBelow (end_of first p)) (same-ok is) h
     type-below (Constant u) t h is = subst (TyBelow (end_of first p)) (same-ok is) h
-    type-below (Variable final u) t h is = absurd (wrong is)
+    type-below (Variable number final u) t h is = absurd (wrong is)
     type-below (Function s) t h is = absurd (wrong is)
 
-    pub now-below : (i : ℕ) (draft : Draft) (unit : ℕ) (names : Names) → IsDefinedTo i draft unit names → AreNamesBelow names (end_of first p)
+    pub now-below : (i : ℕ) (draft : Draft) (unit : Earlier) (names : Names) → IsDefinedTo i draft unit names → AreNamesBelow names (end_of first p)
     now-below i draft unit names stage = record {
       types = λ scope name t h. of-name t name (named-entry names scope name t h);
       anydata = subst (λ o. TyBelow (end_of first p) o.anydata) same-own known-below.anydata;
@@ -121,7 +121,7 @@ module _ (p : Package) (own : OwnTypes) (first : ℕ) (known-names : Names) (kep
             let at = entry-there home name.word.name (definitions_of p) stage.es e (sym (stage.entries.named home name.word.name) ∙ there) in
             type-below e.meaning t (all-there (λ x. MeaningBelow (end_of first p) x.meaning) stage.es at.0 e stage.below at.1) is
 
-    module _ (i : ℕ) (draft new : Draft) (unit : ℕ) (names : Names) (q : Placed) (at : slice_get (definitions_of p) i ≡ Some q) (stage : IsDefinedTo i draft unit names) where
+    module _ (i : ℕ) (draft new : Draft) (unit : Earlier) (names : Names) (q : Placed) (at : slice_get (definitions_of p) i ≡ Some q) (stage : IsDefinedTo i draft unit names) where
       -- what is drafted over the names now is drafted over those at the beginning
       as-known : (o : Outcome Meaning) → meaning_drafted names (scope_at q) unit q.def draft o new → meaning_drafted known-names (scope_at q) unit q.def draft o new
       as-known o h =
@@ -159,13 +159,13 @@ module _ (p : Package) (own : OwnTypes) (first : ℕ) (known-names : Names) (kep
           none (OwnFault f) drafts = none-refused f (refused (meaning_drafted names (scope_at q) unit q.def) draft new f drafts.comes)
 
       -- there are no more functions than atoms
-      pub unit-fits : unit + functions_in q.def ≤ MOST_ATOMS
+      pub unit-fits : unit.functions + functions_in q.def ≤ MOST_ATOMS
       unit-fits =
-          let one : units 0 (take (i + 1) (definitions_of p)) ≡ units 0 (take i (definitions_of p)) + functions_in q.def = ap (units 0) more ∙ units-more 0 (take i (definitions_of p)) q in
-          let some : units 0 (take (i + 1) (definitions_of p)) ≤ 0 + length (fold placed_places [] (take (i + 1) (definitions_of p))) = units-within 0 (take (i + 1) (definitions_of p)) in
+          let one : (units nothing_earlier (take (i + 1) (definitions_of p))).functions ≡ (units nothing_earlier (take i (definitions_of p))).functions + functions_in q.def = ap (λ c. c.functions) (ap (units nothing_earlier) more ∙ units-more nothing_earlier (take i (definitions_of p)) q) in
+          let some : (units nothing_earlier (take (i + 1) (definitions_of p))).functions ≤ 0 + length (fold placed_places [] (take (i + 1) (definitions_of p))) = units-within nothing_earlier (take (i + 1) (definitions_of p)) in
           let within : length (fold placed_places [] (take (i + 1) (definitions_of p))) ≤ length (fold placed_places [] (definitions_of p)) = places-within (i + 1) (definitions_of p) in
           let all : length (fold placed_places [] (definitions_of p)) ≡ length (package_places p) = ap length places-are in
-          let is : unit ≡ units 0 (take i (definitions_of p)) = stage.unit_is in omega (arith, one, some, within, all, is, room)
+          let is : unit.functions ≡ (units nothing_earlier (take i (definitions_of p))).functions = ap (λ c. c.functions) stage.unit_is in omega (arith, one, some, within, all, is, room)
 
       module _ (m : Meaning) (after : Names) (drafts : Drafts (AreNamesBelow names) MeaningBelow (meaning_drafted names (scope_at q) unit q.def) draft (Ok m) new) where
         it : meaning_drafted known-names (scope_at q) unit q.def draft (Gives m) new
@@ -180,7 +180,7 @@ module _ (p : Package) (own : OwnTypes) (first : ℕ) (known-names : Names) (kep
         -- one definition more, with these entries
         advance : (now : List Entry) (e : Entry) → AreEntries p own now after → length now ≡ length (definitions_of p) → AreAlike now kept.es → ((k : ℕ) → i < k → slice_get now k ≡ slice_get kept.es k)
             → All (λ x. MeaningBelow (end_of first p) x.meaning) now → take i now ≡ take i stage.es → slice_get now i ≡ Some e
-            → entry_by numbered_on (wherever known-names) known-names unit q draft (Gives e) new → IsDefinedTo (i + 1) new (unit + functions_in q.def) after
+            → entry_by numbered_on (wherever known-names) known-names unit q draft (Gives e) new → IsDefinedTo (i + 1) new (earlier_with unit q.def) after
         advance now e entries long alike left below same there comes = record {
           start = stage.start;
           empty = stage.empty;
@@ -190,12 +190,12 @@ module _ (p : Package) (own : OwnTypes) (first : ℕ) (known-names : Names) (kep
           alike = alike;
           left = λ k le. left k (omega (arith, le));
           below = below;
-          drafted = subst (λ xs. entries_by numbered_on (wherever known-names) known-names 0 xs stage.start (Gives (take (i + 1) now)) new) (sym more)
-              (subst (λ ys. entries_by numbered_on (wherever known-names) known-names 0 (take i (definitions_of p) ++ q ∷ []) stage.start (Gives ys) new)
+          drafted = subst (λ xs. entries_by numbered_on (wherever known-names) known-names nothing_earlier xs stage.start (Gives (take (i + 1) now)) new) (sym more)
+              (subst (λ ys. entries_by numbered_on (wherever known-names) known-names nothing_earlier (take i (definitions_of p) ++ q ∷ []) stage.start (Gives ys) new)
               (ap (λ ys. ys ++ e ∷ []) (sym same) ∙ sym (take-one now i e there))
-              (entries-push numbered_on (wherever known-names) known-names 0 (take i (definitions_of p)) q stage.start draft new (take i stage.es) e stage.drafted
+              (entries-push numbered_on (wherever known-names) known-names nothing_earlier (take i (definitions_of p)) q stage.start draft new (take i stage.es) e stage.drafted
               (subst (λ u. entry_by numbered_on (wherever known-names) known-names u q draft (Gives e) new) stage.unit_is comes)));
-          unit_is = ap (λ u. u + functions_in q.def) stage.unit_is ∙ sym (ap (units 0) more ∙ units-more 0 (take i (definitions_of p)) q);
+          unit_is = ap (λ u. earlier_with u q.def) stage.unit_is ∙ sym (ap (units nothing_earlier) more ∙ units-more nothing_earlier (take i (definitions_of p)) q);
           first_is = drafts.first ∙ stage.first_is;
           next_is = longer ∙ ap (λ n. n + length (def_places [] q.def)) stage.next_is ∙ after-one;
           sound = drafts.sound (end_of first p) new-within (now-below i draft unit names stage) stage.sound;
@@ -214,13 +214,13 @@ module _ (p : Package) (own : OwnTypes) (first : ℕ) (known-names : Names) (kep
         still-there = stage.left i (omega arith) ∙ old-entry.1
 
         -- a type or a constant: all names stand for what they did
-        left-as-is : (e : Entry) → e ≡ old-entry.0 → after ≡ names → entry_by numbered_on (wherever known-names) known-names unit q draft (Gives e) new → IsDefinedTo (i + 1) new (unit + functions_in q.def) after
+        left-as-is : (e : Entry) → e ≡ old-entry.0 → after ≡ names → entry_by numbered_on (wherever known-names) known-names unit q draft (Gives e) new → IsDefinedTo (i + 1) new (earlier_with unit q.def) after
         left-as-is e same names-same comes =
             advance stage.es e (subst (AreEntries p own stage.es) (sym names-same) stage.entries) stage.long stage.alike (λ k le. stage.left k (omega (arith, le))) stage.below refl
             (still-there ∙ ap Some (sym same)) comes
 
         -- a variable or a function: its name stands for what it is
-        noted-anew : IsNoted q m names after → IsAlike (entry_for q m) old-entry.0 → IsDefinedTo (i + 1) new (unit + functions_in q.def) after
+        noted-anew : IsNoted q m names after → IsAlike (entry_for q m) old-entry.0 → IsDefinedTo (i + 1) new (earlier_with unit q.def) after
         noted-anew noted alike =
             advance (set stage.es i (entry_for q m)) (entry_for q m) (entry-set p own stage.es names after i q m (apart-placed p named) stage.long at stage.entries noted)
             (length-set stage.es i (entry_for q m) ∙ stage.long) (alike-set stage.es kept.es i (entry_for q m) old-entry.0 stage.alike old-entry.1 alike)
@@ -230,12 +230,12 @@ module _ (p : Package) (own : OwnTypes) (first : ℕ) (known-names : Names) (kep
             (entry-comes numbered_on (wherever known-names) known-names unit q draft new m it)
 
         -- the definition by its kind
-        by-kind : (def : Def) → q.def ≡ def → IsValueNoted q def m names after → IsDefinedTo (i + 1) new (unit + functions_in q.def) after
+        by-kind : (def : Def) → q.def ≡ def → IsValueNoted q def m names after → IsDefinedTo (i + 1) new (earlier_with unit q.def) after
         by-kind (TypeOf d) def_is same =
             let was = kept-at i q old-entry.0 at old-entry.1 in
             of-type (subst (IsKeptAs p own kept.es i was.0 q old-entry.0) def_is was.2) was.1
           where
-            of-type : {start : ℕ} → IsKeptType p own kept.es i start q old-entry.0 d → start ≡ first + length (fold placed_places [] (take i (definitions_of p))) → IsDefinedTo (i + 1) new (unit + functions_in q.def) after
+            of-type : {start : ℕ} → IsKeptType p own kept.es i start q old-entry.0 d → start ≡ first + length (fold placed_places [] (take i (definitions_of p))) → IsDefinedTo (i + 1) new (earlier_with unit q.def) after
             of-type {start} (t, is, kept-then) start_is =
                 left-as-is (entry_for q (TypeName t)) (sym is) same
                 (entry-comes numbered_on (wherever known-names) known-names unit q draft new (TypeName t)
@@ -261,5 +261,5 @@ module _ (p : Package) (own : OwnTypes) (first : ℕ) (known-names : Names) (kep
             let value = function-is known-names (scope_at q) unit draft new m d (subst (λ x. meaning_drafted known-names (scope_at q) unit x draft (Gives m) new) def_is it) in
             noted-anew noted (sym (ap (λ x. x.public) first_is), ap as_type value.1 ∙ sym (ap (λ x. as_type x.meaning) first_is ∙ ap (λ x. as_type (first_meaning x)) def_is))
 
-        pub one-defined : IsValueNoted q q.def m names after → IsDefinedTo (i + 1) new (unit + functions_in q.def) after
+        pub one-defined : IsValueNoted q q.def m names after → IsDefinedTo (i + 1) new (earlier_with unit q.def) after
         one-defined = by-kind q.def refl

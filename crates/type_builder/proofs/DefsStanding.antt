@@ -1,5 +1,5 @@
 -- Definitions whose atoms stand among the finished ones: what is drafted of them is what they mean there.
-use Rattle.std.proofs.Common.{◌≡◌, ℕ, ◌+◌, false, List, [], ◌∷◌, map, Option, refl, subst}
+use Rattle.std.proofs.Common.{◌≡◌, ℕ, false, List, [], ◌∷◌, map, Option, refl, subst}
 use Rattle.bal_base.specs.declared.place.Place.{Place}
 use Rattle.bal_tree.specs.declared.def.ConstDef.{ConstDef}
 use Rattle.bal_tree.specs.declared.def.Def.{Def}
@@ -7,7 +7,8 @@ use Rattle.bal_tree.specs.declared.def.Def.TheVariants.{«Type» as TypeOf, Cons
 use Rattle.bal_tree.specs.declared.def.FunctionDef.{FunctionDef}
 use Rattle.bal_tree.specs.declared.name.QualifiedName.{QualifiedName}
 use Rattle.type_model.specs.declared.atoms.AtomDef.{AtomDef}
-use Rattle.type_model.specs.declared.basic.SemType.{Basic}
+use Rattle.type_model.specs.declared.atoms.AtomDef.TheVariants.{List as ListAtom, Arrow, Future as FutureAtom}
+use Rattle.type_model.specs.declared.basic.SemType.{Atom, Basic}
 use Rattle.type_model.specs.declared.basic.Ty.{Ty}
 use Rattle.checks.specs.Checks.{Check, Outcome, Gives, Refuses, gives, ◌▷◌}
 use Rattle.descriptors.specs.declared.draft.Draft.{Draft}
@@ -22,10 +23,11 @@ use Rattle.descriptors.specs.Drafts.{next_of, numbered_on, wherever}
 use Rattle.descriptors.specs.Naming.{type_named}
 use Rattle.descriptors.specs.Steps.{AreOwnTypes}
 use Rattle.descriptors.proofs.Readings.{Follows, some-follows as given-follows, then-follows}
-use Rattle.name_resolution.specs.Definitions.{Placed, functions_in, is_public, scope_at}
-use Rattle.type_builder.specs.Meanings.{IsSignature, at_the_end, constant_by, entries, entries_by, entry_by, kept_by, meaning_by, numbered, param_descriptor, rest_descriptor, signature_by, signed_by}
+use Rattle.name_resolution.specs.Definitions.{Placed, is_public, scope_at}
+use Rattle.type_builder.specs.Meanings.{IfRewritten, IsSignature, at_the_end, constant_by, earlier_with, entries, entries_by, entry_by, kept_by, meaning_by, numbered, param_descriptor, rest_descriptor, signature_by, signed_by, values_by, values_of}
+use Rattle.type_builder.specs.declared.earlier.Earlier.{Earlier}
 use Rattle.type_builder.proofs.SameNames.{entries-same}
-use Rattle.type_builder.proofs.Standing.{IsNext, Stands, all-stand, arrow-stands, described-stands, if-stands, result-stands, some-follows}
+use Rattle.type_builder.proofs.Standing.{IsNext, Stands, all-stand, atom-follows, described-stands, if-stands, result-stands, some-follows}
 
 module _ (final : Atoms) (names : Names) (own : AreOwnTypes final names.own) where
   -- what is drafted is what is meant
@@ -42,10 +44,23 @@ module _ (final : Atoms) (names : Names) (own : AreOwnTypes final names.own) whe
   some-meant = some-follows final names own
 
   module _ (scope : Scope) where
+    atom-meant : (def : AtomDef) (at : Place) → AreMeant (numbered_on def at) (numbered final names def at)
+    atom-meant = atom-follows final names own
+
+    values-meant : (d : FunctionDef) (fixed : List Ty) (rest : Option Ty) (result : Ty)
+        → AreMeant (values_by numbered_on (wherever names) names scope d fixed rest result) (values_by (numbered final names) (at_the_end final names) names scope d fixed rest result)
+    values-meant d fixed rest result =
+        then-meant _ _ _ _ (atom-meant (ListAtom fixed rest) d.at)
+        (λ arguments. then-meant _ _ _ _ (atom-meant (Arrow (Atom arguments) result.sem d.isolated) d.at)
+        (λ arrow. then-meant _ _ _ _ (some-meant (Option Ty) (λ env. IfRewritten env rest))
+        (λ others. then-meant _ _ _ _ (atom-meant (ListAtom [] others) d.at)
+        (λ lists. then-meant _ _ _ _ (some-meant Ty (IsRewritten result))
+        (λ given. then-meant _ _ _ _ (atom-meant (FutureAtom given.sem) d.at) (λ future. gives-meant (values_of arrow lists future)))))))
+
     signed-meant : (unit : ℕ) (d : FunctionDef) (fixed : List Ty) (rest : Option Ty) (result : Ty)
         → AreMeant (signed_by numbered_on (wherever names) names scope unit d fixed rest result) (signed_by (numbered final names) (at_the_end final names) names scope unit d fixed rest result)
     signed-meant unit d fixed rest result =
-        then-meant _ _ _ _ (arrow-stands final names own scope d.isolated fixed rest result.sem d.at) (λ arrow. some-meant Signature (IsSignature unit d.isolated fixed rest result arrow))
+        then-meant _ _ _ _ (values-meant d fixed rest result) (λ atoms. some-meant Signature (IsSignature unit d.isolated fixed rest result atoms))
 
     signature-meant : (unit : ℕ) (d : FunctionDef)
         → AreMeant (signature_by numbered_on (wherever names) names scope unit d) (signature_by (numbered final names) (at_the_end final names) names scope unit d)
@@ -62,19 +77,19 @@ module _ (final : Atoms) (names : Names) (own : AreOwnTypes final names.own) whe
         (described_by (numbered final names) (at_the_end final names) names scope d ▷ λ t. kept_by (numbered final names) (at_the_end final names) names t ▷ λ u. gives (next u))
     kept-meant d next = then-meant _ _ _ _ (described-stands final names own scope d) (λ t. then-meant _ _ _ _ (some-meant Ty (IsRewritten t)) (λ u. gives-meant (next u)))
 
-    pub meaning-meant : (unit : ℕ) (def : Def)
+    pub meaning-meant : (unit : Earlier) (def : Def)
         → AreMeant (meaning_by numbered_on (wherever names) names scope unit def) (meaning_by (numbered final names) (at_the_end final names) names scope unit def)
     meaning-meant unit (TypeOf d) = kept-meant (descriptor_of d.ty.value) TypeName
     meaning-meant unit (Const d) = constant-meant d
-    meaning-meant unit (VariableOf d) = kept-meant (descriptor_of d.ty.value) (Variable d.is_final)
-    meaning-meant unit (FunctionOf d) = then-meant _ _ _ _ (signature-meant unit d) (λ s. gives-meant (Function s))
+    meaning-meant unit (VariableOf d) = kept-meant (descriptor_of d.ty.value) (Variable unit.variables d.is_final)
+    meaning-meant unit (FunctionOf d) = then-meant _ _ _ _ (signature-meant unit.functions d) (λ s. gives-meant (Function s))
 
-  entry-meant : (unit : ℕ) (p : Placed) → AreMeant (entry_by numbered_on (wherever names) names unit p) (entry_by (numbered final names) (at_the_end final names) names unit p)
+  entry-meant : (unit : Earlier) (p : Placed) → AreMeant (entry_by numbered_on (wherever names) names unit p) (entry_by (numbered final names) (at_the_end final names) names unit p)
   entry-meant unit p = then-meant _ _ _ _ (meaning-meant (scope_at p) unit p.def) (λ m. gives-meant (record { public = is_public p.def; meaning = m }))
 
-  entries-meant : (unit : ℕ) (ps : List Placed) → AreMeant (entries_by numbered_on (wherever names) names unit ps) (entries final names unit ps)
+  entries-meant : (unit : Earlier) (ps : List Placed) → AreMeant (entries_by numbered_on (wherever names) names unit ps) (entries final names unit ps)
   entries-meant unit [] = gives-meant []
-  entries-meant unit (p ∷ ps) = then-meant _ _ _ _ (entry-meant unit p) (λ e. then-meant _ _ _ _ (entries-meant (unit + functions_in p.def) ps) (λ es. gives-meant (e ∷ es)))
+  entries-meant unit (p ∷ ps) = then-meant _ _ _ _ (entry-meant unit p) (λ e. then-meant _ _ _ _ (entries-meant (earlier_with unit p.def) ps) (λ es. gives-meant (e ∷ es)))
 
   -- an atom's number and definition are told without names
   same-numbered : (others : Names) → numbered final names ≡ numbered final others
@@ -87,7 +102,7 @@ module _ (final : Atoms) (names : Names) (own : AreOwnTypes final names.own) whe
 
   module _ (others : Names) (alike : (q : Placed) (name : QualifiedName) → type_named names (scope_at q) name ≡ type_named others (scope_at q) name) where
     -- Entries that are drafted are what definitions mean over the finished atoms, and over names that stand for the same types.
-    pub entries-there : (unit : ℕ) (ps : List Placed) (s t : Draft) (es : List Entry) → Stands final names own t → entries_by numbered_on (wherever names) names unit ps s (Gives es) t
+    pub entries-there : (unit : Earlier) (ps : List Placed) (s t : Draft) (es : List Entry) → Stands final names own t → entries_by numbered_on (wherever names) names unit ps s (Gives es) t
         → entries final others unit ps (next_of s) (Gives es) (next_of t)
     entries-there unit ps s t es stand h =
         let there = (entries-meant unit ps).forth s (next_of s) (Gives es) t tt refl stand h in

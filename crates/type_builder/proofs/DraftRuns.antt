@@ -20,6 +20,7 @@ use Rattle.name_resolution.specs.Definitions.{Placed, scope_at}
 use Rattle.name_resolution.specs.Named.{IsClearDef, IsKnown}
 use Rattle.type_builder.specs.AtomPlaces.{def_places, places}
 use Rattle.type_builder.specs.Meanings.{meaning_drafted}
+use Rattle.type_builder.specs.declared.earlier.Earlier.{Earlier}
 use Rattle.type_builder.proofs.Adding.{Adds, def-adds, places-add}
 use Rattle.type_builder.proofs.Counting.{Counted, Grows, described-counted}
 use Rattle.type_builder.proofs.DefReadings.{meaning-counted, meaning-refusing}
@@ -61,7 +62,7 @@ module _ (names : Names) where
         none-refused (drafted names scope d) (places d) (places-add d) s t
         (described-refusing next_of numbered_on (wherever names) drafts-add (drafts-keep names) drafts-refuse (drafts-give names) names scope false d clear) f room h
 
-  module _ (unit : ℕ) (def : Def) (s t : Draft) where
+  module _ (unit : Earlier) (def : Def) (s t : Draft) where
     pub meaning-long : (scope : Scope) (m : Meaning) → meaning_drafted names scope unit def s (Gives m) t → next_of t ≡ next_of s + length (def_places [] def)
     meaning-long scope m h =
         so-many (meaning_drafted names scope unit def) (λ before. def_places before def) (def-adds def) s t

@@ -1,10 +1,10 @@
 -- Members that are found one after another.
-use Rattle.std.proofs.Common.{◌≡◌, ◌↔◌, ◌⊎◌, ◌||◌, inl, inr, Bool, true, false, List, [], ◌∷◌, ◌++◌, Option, None, Some, refl, sym, ap, subst, ◌∙◌, append_assoc, cond, map, not, Result, Ok, Err, OnOk}
+use Rattle.std.proofs.Common.{◌≡◌, ◌↔◌, ◌⊎◌, ◌||◌, inl, inr, Bool, true, false, List, [], ◌∷◌, ◌++◌, Option, None, Some, refl, sym, ap, subst, ◌∙◌, cond, map, not, Result, Ok, Err, OnOk}
 use Rattle.std.proofs.lemmas.List.{map-append}
 use Rattle.std.specs.List.{list_any}
 use Rattle.std.specs.Option.{is_some}
 use Rattle.std.proofs.lemmas.Bool.{false≢true}
-use Rattle.type_model.specs.declared.basic.SemType.{SemType, Basic, Atom, Or', And', Not'}
+use Rattle.type_model.specs.declared.basic.SemType.{SemType, Basic, Atom}
 use Rattle.type_builder.specs.Flat.{AddsMember, AddsMembers, AreKeysOf, Gathers, HasKey, IsAmong, IsSameMember, found_in, key_of, members_of}
 use Rattle.type_builder.specs.declared.flat.Found.{Found}
 use Rattle.type_builder.specs.declared.flat.MemberKey.{MemberKey}

@@ -29,7 +29,7 @@ use Rattle.descriptors.specs.declared.names.Entry.{Entry}
 use Rattle.descriptors.specs.declared.names.Meaning.TheVariants.{TypeName}
 use Rattle.descriptors.specs.declared.names.Names.{Names}
 use Rattle.descriptors.specs.declared.names.OwnTypes.{OwnTypes}
-use Rattle.descriptors.specs.Naming.{as_type, entry_in, home_of, if_defined, if_imported, type_named}
+use Rattle.descriptors.specs.Naming.{as_type, entry_in, home_of, if_defined, if_imported, type_named, its_type}
 use Rattle.name_resolution.specs.Cycles.{Follows}
 use Rattle.name_resolution.specs.Definitions.{Placed, defines, definitions_of, is_public}
 use Rattle.name_resolution.specs.Named.{gives_type}
@@ -72,17 +72,17 @@ pub named-entry : (names : Names) (scope : Scope) (name : QualifiedName) (t : Ty
     → (home : ℕ) × (e : Entry) × (entry_in names name.word.name home ≡ Some e) × (as_type e.meaning ≡ Ok t)
 named-entry names scope name t h = sought (home_of names scope name.prefix) h
   where
-    seen : (home : ℕ) (e : Entry) (b : Bool) → entry_in names name.word.name home ≡ Some e → cond b (as_type e.meaning) (Err NotPublic) ≡ Ok t
+    seen : (home : ℕ) (e : Entry) (b : Bool) → entry_in names name.word.name home ≡ Some e → its_type (cond b (Ok e.meaning) (Err NotPublic)) ≡ Ok t
         → (home : ℕ) × (e : Entry) × (entry_in names name.word.name home ≡ Some e) × (as_type e.meaning ≡ Ok t)
     seen home e true there h = (home, e, there, h)
     seen home e false there h = absurd (wrong h)
 
-    found : (home : ℕ) (o : Option Entry) → entry_in names name.word.name home ≡ o → if_defined names scope home o ≡ Ok t
+    found : (home : ℕ) (o : Option Entry) → entry_in names name.word.name home ≡ o → its_type (if_defined names scope home o) ≡ Ok t
         → (home : ℕ) × (e : Entry) × (entry_in names name.word.name home ≡ Some e) × (as_type e.meaning ≡ Ok t)
     found home None there h = absurd (wrong h)
     found home (Some e) there h = seen home e (home == scope.«module» || e.public) there h
 
-    sought : (o : Option ℕ) → if_imported names scope name.word.name o ≡ Ok t → (home : ℕ) × (e : Entry) × (entry_in names name.word.name home ≡ Some e) × (as_type e.meaning ≡ Ok t)
+    sought : (o : Option ℕ) → its_type (if_imported names scope name.word.name o) ≡ Ok t → (home : ℕ) × (e : Entry) × (entry_in names name.word.name home ≡ Some e) × (as_type e.meaning ≡ Ok t)
     sought None h = absurd (wrong h)
     sought (Some home) h = found home (entry_in names name.word.name home) refl h
 

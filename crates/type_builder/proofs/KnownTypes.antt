@@ -15,7 +15,7 @@ use Rattle.descriptors.specs.declared.names.Entry.{Entry}
 use Rattle.descriptors.specs.declared.names.ModuleNames.{ModuleNames}
 use Rattle.descriptors.specs.declared.names.Names.{Names}
 use Rattle.descriptors.specs.declared.names.OwnTypes.{OwnTypes}
-use Rattle.descriptors.specs.Naming.{as_type, entry_in, file_source, home_of, if_defined, if_imported, module_of, source_in, type_named}
+use Rattle.descriptors.specs.Naming.{as_type, entry_in, file_source, home_of, if_defined, if_imported, module_of, source_in, type_named, its_type}
 use Rattle.name_resolution.specs.Definitions.{Placed, defines, definitions_of, is_public, name_of, scope_at}
 use Rattle.name_resolution.specs.Mentions.{home_of as home_sought}
 use Rattle.name_resolution.specs.Named.{Stands, gives_type, source_at}
@@ -133,8 +133,8 @@ module _ (p : Package) (own : OwnTypes) (es : List Entry) (names : Names) (entri
         let defined : defines is.home name.word.name is.definition ≡ true = passes (defines is.home name.word.name) 0 k (definitions_of p) is.definition first is.is in
         let visible : (is.home == q.«module» || e.public) ≡ true = ap (λ b. is.home == q.«module» || b) entry.public ∙ seen-from is.home is.definition name.word.name defined is.seen in (
           typed.0,
-          ap (if_imported names (scope_at q) name.word.name) (same-home name.prefix ∙ is.home_is) ∙ ap (if_defined names (scope_at q) is.home) found
-              ∙ ap (λ b. cond b (as_type e.meaning) (Err NotPublic)) visible,
+          ap (λ o. its_type (if_imported names (scope_at q) name.word.name o)) (same-home name.prefix ∙ is.home_is) ∙ ap (λ o. its_type (if_defined names (scope_at q) is.home o)) found
+              ∙ ap (λ b. its_type (cond b (Ok e.meaning) (Err NotPublic))) visible,
           typed.1,
         )
 

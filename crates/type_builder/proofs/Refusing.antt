@@ -101,7 +101,7 @@ module _ {S : Type 0} (size : S → ℕ) where
     atom-counted : (def : AtomDef) (at : Place) → Counted size (atom def at) (one_more at)
     atom-counted def at s n t before e h = atom_adds def at s n t h ∙ ap (λ k. k + 1) e ∙ sym (length-append before (at ∷ []))
 
-    atom-refusing : (def : AtomDef) (at : Place) → Refusing (atom def at) (one_more at)
+    pub atom-refusing : (def : AtomDef) (at : Place) → Refusing (atom def at) (one_more at)
     atom-refusing def at s f t before e h =
         let most : MOST_ATOMS ≤ size s = atom_refuses def at s f t h in
         let long : length (before ++ at ∷ []) ≡ length before + 1 = length-append before (at ∷ []) in omega (arith, most, e, long)

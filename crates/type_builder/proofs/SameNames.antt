@@ -1,5 +1,5 @@
 -- Names that stand for the same types: all is read the same over them.
-use Rattle.std.proofs.Common.{◌≡◌, ℕ, ◌+◌, List, [], ◌∷◌, ◌++◌, map, Option, None, Some, refl, ap}
+use Rattle.std.proofs.Common.{◌≡◌, ℕ, List, [], ◌∷◌, ◌++◌, map, Option, None, Some, refl, ap}
 use Rattle.bal_base.specs.declared.place.Place.{Place}
 use Rattle.bal_tree.specs.declared.def.ConstDef.{ConstDef}
 use Rattle.bal_tree.specs.declared.def.Def.{Def}
@@ -19,8 +19,9 @@ use Rattle.descriptors.specs.declared.names.Scope.{Scope}
 use Rattle.descriptors.specs.Descriptors.{Descriptor, builtin, value, named, optional, union, intersection, array, repeated, tuple, map_of, closed_record, open_record, any_error, error_with, any_function, function_from, future_of, Descriptors, no_more, then_more, FieldDescriptors, no_field, then_field, MaybeDescriptor, absent, present, descriptor_if, descriptor_of, in_a_row, is_readonly}
 use Rattle.descriptors.specs.Described.{Atoms, AreCopies, IsBuiltin, IsIntersection, IsOptional, IsUnion, all_by, arrow_by, count_of, described_by, fields_by, gives_named, if_by, list_by, mapping_by, names_of, new_field, params_of, plain, plain_by, result_by, value_set}
 use Rattle.descriptors.specs.Naming.{type_named}
-use Rattle.name_resolution.specs.Definitions.{Placed, functions_in, is_public, scope_at}
-use Rattle.type_builder.specs.Meanings.{constant_by, entries_by, entry_by, kept_by, meaning_by, param_descriptor, rest_descriptor, signature_by, signed_by}
+use Rattle.name_resolution.specs.Definitions.{Placed, is_public, scope_at}
+use Rattle.type_builder.specs.Meanings.{constant_by, earlier_with, entries_by, entry_by, kept_by, meaning_by, param_descriptor, rest_descriptor, signature_by, signed_by}
+use Rattle.type_builder.specs.declared.earlier.Earlier.{Earlier}
 
 module _ {S : Type 0} (atom : AtomDef → Place → Check S ℕ) (some : (A : Type 0) → (Atoms → A → Type 0) → Check S A) (names others : Names) where
   module _ (scope : Scope) (alike : (name : QualifiedName) → type_named names scope name ≡ type_named others scope name) where
@@ -76,16 +77,16 @@ module _ {S : Type 0} (atom : AtomDef → Place → Check S ℕ) (some : (A : Ty
     pub constant-same : (d : ConstDef) → constant_by atom some names scope d ≡ constant_by atom some others scope d
     constant-same d = λ i. if-same (descriptor_if d.ty) i ▷ λ declared. gives (Constant (plain (Basic (value_set d.value))))
 
-    pub meaning-same : (unit : ℕ) (def : Def) → meaning_by atom some names scope unit def ≡ meaning_by atom some others scope unit def
+    pub meaning-same : (unit : Earlier) (def : Def) → meaning_by atom some names scope unit def ≡ meaning_by atom some others scope unit def
     meaning-same unit (TypeOf d) = λ i. described-same (descriptor_of d.ty.value) i ▷ λ t. kept_by atom some names t ▷ λ u. gives (TypeName u)
     meaning-same unit (Const d) = constant-same d
-    meaning-same unit (VariableOf d) = λ i. described-same (descriptor_of d.ty.value) i ▷ λ t. kept_by atom some names t ▷ λ u. gives (Variable d.is_final u)
-    meaning-same unit (FunctionOf d) = λ i. signature-same unit d i ▷ λ s. gives (Function s)
+    meaning-same unit (VariableOf d) = λ i. described-same (descriptor_of d.ty.value) i ▷ λ t. kept_by atom some names t ▷ λ u. gives (Variable unit.variables d.is_final u)
+    meaning-same unit (FunctionOf d) = λ i. signature-same unit.functions d i ▷ λ s. gives (Function s)
 
   module _ (alike : (q : Placed) (name : QualifiedName) → type_named names (scope_at q) name ≡ type_named others (scope_at q) name) where
-    pub entry-same : (unit : ℕ) (p : Placed) → entry_by atom some names unit p ≡ entry_by atom some others unit p
+    pub entry-same : (unit : Earlier) (p : Placed) → entry_by atom some names unit p ≡ entry_by atom some others unit p
     entry-same unit p = λ i. meaning-same (scope_at p) (alike p) unit p.def i ▷ λ m. gives (record { public = is_public p.def; meaning = m })
 
-    pub entries-same : (unit : ℕ) (ps : List Placed) → entries_by atom some names unit ps ≡ entries_by atom some others unit ps
+    pub entries-same : (unit : Earlier) (ps : List Placed) → entries_by atom some names unit ps ≡ entries_by atom some others unit ps
     entries-same unit [] = refl
-    entries-same unit (p ∷ ps) = λ i. entry-same unit p i ▷ λ e. entries-same (unit + functions_in p.def) ps i ▷ λ es. gives (e ∷ es)
+    entries-same unit (p ∷ ps) = λ i. entry-same unit p i ▷ λ e. entries-same (earlier_with unit p.def) ps i ▷ λ es. gives (e ∷ es)

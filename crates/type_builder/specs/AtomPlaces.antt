@@ -60,10 +60,14 @@ abbrev pub rest_places : Option Param → List Place → List Place
 rest_places None before = before
 rest_places (Some p) before = param_places before p
 
--- the parameters, the result, and the function's own type
+-- four more for a function as a value: its arguments, its own type, the lists of what takes the rest, and the futures
+-- of its result
+abbrev pub value_places : Place → List Place → List Place
+value_places at before = (((before ++ at ∷ []) ++ at ∷ []) ++ at ∷ []) ++ at ∷ []
+
+-- the parameters, the result, and the function as a value
 abbrev pub function_places : FunctionDef → List Place → List Place
-function_places d before =
-    (places_if (descriptor_if d.result) (rest_places d.params.rest (fold param_places before d.params.params.items)) ++ d.at ∷ []) ++ d.at ∷ []
+function_places d before = value_places d.at (places_if (descriptor_if d.result) (rest_places d.params.rest (fold param_places before d.params.params.items)))
 
 abbrev pub def_places : List Place → Def → List Place
 def_places before (TypeOf d) = places (descriptor_of d.ty.value) before

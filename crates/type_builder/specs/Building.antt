@@ -1,5 +1,5 @@
 -- What the names of a package stand for, and the first fault in its definitions.
-use Rattle.std.specs.Prelude.{◌≡◌, ◌+◌, ◌++◌, ℕ, List, [], ◌∷◌, length, Option, None, Some, All, IfSome, if◌then◌else◌}
+use Rattle.std.specs.Prelude.{◌≡◌, ◌+◌, ◌++◌, ℕ, List, [], ◌∷◌, length, Option, None, Some, if◌then◌else◌}
 use Rattle.std.specs.List.{AllZip}
 use Rattle.bal_base.specs.declared.text.Name.{Name}
 use Rattle.bal_tree.specs.declared.package.Module.{Module}
@@ -11,22 +11,18 @@ use Rattle.descriptors.specs.Language.{own_types}
 use Rattle.descriptors.specs.Naming.{entry_in, file_source}
 use Rattle.descriptors.specs.declared.names.Entry.{Entry}
 use Rattle.descriptors.specs.declared.names.FileNames.{FileNames}
-use Rattle.descriptors.specs.declared.names.Meaning.{Meaning}
-use Rattle.descriptors.specs.declared.names.Meaning.TheVariants.{TypeName, Constant, Variable, Function}
 use Rattle.descriptors.specs.declared.names.ModuleNames.{ModuleNames}
 use Rattle.descriptors.specs.declared.names.Names.{Names}
 use Rattle.descriptors.specs.declared.names.OwnTypes.{OwnTypes}
-use Rattle.descriptors.specs.declared.names.Signature.{Signature}
 use Rattle.name_resolution.specs.Faults.{all_named}
 use Rattle.name_resolution.specs.Outlines.{import_source, outlines_of}
 use Rattle.type_builder.specs.AtomPlaces.{package_places, room_for}
 use Rattle.name_resolution.specs.Definitions.{Placed, defines, definitions_of}
 use Rattle.type_builder.specs.MainFunction.{main_fits}
-use Rattle.type_builder.specs.Meanings.{entries}
+use Rattle.type_builder.specs.Meanings.{entries, nothing_earlier}
 use Rattle.type_model.specs.declared.answers.TypeLimit.{TypeLimit}
 use Rattle.type_model.specs.declared.atoms.AtomDef.{AtomDef}
 use Rattle.type_model.specs.Calls.{Asked}
-use Rattle.type_model.specs.Defined.{TyBelow}
 
 -- the entry of the first definition of a name in a module
 abbrev pub first_entry : ℕ → Name → List Placed → List Entry → Option Entry
@@ -47,7 +43,7 @@ pub record AreNamesOf (p : Package) (own : OwnTypes) (old group : Atoms) (names 
   pub own_are : names.own ≡ own
   pub files : AllZip IsModule p.modules names.modules.items
   pub es : List Entry
-  pub defined : entries (old ++ group) names 0 (definitions_of p) (length old) (Gives es) (length old + length group)
+  pub defined : entries (old ++ group) names nothing_earlier (definitions_of p) (length old) (Gives es) (length old + length group)
   pub named : (m : ℕ) (name : Name) → entry_in names name m ≡ first_entry m name (definitions_of p) es
 
 unfoldable pub defines_all : Package → OwnTypes → Check Atoms Names
@@ -59,18 +55,3 @@ abbrev pub built : (List AtomDef → Asked → TypeLimit → Type 0) → Package
 built passes p =
     all_named (outlines_of p) p.main ▷ λ u. own_types ▷ λ own. room_for (package_places p) ▷ λ v. defines_all p own ▷ λ names.
     main_fits passes p names ▷ λ w. gives names
-
--- ---- which atoms they name
-
-abbrev pub SignatureBelow : ℕ → Signature → Type 0
-SignatureBelow n s = All (TyBelow n) s.params × IfSome s.rest (TyBelow n) × TyBelow n s.result × TyBelow n s.arrow
-
-abbrev pub MeaningBelow : ℕ → Meaning → Type 0
-MeaningBelow n (TypeName t) = TyBelow n t
-MeaningBelow n (Constant t) = TyBelow n t
-MeaningBelow n (Variable final t) = TyBelow n t
-MeaningBelow n (Function s) = SignatureBelow n s
-
--- what a name stands for names only atoms that are there
-abbrev pub AreMeanings : Atoms → Names → Type 0
-AreMeanings env names = (m : ℕ) (name : Name) (e : Entry) → entry_in names name m ≡ Some e → MeaningBelow (length env) e.meaning

@@ -67,7 +67,7 @@ good_if at fits = either fits (gives tt) (bad_main at)
 abbrev pub result_of : Meaning → Option SemType
 result_of (TypeName t) = None
 result_of (Constant t) = None
-result_of (Variable final t) = None
+result_of (Variable number final t) = None
 result_of (Function f) = Some f.result.sem
 
 abbrev pub result_in : Names → ℕ → Name → Option SemType

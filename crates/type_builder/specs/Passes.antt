@@ -88,8 +88,8 @@ entry_for p m = record { public = is_public p.def; meaning = m }
 abbrev pub first_meaning : Def → Meaning
 first_meaning (TypeOf d) = TypeName (plain (Basic Never))
 first_meaning (Const d) = Constant (plain (Basic (value_set d.value)))
-first_meaning (VariableOf d) = Variable d.is_final (plain (Basic Never))
-first_meaning (FunctionOf d) = Variable true (plain (Basic Never))
+first_meaning (VariableOf d) = Variable 0 d.is_final (plain (Basic Never))
+first_meaning (FunctionOf d) = Variable 0 true (plain (Basic Never))
 
 abbrev pub first_of : Placed → Entry
 first_of p = entry_for p (first_meaning p.def)

@@ -59,13 +59,16 @@ pub(crate) fn def_places(out: &mut Vec<Place>, def: &Def) -> Result<(), Memory>
     }
 }
 
-/// The parameters, the result, and the function's own type.
+/// The parameters, the result, and four for the function as a value: its arguments, its own type, the lists of what
+/// takes the rest, and the futures of its result.
 fn function_places(out: &mut Vec<Place>, d: &FunctionDef) -> Result<(), Memory>
     ensures { OnOk result (out.new.items ≡ places_of_function d.now out.old.items) }
 {
     params_of_function(out, &d.params.params)?;
     rest_of_function(out, &d.params.rest)?;
     places_in(out, &d.result)?;
+    out.push(d.at)?;
+    out.push(d.at)?;
     out.push(d.at)?;
     out.push(d.at)?;
     Ok(())

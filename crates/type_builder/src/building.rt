@@ -3,7 +3,7 @@ ghost use Rattle.std.specs.Prelude.{◌≡◌, IfOk, length};
 ghost use Rattle.bal_base.specs.Stops.{IfFault};
 ghost use Rattle.checks.specs.Checks.{Comes};
 ghost use Rattle.descriptors.specs.Steps.{AreNames, AreOwnTypes};
-ghost use Rattle.type_builder.specs.Building.{AreMeanings, built, defines_all};
+ghost use Rattle.type_builder.specs.Building.{built, defines_all};
 ghost use Rattle.type_builder.specs.Passes.{AreNamed, HaveRoom};
 ghost use Rattle.type_model.specs.Calls.{KeepsTypes};
 
@@ -31,7 +31,6 @@ pub fn build<T: Types>(
     ensures comes { Comes (built T.passes «package».now) (T.atoms types.old) result (T.atoms types.new) }
     ensures kept { KeepsTypes (T.atoms types.old) (T.atoms types.new) }
     ensures names { IfOk result (AreNames (T.atoms types.new)) }
-    ensures meanings { IfOk result (AreMeanings (T.atoms types.new)) }
 {
     check_names(alloc, package)?;
     let own = own_types(alloc, types)?;
@@ -54,7 +53,6 @@ fn define_all<T: Types>(
     ensures comes { Comes (defines_all «package».now own) (T.atoms types.old) result (T.atoms types.new) }
     ensures kept { KeepsTypes (T.atoms types.old) (T.atoms types.new) }
     ensures names { IfOk result (AreNames (T.atoms types.new)) }
-    ensures meanings { IfOk result (AreMeanings (T.atoms types.new)) }
 {
     let listing = definitions(alloc, package, types.env().defs().len() as u32)?;
     let mut names = kept_types(alloc, package, &listing, own)?;

@@ -4,14 +4,15 @@ ghost use Rattle.bal_base.specs.Stops.{IfFault};
 ghost use Rattle.descriptors.specs.Described.{Atoms};
 ghost use Rattle.descriptors.specs.Drafts.{AreNamesBelow, AreSound};
 ghost use Rattle.descriptors.specs.Naming.{entry_in};
-ghost use Rattle.descriptors.specs.Steps.{AreOwnTypes};
+ghost use Rattle.descriptors.specs.Steps.{AreOwnTypes, MeaningBelow};
 ghost use Rattle.descriptors.specs.declared.names.Entry.{Entry as AnyEntry};
-ghost use Rattle.name_resolution.specs.Definitions.{definitions_of, functions_in as functions_in_def};
-ghost use Rattle.type_builder.specs.Building.{AreNamesOf, MeaningBelow};
+ghost use Rattle.name_resolution.specs.Definitions.{definitions_of};
+ghost use Rattle.type_builder.specs.Building.{AreNamesOf};
 ghost use Rattle.type_builder.specs.Keeping.{AreKept};
 ghost use Rattle.type_builder.specs.Listing.{IsListing, placed_of};
 ghost use Rattle.type_builder.specs.Passes.{AreNamed, HaveRoom, IsValueNoted, end_of};
 
+use crate::earlier::Earlier;
 use crate::keeping::new_draft;
 use crate::meanings::meaning;
 use crate::noting::note;
@@ -41,23 +42,16 @@ pub(crate) fn define(
     ensures faultless { IfFault result (λ f. ⊥) }
 {
     let mut draft = new_draft(alloc, listing.first as usize);
-    let mut unit = 0;
+    let mut before = Earlier {
+        functions: 0,
+        variables: 0,
+    };
     for site in &listing.sites {
-        let meant = meaning(alloc, &mut draft, names, site.scope(), unit, site.def)?;
+        let meant = meaning(alloc, &mut draft, names, site.scope(), before, site.def)?;
         note_value(names, site, meant)?;
-        unit += functions_in(site.def);
+        before = before.with(site.def)?;
     }
     Ok(draft.atoms)
-}
-
-/// How many functions it defines.
-fn functions_in(def: &Def) -> u32
-    ensures { result ≡ functions_in_def def.now }
-{
-    match def {
-        Def::Type(_) | Def::Const(_) | Def::Variable(_) => 0,
-        Def::Function(_) => 1,
-    }
 }
 
 /// From here on a variable or a function stands for this; types and constants are left.

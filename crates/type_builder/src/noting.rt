@@ -75,10 +75,12 @@ fn first_meaning(alloc: Global, def: &Def) -> Meaning
         Def::Type(_) => Meaning::TypeName(nothing(alloc)),
         Def::Const(d) => Meaning::Constant(plain(alloc, SemType::Basic(value_set(&d.value)))),
         Def::Variable(d) => Meaning::Variable {
+            number: 0,
             is_final: d.is_final,
             ty: nothing(alloc),
         },
         Def::Function(_) => Meaning::Variable {
+            number: 0,
             is_final: true,
             ty: nothing(alloc),
         },

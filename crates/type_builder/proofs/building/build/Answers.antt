@@ -2,7 +2,7 @@ use Rattle.std.proofs.Common.{◌≡◌, refl, sym, subst}
 use Rattle.checks.proofs.Steps.{goes_on, some_is, stops}
 use Rattle.descriptors.proofs.Yielding.{kept-then}
 use Rattle.type_model.specs.Calls.{KeepsTypes}
-use Rattle.type_builder.proofs.Built.{comes-handed, named-so, room-comes, room-so}
+use Rattle.type_builder.proofs.Built.{comes-handed, named-so, results-defined, room-comes, room-so}
 use Rattle.type_builder.proofs.building.build.Goals as goal
 
 pub returns-in_err-check_names-clause-comes : goal.returns-in_err-check_names-clause-comes
@@ -30,6 +30,9 @@ returns-in_err-names-clause-comes g c = comes-handed _ _ _ _ _ c.from_residual-i
 
 pub returns-in_err-names-clause-kept : goal.returns-in_err-names-clause-kept
 returns-in_err-names-clause-kept g c = kept-then _ _ _ c.in_ok-own.ensures.kept c.in_err-names.ensures.kept
+
+pub check_main-requires : goal.check_main-requires
+check_main-requires g c = record { defined = results-defined (g.T.Types.atoms c.define_all.new.types) c.in_ok-names.names c.args.«package».now.main c.in_ok-names.ensures.names }
 
 pub returns-in_err-check_main-clause-comes : goal.returns-in_err-check_main-clause-comes
 returns-in_err-check_main-clause-comes g c = comes-handed _ _ _ _ _ c.from_residual-in_err-check_main.ensures

@@ -3,7 +3,7 @@ use Rattle.bal_base.specs.declared.limits.TheConstants.{MOST_ATOMS}
 use Rattle.checks.proofs.Steps.{ran_out}
 use Rattle.descriptors.specs.Steps.{AreOwnTypes}
 use Rattle.descriptors.proofs.Yielding.{own-kept}
-use Rattle.type_builder.proofs.Built.{added-is, all-defined, are-meanings, are-names, comes-handed, long-added, no-fault, no-limit}
+use Rattle.type_builder.proofs.Built.{added-is, all-defined, are-names, comes-handed, long-added, no-fault, no-limit}
 use Rattle.type_builder.proofs.building.define_all.Goals as goal
 
 pub returns-in_err-listing-clause-comes : goal.returns-in_err-listing-clause-comes
@@ -40,10 +40,3 @@ returns-clause-names g c =
     let named = c.in_ok-group.ensures.defined old (sym first) (subst (λ e. AreOwnTypes e c.in_ok-names.names.own) is (subst (AreOwnTypes new) (sym was) owns)) in
     are-names new _ c.define.new.names (long-added old new c.in_ok-group.group.items _ _ is first c.in_ok-group.ensures.long)
     (subst (AreOwnTypes new) (sym (named.own_are ∙ was)) owns) c.in_ok-group.ensures.meanings
-
-pub returns-clause-meanings : goal.returns-clause-meanings
-returns-clause-meanings g c =
-    let old = g.T.Types.atoms c.args.types.now in
-    let new = g.T.Types.atoms c.add.new.types in
-    let first : c.in_ok-listing.listing.first ≡ length old = c.in_ok-listing.ensures.first ∙ ap length (c.defs.ensures.value ∙ c.env.ensures) in
-    are-meanings new _ c.define.new.names (long-added old new c.in_ok-group.group.items _ _ (added-is old new c.in_ok-group.group.items _ c.in_ok-add.ensures.comes) first c.in_ok-group.ensures.long) c.in_ok-group.ensures.meanings

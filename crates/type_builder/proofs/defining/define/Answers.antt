@@ -1,10 +1,9 @@
-use Rattle.std.proofs.Common.{◌≡◌, ◌≤◌, ◌+◌, Some, Ok, Err, map, slice_get, sym, ap, subst, ◌∙◌, arith}
-use Rattle.bal_base.specs.declared.limits.TheConstants.{MOST_ATOMS}
+use Rattle.std.proofs.Common.{◌≡◌, ◌+◌, Some, Ok, Err, map, slice_get, sym, ap, subst, ◌∙◌, arith}
 use Rattle.descriptors.specs.Drafts.{AreNamesBelow, Drafts}
-use Rattle.name_resolution.specs.Definitions.{definitions_of, functions_in as functions_of}
-use Rattle.type_builder.specs.Building.{MeaningBelow}
-use Rattle.type_builder.specs.Listing.{placed_of}
+use Rattle.descriptors.specs.Steps.{MeaningBelow}
+use Rattle.name_resolution.specs.Definitions.{definitions_of}
 use Rattle.type_builder.specs.Meanings.{meaning_drafted}
+use Rattle.type_builder.specs.Listing.{placed_of}
 use Rattle.type_builder.proofs.DefEnds.{all-below, all-defined, all-long, all-sound, nothing-defined}
 use Rattle.type_builder.proofs.DefStages.{IsDefinedTo, none-stopped, one-defined, unit-fits}
 use Rattle.type_builder.proofs.Listed.{all-listed, listed-at, of-package, sites-placed}
@@ -26,8 +25,8 @@ returns-in_err-meant-clause-faultless c =
     listed-at (definitions_of pack) c.deref-site-items.result.now i c.site-item.result
     (ap (λ xs. map placed_of xs) c.deref-site-items.ensures.value ∙ sites-placed (definitions_of pack) c.args.listing.now c.requires.listed) c.loop-site-test.true c.site-item.is in
     none-stopped pack c.args.names.now.own c.args.listing.now.first c.args.names.now c.loop-site.invariant.0 c.requires.named c.requires.room c.requires.below (of-package pack)
-    i c.loop-site.draft c.meaning.new.draft c.loop-site.unit c.loop-site.names q at c.loop-site.invariant.1 c.in_err-meant.field-0.0 c.from_residual.result c.from_residual.ensures
-    (subst (λ s. Drafts (AreNamesBelow c.loop-site.names) MeaningBelow (meaning_drafted c.loop-site.names s c.loop-site.unit c.site-item.result.def.now) c.loop-site.draft (Err c.in_err-meant.field-0.0) c.meaning.new.draft)
+    i c.loop-site.draft c.meaning.new.draft c.loop-site.before c.loop-site.names q at c.loop-site.invariant.1 c.in_err-meant.field-0.0 c.from_residual.result c.from_residual.ensures
+    (subst (λ s. Drafts (AreNamesBelow c.loop-site.names) MeaningBelow (meaning_drafted c.loop-site.names s c.loop-site.before c.site-item.result.def.now) c.loop-site.draft (Err c.in_err-meant.field-0.0) c.meaning.new.draft)
     c.scope.ensures c.in_err-meant.ensures)
 
 -- src/defining.rt:47:9
@@ -39,19 +38,16 @@ note_value-requires c =
     (listed-at (definitions_of pack) c.deref-site-items.result.now i c.site-item.result
     (ap (λ xs. map placed_of xs) c.deref-site-items.ensures.value ∙ sites-placed (definitions_of pack) c.args.listing.now c.requires.listed) c.loop-site-test.true c.site-item.is)
 
--- src/defining.rt:48:9
-pub overflow_add-unit : goal.overflow_add-unit
-overflow_add-unit c =
+pub with-requires : goal.with-requires
+with-requires c =
     let pack = c.args.«package».now in
     let i = c.loop-site.site-index in
     let q = placed_of c.site-item.result in
     let at : slice_get (definitions_of pack) i ≡ Some q =
     listed-at (definitions_of pack) c.deref-site-items.result.now i c.site-item.result
     (ap (λ xs. map placed_of xs) c.deref-site-items.ensures.value ∙ sites-placed (definitions_of pack) c.args.listing.now c.requires.listed) c.loop-site-test.true c.site-item.is in
-    let most : c.loop-site.unit + functions_of c.site-item.result.def.now ≤ MOST_ATOMS =
     unit-fits pack c.args.names.now.own c.args.listing.now.first c.args.names.now c.loop-site.invariant.0 c.requires.named c.requires.room c.requires.below (of-package pack)
-    i c.loop-site.draft c.loop-site.draft c.loop-site.unit c.loop-site.names q at c.loop-site.invariant.1 in
-    let is : c.functions_in-unit.result ≡ functions_of c.site-item.result.def.now = c.functions_in-unit.ensures in omega (arith, most, is)
+    i c.loop-site.draft c.loop-site.draft c.loop-site.before c.loop-site.names q at c.loop-site.invariant.1
 
 -- src/defining.rt:45:5
 pub loop-site-preserved : goal.loop-site-preserved
@@ -66,29 +62,29 @@ loop-site-preserved c =
     listed-at (definitions_of pack) c.deref-site-items.result.now i c.site-item.result
     (ap (λ xs. map placed_of xs) c.deref-site-items.ensures.value ∙ sites-placed (definitions_of pack) c.args.listing.now c.requires.listed) c.loop-site-test.true c.site-item.is in (
       kept,
-      subst (λ n. IsDefinedTo pack own first c.args.names.now kept (i + 1) c.meaning.new.draft (c.loop-site.unit + n) c.note_value.new.names) (sym c.functions_in-unit.ensures)
-          (one-defined pack own first c.args.names.now kept c.requires.named c.requires.room c.requires.below (of-package pack) i c.loop-site.draft c.meaning.new.draft c.loop-site.unit c.loop-site.names q at
+      subst (λ n. IsDefinedTo pack own first c.args.names.now kept (i + 1) c.meaning.new.draft n c.note_value.new.names) (sym c.in_ok-before.ensures)
+          (one-defined pack own first c.args.names.now kept c.requires.named c.requires.room c.requires.below (of-package pack) i c.loop-site.draft c.meaning.new.draft c.loop-site.before c.loop-site.names q at
           c.loop-site.invariant.1 c.in_ok-meant.meant c.note_value.new.names
-          (subst (λ s. Drafts (AreNamesBelow c.loop-site.names) MeaningBelow (meaning_drafted c.loop-site.names s c.loop-site.unit c.site-item.result.def.now) c.loop-site.draft (Ok c.in_ok-meant.meant) c.meaning.new.draft)
+          (subst (λ s. Drafts (AreNamesBelow c.loop-site.names) MeaningBelow (meaning_drafted c.loop-site.names s c.loop-site.before c.site-item.result.def.now) c.loop-site.draft (Ok c.in_ok-meant.meant) c.meaning.new.draft)
           c.scope.ensures c.in_ok-meant.ensures) c.in_ok-note_value.ensures),
     )
 
 pub returns-clause-defined : goal.returns-clause-defined
 returns-clause-defined c =
     all-defined c.args.«package».now c.args.names.now.own c.args.listing.now.first c.args.names.now c.loop-site.invariant.0 c.requires.named c.requires.below (of-package c.args.«package».now) c.loop-site.site-index
-    c.loop-site.draft c.loop-site.unit c.loop-site.names (all-listed (definitions_of c.args.«package».now) c.deref-site-items.result.now c.args.listing.now c.loop-site.site-index c.requires.listed c.deref-site-items.ensures.value (omega arith)) c.loop-site.invariant.1
+    c.loop-site.draft c.loop-site.before c.loop-site.names (all-listed (definitions_of c.args.«package».now) c.deref-site-items.result.now c.args.listing.now c.loop-site.site-index c.requires.listed c.deref-site-items.ensures.value (omega arith)) c.loop-site.invariant.1
 
 pub returns-clause-long : goal.returns-clause-long
 returns-clause-long c =
     all-long c.args.«package».now c.args.names.now.own c.args.listing.now.first c.args.names.now c.loop-site.invariant.0 c.requires.named c.requires.below (of-package c.args.«package».now) c.loop-site.site-index
-    c.loop-site.draft c.loop-site.unit c.loop-site.names (all-listed (definitions_of c.args.«package».now) c.deref-site-items.result.now c.args.listing.now c.loop-site.site-index c.requires.listed c.deref-site-items.ensures.value (omega arith)) c.loop-site.invariant.1
+    c.loop-site.draft c.loop-site.before c.loop-site.names (all-listed (definitions_of c.args.«package».now) c.deref-site-items.result.now c.args.listing.now c.loop-site.site-index c.requires.listed c.deref-site-items.ensures.value (omega arith)) c.loop-site.invariant.1
 
 pub returns-clause-sound : goal.returns-clause-sound
 returns-clause-sound c =
     all-sound c.args.«package».now c.args.names.now.own c.args.listing.now.first c.args.names.now c.loop-site.invariant.0 c.requires.named c.requires.below (of-package c.args.«package».now) c.loop-site.site-index
-    c.loop-site.draft c.loop-site.unit c.loop-site.names (all-listed (definitions_of c.args.«package».now) c.deref-site-items.result.now c.args.listing.now c.loop-site.site-index c.requires.listed c.deref-site-items.ensures.value (omega arith)) c.loop-site.invariant.1
+    c.loop-site.draft c.loop-site.before c.loop-site.names (all-listed (definitions_of c.args.«package».now) c.deref-site-items.result.now c.args.listing.now c.loop-site.site-index c.requires.listed c.deref-site-items.ensures.value (omega arith)) c.loop-site.invariant.1
 
 pub returns-clause-meanings : goal.returns-clause-meanings
 returns-clause-meanings c =
     all-below c.args.«package».now c.args.names.now.own c.args.listing.now.first c.args.names.now c.loop-site.invariant.0 c.requires.named c.requires.below (of-package c.args.«package».now) c.loop-site.site-index
-    c.loop-site.draft c.loop-site.unit c.loop-site.names (all-listed (definitions_of c.args.«package».now) c.deref-site-items.result.now c.args.listing.now c.loop-site.site-index c.requires.listed c.deref-site-items.ensures.value (omega arith)) c.loop-site.invariant.1
+    c.loop-site.draft c.loop-site.before c.loop-site.names (all-listed (definitions_of c.args.«package».now) c.deref-site-items.result.now c.args.listing.now c.loop-site.site-index c.requires.listed c.deref-site-items.ensures.value (omega arith)) c.loop-site.invariant.1

@@ -1,4 +1,4 @@
-use Rattle.std.proofs.Common.{arith, ap, sym, subst, map}
+use Rattle.std.proofs.Common.{arith, sym, subst, map}
 use Rattle.std.specs.List.{flat_map}
 use Rattle.type_builder.specs.Flat.{AreSameTypes, members_of}
 use Rattle.type_builder.proofs.FlatShapes.{halves-made, one-made}

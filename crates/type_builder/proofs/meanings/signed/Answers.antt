@@ -12,10 +12,11 @@ returns-in_err-others c = λ names scope. handed-on _ _ _ _ _ _ _ c.from_residua
 pub returns-in_err-gives : goal.returns-in_err-gives
 returns-in_err-gives c = λ names scope. handed-on _ _ _ _ _ _ _ c.from_residual-in_err-gives.ensures (drafts-ran_out _ _ _ _)
 
-pub returns-in_err-arrow : goal.returns-in_err-arrow
-returns-in_err-arrow c = λ names scope. handed-on _ _ _ _ _ _ _ c.from_residual-in_err-arrow.ensures
-    (signed-stops names scope c.args.unit c.args.d.now c.args.fixed c.args.rest c.args.given _ _ _ c.in_err-arrow.ensures)
+pub returns-in_err-atoms : goal.returns-in_err-atoms
+returns-in_err-atoms c = λ names scope. handed-on _ _ _ _ _ _ _ c.from_residual-in_err-atoms.ensures
+    (signed-stops names scope c.args.unit c.args.d.now c.args.fixed c.args.rest c.args.given _ _ _ (c.in_err-atoms.ensures names scope))
 
 pub returns : goal.returns
 returns c = λ names scope.
-    signed-given names scope c.args.unit c.args.d.now c.args.fixed c.args.rest c.args.given _ _ _ refl refl c.in_ok-params.ensures c.in_ok-others.ensures c.in_ok-gives.ensures c.in_ok-arrow.ensures
+    signed-given names scope c.args.unit c.args.d.now c.args.fixed c.args.rest c.args.given _ c.in_ok-atoms.atoms _ _ refl refl c.in_ok-params.ensures c.in_ok-others.ensures c.in_ok-gives.ensures refl refl refl
+    (c.in_ok-atoms.ensures names scope)
