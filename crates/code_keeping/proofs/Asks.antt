@@ -80,4 +80,4 @@ module _ (code : Code) (fillers : ℕ → List Filler) (natives : Answers) (t : 
 
 pub strict-operations-keep : (natives : Answers) → StrictOperationsKeep natives
 strict-operations-keep natives fillers o quiet goes strict row code c depth f t good fits ec =
-    asks-well code fillers natives t c depth good f fits (at-place code c f fits.0) o ec quiet goes strict (λ place. row code place)
+    asks-well code fillers natives t c depth good f fits (at-place code c f fits.0) o ec quiet goes strict (λ place. row code place t)

@@ -113,7 +113,7 @@ module _ (code : Code) (c : Common) (closed : IsClosed c.world.heap) where
   stands (IntConstant i) x h = h
   stands (StrConstant s) x h = h
 
-  constant-fits : (k : Constant) → IsValid (shape_of k) → (r : Option SemType) → ResultHas code.atoms r (λ x. x ≡ shape_of k) → AllFit code c (constant_value k ∷ []) (option_to_list r)
+  pub constant-fits : (k : Constant) → IsValid (shape_of k) → (r : Option SemType) → ResultHas code.atoms r (λ x. x ≡ shape_of k) → AllFit code c (constant_value k ∷ []) (option_to_list r)
   constant-fits k valid None h = absurd h
   constant-fits k valid (Some r) h = ((closed, made k valid, (λ x ok s. h x ok (its-shape code c k x (stands k x s)))), tt)
 

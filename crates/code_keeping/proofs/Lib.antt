@@ -16,7 +16,9 @@ pub mod Sending
 pub mod Serving
 pub mod Settling
 pub mod Shapes
+pub mod Starting
 pub mod Staying
 pub mod Taking
 pub mod Talking
+pub mod Telling
 pub mod Trapped

@@ -1,5 +1,7 @@
 -- What steps of well-typed code keep, as laws.
-use Rattle.std.specs.Prelude.{◌≡◌, ◌⊎◌, ◌<◌, ◌+◌, ℕ, Bool, List, [], ◌∷◌, Option, Some, length, slice_get}
+use Rattle.std.specs.Prelude.{◌≡◌, ◌⊎◌, ◌<◌, ◌+◌, ℕ, Bool, List, [], ◌∷◌, Option, Some, All, length, slice_get}
+use Rattle.bal_base.specs.declared.text.Text.{Text}
+use Rattle.bal_base.specs.Valid.{IsText}
 use Rattle.type_model.specs.declared.basic.SemType.{SemType}
 use Rattle.operations.specs.declared.operation.Operation.{Operation}
 use Rattle.operations.specs.declared.operation.Operation.TheVariants as op
@@ -16,9 +18,10 @@ use Rattle.run_model.specs.Local.{Local, acts, takes}
 use Rattle.run_model.specs.Messages.{one_sent, with_received}
 use Rattle.run_model.specs.Strands.{channel_at, settled, with_channel, worker_end}
 use Rattle.machine_model.specs.Following.{EndsFrame}
-use Rattle.machine_model.specs.Keeping.{AreApart, AskFits, Caught}
-use Rattle.machine_model.specs.Machine.{Frame, On, goes_to}
-use Rattle.machine_model.specs.Runs.{Phase, Running}
+use Rattle.machine_model.specs.Keeping.{AreApart, AskFits, Caught, IsKept}
+use Rattle.machine_model.specs.Machine.{Frame, On, State, goes_to}
+use Rattle.machine_model.specs.Runs.{IsReached, Phase, Running}
+use Rattle.machine_model.specs.Strands.{StrandsHold}
 use Rattle.stack_code.specs.declared.code.Code.{Code}
 use Rattle.stack_code.specs.declared.code.Unit.{Unit as CodeUnit}
 use Rattle.stack_code.specs.CodeMachine.{Standing, codes}
@@ -60,7 +63,13 @@ TakesAll o =
 abbrev pub StrictOperationsKeep : Answers → Type 0
 StrictOperationsKeep natives =
     (fillers : ℕ → List Filler) (o : Operation) → talk_of o ≡ NoTalk → (¬ (EndsFrame o)) → TakesAll o →
-    ((code : Code) (place : Surroundings) → RowKeeps code fillers natives place o) → AsksWell fillers natives o
+    ((code : Code) (place : Surroundings) → WellTyped code → RowKeeps code fillers natives place o) → AsksWell fillers natives o
+
+-- so do those that tell whether something is so
+abbrev pub TestsKeep : Answers → Type 0
+TestsKeep natives =
+    (fillers : ℕ → List Filler) →
+    AsksWell fillers natives op.Not × AsksWell fillers natives op.Equal × AsksWell fillers natives op.Same × ((t : SemType) → AsksWell fillers natives (op.Test t))
 
 -- a call: the frame awaits the result, and the unit begins
 abbrev pub CallsKeep : Answers → Type 0
@@ -162,3 +171,13 @@ abbrev pub SettlingKeeps : Type 0
 SettlingKeeps =
     (code : Code) (c : Common) (phase : Phase) → NearlyCommon code c phase →
     GoodCommon code (settled c) phase × ((q : Option Role) → IsLater q c (settled c))
+
+-- ---- strands
+
+-- where steps keep what is good, what holds of the strands of machines holds of the code: named workers are started by frames
+-- that are no workers, and each alternate wait is for something
+abbrev pub StrandsOfCodeHold : Answers → Type 0
+StrandsOfCodeHold natives =
+    (code : Code) (fillers : ℕ → List Filler) → WellTyped code → IsKept natives (codes fillers code) (code_invariant code) →
+    (words : List Text) (input : List ℕ) (ticks : ℕ) (phase : Phase) (s : State Standing) → All IsText words →
+    IsReached natives (codes fillers code) words input ticks phase s → StrandsHold natives (codes fillers code) phase s

@@ -1,5 +1,5 @@
 //! Laws of steps. These calls do nothing: their clauses are laws.
-ghost use Rattle.code_keeping.specs.Laws.{AwaitedComes, CallsKeep, EndsKeep, FlushesKeep, GoesOnByItself, GoodHeapsAreServed, MessagesKeep, NoTrappedReceive, NoTrappedSend, ReturnsKeep, SendsKeep, SettlingKeeps, StrictOperationsKeep};
+ghost use Rattle.code_keeping.specs.Laws.{AwaitedComes, CallsKeep, EndsKeep, FlushesKeep, GoesOnByItself, GoodHeapsAreServed, MessagesKeep, NoTrappedReceive, NoTrappedSend, ReturnsKeep, SendsKeep, SettlingKeeps, StrandsOfCodeHold, StrictOperationsKeep, TestsKeep};
 
 use run_model::Meaning;
 
@@ -9,9 +9,10 @@ pub fn goes_on_by_itself()
 {}
 
 /// What a frame asks for fits, whatever comes, where it asks for an operation that takes all its operands, as far as the
-/// operation keeps its row. A panic that is caught lands where its trap says.
+/// operation keeps its row. A panic that is caught lands where its trap says. Negations, comparisons and tests keep theirs.
 pub fn strict_operations_keep<N: Meaning>()
-    ensures { StrictOperationsKeep N.answers }
+    ensures rows { StrictOperationsKeep N.answers }
+    ensures tests { TestsKeep N.answers }
 {}
 
 /// What a frame asks for fits at a call and at a return, also at the return of a worker.
@@ -48,4 +49,9 @@ pub fn settling_keeps()
 pub fn no_trapped_message()
     ensures receives { NoTrappedReceive }
     ensures sends { NoTrappedSend }
+{}
+
+/// What holds of the strands of machines holds of well-typed code, where its steps keep what is good.
+pub fn strands_of_code_hold<N: Meaning>()
+    ensures { StrandsOfCodeHold N.answers }
 {}

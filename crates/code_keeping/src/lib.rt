@@ -7,6 +7,7 @@
 //! - [`messages_keep`]: sends, receives and flushes between the workers of an activation.
 //! - [`no_trapped_message`]: messages stand in the reach of no trap.
 //! - [`settling_keeps`]: who wakes becomes ready.
+//! - [`strands_of_code_hold`]: who has frames, who is ready, and who waits for what.
 //! - [`good_heaps_are_served`]: what calls of the library need of the heap.
 //!
 //! `specs/Laws.antt` states them.
@@ -16,5 +17,6 @@ mod laws;
 
 pub use laws::{
     awaited_results_come, calls_and_returns_keep, goes_on_by_itself, good_heaps_are_served,
-    messages_keep, no_trapped_message, settling_keeps, strict_operations_keep,
+    messages_keep, no_trapped_message, settling_keeps, strands_of_code_hold,
+    strict_operations_keep,
 };

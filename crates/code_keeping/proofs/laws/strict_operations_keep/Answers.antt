@@ -1,5 +1,9 @@
 use Rattle.code_keeping.proofs.Asks.{strict-operations-keep}
+use Rattle.code_keeping.proofs.Telling.{tests-keep}
 use Rattle.code_keeping.proofs.laws.strict_operations_keep.Goals as goal
 
-pub returns : goal.returns
-returns g c = strict-operations-keep g.N.Meaning.answers
+pub returns-clause-rows : goal.returns-clause-rows
+returns-clause-rows g c = strict-operations-keep g.N.Meaning.answers
+
+pub returns-clause-tests : goal.returns-clause-tests
+returns-clause-tests g c = tests-keep g.N.Meaning.answers
