@@ -1,4 +1,5 @@
--- That a narrowed variable, wherever it is read, holds a value, and one of its narrower type.
+-- That a narrowed variable, wherever it is read, holds a value, and one of its narrower type; and that a body whose end isn't
+-- reached isn't done.
 use Rattle.std.specs.Prelude.{◌≡◌, ℕ, List, [], ◌∷◌, Option, Some, None, slice_get, ⊤}
 use Rattle.type_model.specs.declared.atoms.AtomDef.{AtomDef}
 use Rattle.type_model.specs.declared.basic.SemType.{SemType}
@@ -19,7 +20,7 @@ use Rattle.eval_model.specs.Trees.{next_of, trees}
 abbrev pub HoldsIn : Facts → Common → Local → ℕ → SemType → Value → Type 0
 HoldsIn facts c l slot t v = (slice_get l.slots slot ≡ Some (Some v)) × Belongs (own_types facts) c.world.heap v t
 
--- if a variable is read next that is of a narrower type here, it holds a value of this type
+-- if a variable is read next that is of a narrower type here, it holds a value of this type; and something is next
 abbrev pub AreFineTasks : Facts → Common → Local → List Task → Type 0
 AreFineTasks facts c l (Get slot (Some t) ∷ ts) = (v : Value) × HoldsIn facts c l slot t v
 AreFineTasks facts c l (Get slot None ∷ ts) = ⊤
@@ -29,12 +30,12 @@ AreFineTasks facts c l (Do op ∷ ts) = ⊤
 AreFineTasks facts c l (Choose first second ∷ ts) = ⊤
 AreFineTasks facts c l (Turn loop ∷ ts) = ⊤
 AreFineTasks facts c l (Guard vs ∷ ts) = ⊤
-AreFineTasks facts c l [] = ⊤
+AreFineTasks facts c l [] = ⊥
 
 abbrev pub IsFine : Facts → Common → Doing → Type 0
 IsFine facts c d = AreFineTasks facts c d.local d.tasks
 
--- of each state that a package reaches: what flows say of its narrowed variables holds when they are read
+-- of each state that a package reaches: what flows say of its narrowed variables holds when they are read, and of its ends
 abbrev pub NarrowsWell : Answers → List AtomDef → (ℕ → List Filler) → TypedPackage → Type 0
 NarrowsWell natives atoms fillers p = let M = trees atoms fillers p in AreFine natives M (IsFine M.facts)
 

@@ -9,7 +9,8 @@
 //! - `Inherent`, the atoms with which a package makes structures, functions and futures; `Allowed`, what may come of it.
 //! - `Ways`, `Walk` and `TaskWalk`: which operations each construct does one behind another, and where its ways part and meet,
 //!   with what a point is left open.
-//! - `Narrowed`: that a narrowed variable holds a value of its narrower type wherever it is read.
+//! - `Narrowed`: that a narrowed variable holds a value of its narrower type wherever it is read, and that no body is done whose
+//!   end isn't reached.
 //! - `Cases`, worked cases; `Laws`.
 //!
 //! Beside them stand [`definitions_come_to_cases`] and the laws, [`trees_have_one_next`] and [`trees_settle`]; [`frames_keep_ways`] and [`each_tree_has_a_way`], that
