@@ -7,10 +7,13 @@ pub mod Entering
 pub mod Flushing
 pub mod Itself
 pub mod Landing
+pub mod Later
 pub mod Lists
+pub mod Making
 pub mod Moving
 pub mod Places
 pub mod Receiving
+pub mod Reckoning
 pub mod Returning
 pub mod Sending
 pub mod Serving

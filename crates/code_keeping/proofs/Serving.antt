@@ -1,13 +1,11 @@
 -- A good heap is served by a table of tests for the code.
-use Rattle.std.proofs.Common.{◌≡◌, ◌<◌, ◌∙◌, ap, ℕ, zero, suc, Bool, List, [], ◌∷◌, Option, Some, None, length, arith}
-use Rattle.std.proofs.lemmas.List.Elements.{All-head, All-tail}
-use Rattle.std.specs.Prelude.{All, Contains, IsSomeAnd, option_map, slice_get}
+use Rattle.std.proofs.Common.{◌≡◌, ◌∙◌, ap, ℕ, zero, suc, Bool, List, [], ◌∷◌, Some, arith}
+use Rattle.std.specs.Prelude.{All, Contains, option_map, slice_get}
 use Rattle.std.specs.List.{AllZip}
-use Rattle.type_model.specs.declared.basic.SemType.{SemType}
 use Rattle.value_model.specs.declared.filler.Filler.{Filler}
 use Rattle.value_model.specs.declared.value.Value.{Value}
 use Rattle.value_model.specs.declared.value.Value.TheVariants.{Nil, Bool as Truth, Int, Str, Struct, Error, Function, Future}
-use Rattle.value_model.specs.Heap.{FunctionObject, Structure, values_of}
+use Rattle.value_model.specs.Heap.{FunctionObject, values_of}
 use Rattle.value_model.specs.Table.{IsSound, KnowsUnit, KnowsValue, TestTable}
 use Rattle.run_model.specs.Common.{Common}
 use Rattle.stack_code.specs.declared.code.Code.{Code}
@@ -15,7 +13,7 @@ use Rattle.stack_code.specs.declared.code.Unit.{Unit as CodeUnit}
 use Rattle.stack_code.specs.Tables.{IsCallable, IsInherent}
 use Rattle.stack_code.specs.Values.{Fits, GoodHeap, IsMade, IsWithinAtom, IsWithinUnit}
 use Rattle.code_keeping.specs.Laws.{GoodHeapsAreServed, table_for}
-use Rattle.code_keeping.proofs.Lists.{all-at, at-some, of-some, some-there, there}
+use Rattle.code_keeping.proofs.Lists.{all-at, at-some, some-there, there}
 use Rattle.code_keeping.proofs.Shapes.{get-map}
 
 pub all-to : {A : Type 0} (P Q : A → Type 0) → ((x : A) → P x → Q x) → (xs : List A) → All P xs → All Q xs

@@ -1,28 +1,23 @@
 -- Who wakes becomes ready: what is shared stays good, and then nobody whose need is met is blocked.
-use Rattle.std.proofs.Common.{◌≡◌, ◌≢◌, ◌≤◌, ◌<◌, ◌∙◌, ◌+◌, ℕ, zero, suc, Bool, true, false, List, [], ◌∷◌, ◌++◌, Option, Some, None, inl, inr, length, map, refl, sym, ap, subst, arith}
+use Rattle.std.proofs.Common.{◌≡◌, ◌≢◌, ◌<◌, ◌∙◌, ◌+◌, ℕ, zero, suc, Bool, true, false, List, [], ◌∷◌, ◌++◌, Option, Some, None, inl, inr, length, map, refl, sym, ap, subst, arith}
 use Rattle.std.proofs.lemmas.List.{length-map}
-use Rattle.std.proofs.lemmas.List.Elements.{All-append, All-head, All-tail, Contains-append_cases, Contains-append_left, Contains-append_right}
-use Rattle.std.specs.Prelude.{◌⊎◌, ◌&&◌, ◌||◌, All, AllPairs, Contains, IsSomeAnd, IsTrue, get_or, if◌then◌else◌, is_some, not, option_map, slice_get, slice_index_or}
-use Rattle.std.specs.List.{AllZip, list_all, list_any}
-use Rattle.type_model.specs.declared.basic.SemType.{SemType}
-use Rattle.value_model.specs.declared.value.Value.{Value}
-use Rattle.value_model.specs.Heap.{FunctionObject, values_of}
-use Rattle.run_model.specs.Common.{Activation, AllEnded, AnyGiven, Common, End, IsActive, IsBlocked, IsEnded, Message, Need, Panicked, Received, Returned, Role, Status, Strand}
+use Rattle.std.proofs.lemmas.List.Elements.{All-append, Contains-append_cases, Contains-append_left, Contains-append_right}
+use Rattle.std.specs.Prelude.{◌⊎◌, ◌&&◌, ◌||◌, All, AllPairs, Contains, IsTrue, get_or, if◌then◌else◌, is_some, not, option_map, slice_get}
+use Rattle.std.specs.List.{list_all, list_any}
+use Rattle.value_model.specs.Heap.{values_of}
+use Rattle.run_model.specs.Common.{AllEnded, AnyGiven, Common, End, IsActive, IsBlocked, IsEnded, Message, Need, Received, Role, Status, Strand}
 use Rattle.run_model.specs.Strands.{end_in, end_of, ended_count, has_ended, has_success, is_success, met, no_strand, settled, strand_at, wakes, with_status, woken, woken_from}
 use Rattle.machine_model.specs.Runs.{Phase, Picking, Running}
 use Rattle.machine_model.proofs.Once.{some-same}
 use Rattle.stack_code.specs.declared.code.Code.{Code}
-use Rattle.stack_code.specs.Activations.{GoodActivation, WorkerEndFits}
-use Rattle.stack_code.specs.Frames.{end_in_call}
-use Rattle.stack_code.specs.Good.{EachStrand, EndFits, GoodCommon, GoodReady, IsKnown, IsLater, IsSameStrand, IsToRun, NearlyCommon, NeedIsThere, RunsOne, StrandAt, StrandFits, WorkerStays}
-use Rattle.stack_code.specs.Places.{Tally, crew}
-use Rattle.stack_code.specs.Tables.{UnitAt}
-use Rattle.stack_code.specs.Values.{AllFit, Fits, GoodHeap, GoodVariables, HeldFits, IsMade, IsWithinUnit}
+use Rattle.stack_code.specs.Good.{GoodReady, IsKnown, IsLater, IsSameStrand, NearlyCommon, NeedIsThere, RunsOne, StrandAt, StrandFits, WorkerStays}
+use Rattle.stack_code.specs.Values.{AllFit, GoodHeap, IsMade, IsWithinUnit}
 use Rattle.code_keeping.specs.Laws.{SettlingKeeps}
-use Rattle.code_keeping.proofs.Lists.{all-at, at-some, of-some, some-there, some-to, zip-to}
+use Rattle.code_keeping.proofs.Later.{activation-later, end-later, strand-later, to-run-later, variables-later}
+use Rattle.code_keeping.proofs.Lists.{at-some, of-some, some-there, some-to}
 use Rattle.code_keeping.proofs.Serving.{all-to}
 use Rattle.code_keeping.proofs.Shapes.{get-map}
-use Rattle.code_keeping.proofs.Staying.{all-later, error-later, fits-later, later-so, made-later, same-calls}
+use Rattle.code_keeping.proofs.Staying.{all-later, later-so, made-later, same-calls}
 
 -- ---- a strand that wakes, or stays as it is
 
@@ -200,11 +195,6 @@ module _ (code : Code) (c : Common) where
         closed = h.closed;
       }
 
-  end-so : (n unit : ℕ) (o : Option End) → EndFits code c n unit o → EndFits code z n unit o
-  end-so n unit (Some (Returned v)) (made, fit, nil) = (made-later code None c z l v made, (λ ne. some-to (λ u. Fits code c v u.result) (λ u. Fits code z v u.result) (slice_get code.units unit) (λ u k. fits-later code None c z l v u.result k) (fit ne)), nil)
-  end-so n unit (Some (Panicked e)) h = error-later code None c z l e h
-  end-so n unit None h = tt
-
   many : length z.strands ≡ length c.strands
   many = length-map c.strands (woken c)
 
@@ -220,7 +210,7 @@ module _ (code : Code) (c : Common) where
       as-it-is : StrandFits code z n s
       as-it-is =
           record {
-            end = end-so n s.unit (end_in s.status) h.end;
+            end = end-later code c z l n s.unit (end_in s.status) h.end;
             need = λ need e. need-so need (h.need need e);
             before = λ k end e. subst (λ m. k < m) (sym (count-is c c.strands)) (h.before k end e);
             taken = h.taken;
@@ -234,36 +224,6 @@ module _ (code : Code) (c : Common) where
             before = λ k end f. absurd (let q : ⊥ = cc in q);
             taken = λ t. absurd (let k : IsTrue (is_some (end_in (IsBlocked need))) = subst (λ y. IsTrue (is_some (end_in y))) e (h.taken t) in let q : ⊥ = cc in q);
           }
-
-  worker-end-so : (f v : ℕ) (t : Tally) (o : Option End) → WorkerEndFits code c f v t o → WorkerEndFits code z f v t o
-  worker-end-so f v t (Some (Returned e)) (fit, inl all) = (some-to _ _ (slice_get (crew code f) v) (λ unit k. some-to (λ u. Fits code c e u.result) (λ u. Fits code z e u.result) (slice_get code.units unit) (λ u m. fits-later code None c z l e u.result m) k) fit, inl all)
-  worker-end-so f v t (Some (Returned e)) (fit, inr (is, leaves)) = (
-    some-to _ _ (slice_get (crew code f) v) (λ unit k. some-to (λ u. Fits code c e u.result) (λ u. Fits code z e u.result) (slice_get code.units unit) (λ u m. fits-later code None c z l e u.result m) k) fit,
-    inr (is, (λ w q left s last. fits-later code None c z l e s (leaves w q left s last))),
-  )
-  worker-end-so f v t (Some (Panicked e)) h = error-later code None c z l e h
-  worker-end-so f v t None h = tt
-
-  activation-so : (a : ℕ) (x : Activation) → GoodActivation code c a x → GoodActivation code z a x
-  activation-so a x g =
-      record {
-        call = record {
-          some = g.call.some;
-          strands = g.call.strands;
-          ends = g.call.ends;
-          senders = g.call.senders;
-          channels = g.call.channels;
-          workers = λ w n e. worker-so w n (some-there _ (slice_get c.strands n) (g.call.workers w n e));
-        };
-        queues = λ v w. ((g.queues v w).0, record { sent = (g.queues v w).1.sent; fit = λ k q m e at s last. fits-later code None c z l m s ((g.queues v w).1.fit k q m e at s last) });
-        ends = λ v t lt h. worker-end-so x.unit v t (end_in_call x v) (g.ends v t lt h);
-      }
-    where
-      worker-so : (w n : ℕ) → (s : Strand) × (slice_get c.strands n ≡ Some s) × ((s.role ≡ Some (record { activation = a; worker = suc w })) × (slice_get (crew code x.unit) (suc w) ≡ Some s.unit)) →
-          IsSomeAnd (slice_get z.strands n) (λ s. (s.role ≡ Some (record { activation = a; worker = suc w })) × (slice_get (crew code x.unit) (suc w) ≡ Some s.unit))
-      worker-so w n (s, e, (role, unit)) =
-          let same = same-strand c s in
-          at-some (λ s. (s.role ≡ Some (record { activation = a; worker = suc w })) × (slice_get (crew code x.unit) (suc w) ≡ Some s.unit)) (slice_get z.strands n) (woken c s) (strand-in c n s e) (same.1 ∙ role, unit ∙ ap (λ u. Some u) (sym same.0))
 
   -- ---- who is ready
 
@@ -328,16 +288,13 @@ module _ (code : Code) (c : Common) where
   nearly-so phase h =
       record {
         heap = heap-so h.heap;
-        variables = zip-to (HeldFits code c) (HeldFits code z) (λ held t k v e. fits-later code None c z l v t (k v e)) c.variables code.variables h.variables;
+        variables = variables-later code c z l c.variables code.variables h.variables;
         strands = each c (StrandFits code z) (λ n s e. strand-so n s (h.strands n s e));
-        activations = λ a x e. activation-so a x (h.activations a x e);
-        to_run = all-to (IsToRun code c) (IsToRun code z) (λ u k. (k.0, some-to (λ x. AllFit code c u.1 x.params) (λ x. AllFit code z u.1 x.params) (slice_get code.units u.0) (λ x m. all-later code None c z l u.1 x.params m) k.1)) c.to_run h.to_run;
+        activations = λ a x e. activation-later code c z l a x (h.activations a x e);
+        to_run = to-run-later code c z l c.to_run h.to_run;
         ready = ready-so phase h.ready;
-        main = main-so (some-there (λ (s : Strand). (s.unit ≡ code.start) × (s.role ≡ None)) (slice_get c.strands 0) h.main);
+        main = strand-later code c z l 0 (λ unit role. (unit ≡ code.start) × (role ≡ None)) h.main;
       }
-    where
-      main-so : (s : Strand) × (slice_get c.strands 0 ≡ Some s) × ((s.unit ≡ code.start) × (s.role ≡ None)) → StrandAt code z 0 (λ s. (s.unit ≡ code.start) × (s.role ≡ None))
-      main-so (s, e, (unit, role)) = let same = same-strand c s in at-some (λ (s : Strand). (s.unit ≡ code.start) × (s.role ≡ None)) (slice_get z.strands 0) (woken c s) (strand-in c 0 s e) (same.0 ∙ unit, same.1 ∙ role)
 
   settled-so : (n : ℕ) (s : Strand) → slice_get c.strands n ≡ Some s → (need : Need) → (woken c s).status ≡ IsBlocked need → IsTrue (met z need) → ⊥
   settled-so n s e need = by (wakes c s.status) refl

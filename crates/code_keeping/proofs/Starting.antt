@@ -1,19 +1,18 @@
 -- What code asks for is what its command says, so named workers are started once and an alternate wait is for something.
-use Rattle.std.proofs.Common.{◌≡◌, ◌+◌, ℕ, zero, suc, Bool, true, false, List, [], ◌∷◌, ◌++◌, Option, Some, None, inl, inr, refl, sym, ap, subst}
+use Rattle.std.proofs.Common.{◌≡◌, ◌+◌, ℕ, zero, suc, true, false, List, [], ◌∷◌, ◌++◌, Option, Some, None, inl, inr, refl, subst}
 use Rattle.std.specs.Prelude.{◌⊎◌, All, slice_get}
 use Rattle.bal_base.specs.declared.text.Text.{Text}
 use Rattle.bal_base.specs.Valid.{IsText}
 use Rattle.operations.specs.declared.operation.Operation.{Operation}
 use Rattle.operations.specs.declared.operation.Operation.TheVariants as op
 use Rattle.operations.specs.Structures.{AwaitsAny}
-use Rattle.value_model.specs.declared.filler.Filler.{Filler}
 use Rattle.value_model.specs.declared.value.Value.{Value}
 use Rattle.value_model.specs.declared.value.Value.TheVariants.{Nil, Bool as Truth, Int, Str, Struct, Error, Function, Future}
 use Rattle.value_model.specs.Meaning.{Answers}
 use Rattle.run_model.specs.Common.{Common, Role}
 use Rattle.run_model.specs.Local.{Local, acts, captured_from, captures, futures_in, loaded, stored, dropped, taken, twice}
-use Rattle.machine_model.specs.Keeping.{FramesFit, IsKept}
-use Rattle.machine_model.specs.Machine.{Does, Frame, State, Stuck, asks, captured_slots}
+use Rattle.machine_model.specs.Keeping.{FramesFit}
+use Rattle.machine_model.specs.Machine.{Does, Frame, State, asks, captured_slots}
 use Rattle.machine_model.specs.Runs.{IsReached, Running}
 use Rattle.machine_model.specs.Strands.{StartsOnce, WaitsForSome}
 use Rattle.machine_model.proofs.HoldOfStrands.{hold-of-strands}
@@ -24,10 +23,10 @@ use Rattle.stack_code.specs.Commands.{Command, CloseTrap, Do, GoTo, GoToIfNot, O
 use Rattle.stack_code.specs.Flow.{DoesTyped}
 use Rattle.stack_code.specs.Frames.{TallyIs, TopFits}
 use Rattle.stack_code.specs.Good.{code_invariant}
-use Rattle.stack_code.specs.Places.{Tally, surroundings, tally_at}
+use Rattle.stack_code.specs.Places.{surroundings, tally_at}
 use Rattle.stack_code.specs.WellTyped.{WellTyped}
 use Rattle.code_keeping.specs.Laws.{StrandsOfCodeHold}
-use Rattle.code_keeping.proofs.Places.{IsAt, at-place, typed-by, typed-in}
+use Rattle.code_keeping.proofs.Places.{at-place, typed-by, typed-in}
 
 -- ---- an operation asks for itself, or for the load of a slot that has nothing
 

@@ -7,7 +7,7 @@ use Rattle.type_model.specs.Membership.{In}
 use Rattle.operations.specs.Rows.{AreBelow, IsWithin}
 use Rattle.value_model.specs.declared.value.Value.{Value}
 use Rattle.value_model.specs.declared.value.Value.TheVariants.{Nil, Bool as Truth, Int, Str, Struct, Error, Function, Future}
-use Rattle.value_model.specs.Heap.{AreAlike, Begins, Grows, Heap, IsClosed, IsThere, Members, Items, Entries, Stays}
+use Rattle.value_model.specs.Heap.{AreAlike, Begins, Grows, Heap, IsClosed, IsThere, Members, Items, Entries, Stays, Structure}
 use Rattle.value_model.proofs.Stability.{stable}
 use Rattle.run_model.specs.Common.{Activation, Common, Role, Strand}
 use Rattle.stack_code.specs.declared.code.Code.{Code}
@@ -20,17 +20,20 @@ use Rattle.code_keeping.proofs.Lists.{some-to, there, zip-then, zip-to}
 
 -- ---- nothing changes
 
-grows-same : (h : Heap) → Grows h h
-grows-same h =
-    record {
-      structures = λ n s e. subst (λ o. IsSomeAnd o (Stays s)) (sym e) (record { kind = alike s.members; atom = refl; mutable = refl; frozen = λ f. refl });
-      errors = ([], sym (append-nil h.errors));
-      functions = ([], sym (append-nil h.functions));
-    }
+pub stays-same : (s : Structure) → Stays s s
+stays-same s = record { kind = alike s.members; atom = refl; mutable = refl; frozen = λ f. refl }
   where
     alike : (m : Members) → AreAlike m m
     alike (Items vs) = tt
     alike (Entries es) = tt
+
+grows-same : (h : Heap) → Grows h h
+grows-same h =
+    record {
+      structures = λ n s e. subst (λ o. IsSomeAnd o (Stays s)) (sym e) (stays-same s);
+      errors = ([], sym (append-nil h.errors));
+      functions = ([], sym (append-nil h.functions));
+    }
 
 -- the world is the same, and so are strands and calls but for what may change; of the worker what is asked for
 pub later-so : (q : Option Role) (c d : Common) → d.world ≡ c.world → ((n : ℕ) (s : Strand) → slice_get c.strands n ≡ Some s → IsSomeAnd (slice_get d.strands n) (IsSameStrand s)) →
@@ -71,16 +74,19 @@ is-some P (x ∷ xs) (suc n) h = let l : n < length xs = is-some P xs n h in ome
 begun : {A : Type 0} (front all : List A) (n : ℕ) → Begins front all → n < length front → n < length all
 begun front all n (rest, e) l = let k : length all ≡ length front + length rest = ap length e ∙ length-append front rest in omega (arith, k, l)
 
+pub there-later : (old new : Heap) → Grows old new → (v : Value) → IsThere old v → IsThere new v
+there-later old new grows Nil t = tt
+there-later old new grows (Truth b) t = tt
+there-later old new grows (Int i) t = tt
+there-later old new grows (Str s) t = tt
+there-later old new grows (Struct n) t = let (s, e) = there old.structures n t in is-some (Stays s) new.structures n (grows.structures n s e)
+there-later old new grows (Error n) t = begun old.errors new.errors n grows.errors t
+there-later old new grows (Function n) t = begun old.functions new.functions n grows.functions t
+there-later old new grows (Future strand unit) t = tt
+
 module _ (code : Code) (q : Option Role) (c d : Common) (l : IsLater q c d) where
   still-there : (v : Value) → IsThere c.world.heap v → IsThere d.world.heap v
-  still-there Nil t = tt
-  still-there (Truth b) t = tt
-  still-there (Int i) t = tt
-  still-there (Str s) t = tt
-  still-there (Struct n) t = let (s, e) = there c.world.heap.structures n t in is-some (Stays s) d.world.heap.structures n (l.heap.structures n s e)
-  still-there (Error n) t = begun c.world.heap.errors d.world.heap.errors n l.heap.errors t
-  still-there (Function n) t = begun c.world.heap.functions d.world.heap.functions n l.heap.functions t
-  still-there (Future strand unit) t = tt
+  still-there = there-later c.world.heap d.world.heap l.heap
 
   strand-later : (n unit : ℕ) (o : Option Strand) → slice_get c.strands n ≡ o → IsSomeAnd o (λ s. (s.unit ≡ unit) × (s.role ≡ None)) → IsSomeAnd (slice_get d.strands n) (λ s. (s.unit ≡ unit) × (s.role ≡ None))
   strand-later n unit None e h = absurd h

@@ -1,6 +1,6 @@
 -- Operations that tell whether something is so.
 use Rattle.std.proofs.Common.{◌≡◌, ◌∙◌, ℕ, Bool, List, [], ◌∷◌, Option, Some, None, length, refl, sym, subst, ap}
-use Rattle.std.specs.Prelude.{not, option_to_list}
+use Rattle.std.specs.Prelude.{not}
 use Rattle.bal_base.specs.declared.shape.Shape.{Bool as BoolShape}
 use Rattle.type_model.specs.declared.basic.SemType.{SemType}
 use Rattle.operations.specs.declared.operation.Constant.TheVariants.{Bool as BoolConstant}
@@ -35,23 +35,23 @@ use Rattle.code_keeping.proofs.Staying.{same}
 
 -- ---- as many operands as the row has
 
-one-long : (operands : List SemType) (P : SemType → Type 0) → OneType operands P → length operands ≡ 1
+pub one-long : (operands : List SemType) (P : SemType → Type 0) → OneType operands P → length operands ≡ 1
 one-long (a ∷ []) P h = refl
 one-long [] P h = absurd h
 one-long (a ∷ b ∷ more) P h = absurd h
 
-two-long : (operands : List SemType) (P : SemType → SemType → Type 0) → TwoTypes operands P → length operands ≡ 2
+pub two-long : (operands : List SemType) (P : SemType → SemType → Type 0) → TwoTypes operands P → length operands ≡ 2
 two-long (a ∷ b ∷ []) P h = refl
 two-long [] P h = absurd h
 two-long (a ∷ []) P h = absurd h
 two-long (a ∷ b ∷ d ∷ more) P h = absurd h
 
-one-typed : (operands : List SemType) (P : SemType → Type 0) (R : Type 0) → ((t : SemType) → P t → R) → OneType operands P → R
+pub one-typed : (operands : List SemType) (P : SemType → Type 0) (R : Type 0) → ((t : SemType) → P t → R) → OneType operands P → R
 one-typed (a ∷ []) P R f h = f a h
 one-typed [] P R f h = absurd h
 one-typed (a ∷ b ∷ more) P R f h = absurd h
 
-two-typed : (operands : List SemType) (P : SemType → SemType → Type 0) (R : Type 0) → ((s t : SemType) → P s t → R) → TwoTypes operands P → R
+pub two-typed : (operands : List SemType) (P : SemType → SemType → Type 0) (R : Type 0) → ((s t : SemType) → P s t → R) → TwoTypes operands P → R
 two-typed (a ∷ b ∷ []) P R f h = f a b h
 two-typed [] P R f h = absurd h
 two-typed (a ∷ []) P R f h = absurd h
@@ -65,12 +65,12 @@ ABooleanComes c effect = (b : Bool) × (effect ≡ lifted c (gives c.world (Trut
 told : (c : Common) (P : World → Type 0) (effect : Effect) → OnWorld (λ w. Tells w (P w)) c effect → ABooleanComes c effect
 told c P effect (came, (b, is, e), lifts) = (b, lifts ∙ ap (λ x. lifted c x) e)
 
-of-one : (vs : List Value) (P : Value → Type 0) (R : Type 0) → ((v : Value) → P v → R) → One vs P → R
+pub of-one : (vs : List Value) (P : Value → Type 0) (R : Type 0) → ((v : Value) → P v → R) → One vs P → R
 of-one (v ∷ []) P R f h = f v h
 of-one [] P R f h = absurd h
 of-one (v ∷ w ∷ more) P R f h = absurd h
 
-of-two : (vs : List Value) (P : Value → Value → Type 0) (R : Type 0) → ((v w : Value) → P v w → R) → Two vs P → R
+pub of-two : (vs : List Value) (P : Value → Value → Type 0) (R : Type 0) → ((v w : Value) → P v w → R) → Two vs P → R
 of-two (v ∷ w ∷ []) P R f h = f v w h
 of-two [] P R f h = absurd h
 of-two (v ∷ []) P R f h = absurd h

@@ -4,14 +4,14 @@ use Rattle.std.proofs.Common.{◌≡◌, ◌≢◌, ◌<◌, ◌∙◌, ◌+◌,
 use Rattle.std.specs.Prelude.{All, Contains, IsSomeAnd, get_or, option_map, slice_get, slice_set}
 use Rattle.operations.specs.declared.operation.Operation.{Operation}
 use Rattle.operations.specs.declared.operation.Operation.TheVariants as op
-use Rattle.operations.specs.Talk.{Talk, Receives, Sends, talk_of}
+use Rattle.operations.specs.Talk.{talk_of}
 use Rattle.machine_model.proofs.Once.{some-same}
 use Rattle.stack_code.specs.declared.code.Code.{Code}
 use Rattle.stack_code.specs.declared.code.Unit.{Unit as CodeUnit}
 use Rattle.stack_code.specs.Commands.{Do, OpenTrap, command_at}
 use Rattle.stack_code.specs.Flow.{IsTypedAt, one_more, received_one, sent_one, tally_landing, tally_thrown}
 use Rattle.stack_code.specs.Messages.{peers_in}
-use Rattle.stack_code.specs.Places.{IsIn, IsStation, Station, Tally, crew, map_at, tally_at, traps_at, traps_from}
+use Rattle.stack_code.specs.Places.{IsIn, IsStation, Station, Tally, crew, map_at, tally_at, traps_at}
 use Rattle.stack_code.specs.WellTyped.{WellTyped}
 use Rattle.code_keeping.specs.Laws.{NoTrappedReceive, NoTrappedSend}
 use Rattle.code_keeping.proofs.Landing.{opened}

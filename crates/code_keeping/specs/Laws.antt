@@ -65,11 +65,17 @@ StrictOperationsKeep natives =
     (fillers : ℕ → List Filler) (o : Operation) → talk_of o ≡ NoTalk → (¬ (EndsFrame o)) → TakesAll o →
     ((code : Code) (place : Surroundings) → WellTyped code → RowKeeps code fillers natives place o) → AsksWell fillers natives o
 
--- so do those that tell whether something is so
+-- those that tell whether something is so do
 abbrev pub TestsKeep : Answers → Type 0
 TestsKeep natives =
     (fillers : ℕ → List Filler) →
     AsksWell fillers natives op.Not × AsksWell fillers natives op.Equal × AsksWell fillers natives op.Same × ((t : SemType) → AsksWell fillers natives (op.Test t))
+
+-- and those on ints, which give an int or panic
+abbrev pub IntsKeep : Answers → Type 0
+IntsKeep natives =
+    (fillers : ℕ → List Filler) →
+    AsksWell fillers natives op.Add × AsksWell fillers natives op.Subtract × AsksWell fillers natives op.Multiply × AsksWell fillers natives op.Divide
 
 -- a call: the frame awaits the result, and the unit begins
 abbrev pub CallsKeep : Answers → Type 0

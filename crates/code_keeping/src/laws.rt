@@ -1,5 +1,5 @@
 //! Laws of steps. These calls do nothing: their clauses are laws.
-ghost use Rattle.code_keeping.specs.Laws.{AwaitedComes, CallsKeep, EndsKeep, FlushesKeep, GoesOnByItself, GoodHeapsAreServed, MessagesKeep, NoTrappedReceive, NoTrappedSend, ReturnsKeep, SendsKeep, SettlingKeeps, StrandsOfCodeHold, StrictOperationsKeep, TestsKeep};
+ghost use Rattle.code_keeping.specs.Laws.{AwaitedComes, CallsKeep, EndsKeep, FlushesKeep, GoesOnByItself, GoodHeapsAreServed, IntsKeep, MessagesKeep, NoTrappedReceive, NoTrappedSend, ReturnsKeep, SendsKeep, SettlingKeeps, StrandsOfCodeHold, StrictOperationsKeep, TestsKeep};
 
 use run_model::Meaning;
 
@@ -9,10 +9,12 @@ pub fn goes_on_by_itself()
 {}
 
 /// What a frame asks for fits, whatever comes, where it asks for an operation that takes all its operands, as far as the
-/// operation keeps its row. A panic that is caught lands where its trap says. Negations, comparisons and tests keep theirs.
+/// operation keeps its row. A panic that is caught lands where its trap says. Negations, comparisons and
+/// tests keep theirs, and so do operations on ints, which may panic.
 pub fn strict_operations_keep<N: Meaning>()
     ensures rows { StrictOperationsKeep N.answers }
     ensures tests { TestsKeep N.answers }
+    ensures ints { IntsKeep N.answers }
 {}
 
 /// What a frame asks for fits at a call and at a return, also at the return of a worker.

@@ -1,4 +1,5 @@
 use Rattle.code_keeping.proofs.Asks.{strict-operations-keep}
+use Rattle.code_keeping.proofs.Reckoning.{ints-keep}
 use Rattle.code_keeping.proofs.Telling.{tests-keep}
 use Rattle.code_keeping.proofs.laws.strict_operations_keep.Goals as goal
 
@@ -7,3 +8,6 @@ returns-clause-rows g c = strict-operations-keep g.N.Meaning.answers
 
 pub returns-clause-tests : goal.returns-clause-tests
 returns-clause-tests g c = tests-keep g.N.Meaning.answers
+
+pub returns-clause-ints : goal.returns-clause-ints
+returns-clause-ints g c = ints-keep g.N.Meaning.answers
