@@ -1,6 +1,6 @@
 -- That a narrowed variable, wherever it is read, holds a value, and one of its narrower type; and that a body whose end isn't
 -- reached isn't done.
-use Rattle.std.specs.Prelude.{◌≡◌, ℕ, List, [], ◌∷◌, Option, Some, None, slice_get, ⊤}
+use Rattle.std.specs.Prelude.{◌≡◌, ℕ, List, [], ◌∷◌, Some, None, slice_get, ⊤}
 use Rattle.type_model.specs.declared.atoms.AtomDef.{AtomDef}
 use Rattle.type_model.specs.declared.basic.SemType.{SemType}
 use Rattle.typed_tree.specs.declared.package.TypedPackage.{TypedPackage}

@@ -1,5 +1,5 @@
 -- Each run of the machine whose frames follow is one of the first, whose frames come to what they ask.
-use Rattle.std.proofs.Common.{◌≡◌, ℕ, zero, suc, ◌<◌, ◌≤◌, List, [], ◌∷◌, Some, refl, sym, subst, ap, inl, inr, ◌⊎◌, arith}
+use Rattle.std.proofs.Common.{◌≡◌, ℕ, zero, suc, ◌<◌, ◌≤◌, List, [], ◌∷◌, Some, refl, sym, subst, ap, inl, inr, arith}
 use Rattle.std.specs.Prelude.{All, slice_get}
 use Rattle.bal_base.specs.declared.fault.LimitKind.{LimitKind}
 use Rattle.bal_base.specs.Valid.{IsText}

@@ -13,7 +13,7 @@ use Rattle.run_model.specs.Strands.{settled, strand_blocked, strand_ended, worke
 use Rattle.run_model.specs.Effects.{Effect, Gives, Fails, Waits, Enters, Leaves, Spawns, NoTick, Beyond, Spawned}
 use Rattle.run_model.specs.Performs.{Performs}
 use Rattle.machine_model.specs.Machine.{Machine, Frame, State, Next, Moved, Blocked, Ended, NeedsTick, Limit, goes_to, asker, next_units, frames_from, roles_to, begun, unwound, roles_left, left_with, goes_on, given, with_begun, all_begun, carried}
-use Rattle.machine_model.specs.Following.{Both, Await, Held, EndsFrame}
+use Rattle.machine_model.specs.Following.{Both, Held, EndsFrame}
 use Rattle.machine_model.specs.Matching.{SameCall, BelowMatch, FramesMatch, OthersMatch, StateMatch}
 
 -- ---- what both machines ask of operations

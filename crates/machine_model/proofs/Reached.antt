@@ -1,9 +1,8 @@
 -- Each state that the machine whose frames follow reaches goes along with one that the first machine reaches.
-use Rattle.std.proofs.Common.{◌≡◌, ◌∙◌, ℕ, List, [], ◌∷◌, Some, refl, sym, subst, inl, inr}
+use Rattle.std.proofs.Common.{◌≡◌, ℕ, List, [], ◌∷◌, Some, refl, sym, subst, inl, inr}
 use Rattle.std.specs.Prelude.{⊤, All, slice_get}
 use Rattle.bal_base.specs.Valid.{IsText}
 use Rattle.bal_base.specs.declared.text.Text.{Text}
-use Rattle.value_model.specs.declared.value.Value.{Value}
 use Rattle.value_model.specs.Meaning.{Answers}
 use Rattle.run_model.specs.Common.{Common}
 use Rattle.machine_model.specs.Following.{AreFine, FramesFollow, Quiet, Settles, here, pass, step}

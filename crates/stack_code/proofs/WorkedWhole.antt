@@ -1,5 +1,5 @@
 -- The worked code is well typed, field by field and place by place.
-use Rattle.std.proofs.Common.{◌≡◌, ◌≢◌, ◌<◌, ◌≤◌, ◌∙◌, ℕ, zero, suc, pos, List, [], ◌∷◌, ◌++◌, Option, Some, None, inl, inr, length, refl, sym, ap, subst, arith}
+use Rattle.std.proofs.Common.{◌≡◌, ◌≢◌, ◌<◌, ◌≤◌, ◌∙◌, ℕ, zero, suc, pos, List, [], ◌∷◌, ◌++◌, Some, None, inl, inr, length, refl, sym, ap, subst, arith}
 use Rattle.std.specs.Prelude.{All, Any, ◌⊎◌, IsSomeAnd, get_or, option_to_list, slice_get, slice_index_or}
 use Rattle.bal_base.specs.declared.shape.Shape.{Shape, Nil as NilShape, Bool as BoolShape, Int, Str, List', Mapping', Error', Function, Future'}
 use Rattle.bal_base.specs.Valid.{IsValid}
@@ -11,21 +11,18 @@ use Rattle.type_model.specs.Places.{HasDistinctFields}
 use Rattle.operations.specs.declared.operation.Constant.TheVariants.{Nil, Int as IntConstant}
 use Rattle.operations.specs.declared.operation.Operation.{Operation}
 use Rattle.operations.specs.declared.operation.Operation.TheVariants as op
-use Rattle.operations.specs.Kinds.{IsError, IsNil, IsSendable}
-use Rattle.operations.specs.Rows.{IsWithin}
-use Rattle.operations.specs.Talk.{Receives, Sends}
 use Rattle.operations.specs.Uses.{atoms_made, units_called, units_used, units_valued, use_of}
 use Rattle.machine_model.proofs.Once.{some-same}
 use Rattle.stack_code.specs.declared.code.Spawn.{Spawn}
 use Rattle.stack_code.specs.declared.code.Unit.{Unit as CodeUnit}
-use Rattle.stack_code.specs.Commands.{Command, Do, command_at}
-use Rattle.stack_code.specs.Flow.{HasEntry, IsBoundedAt, IsTypedAt}
-use Rattle.stack_code.specs.Messages.{DoesAt, HasAll, IsBelow, IsLast, IsOf, IsReceive, IsSend, MessageFits, NamesAwaited, NamesPeers, ReceivesAt, ReceivesWell, ReturnsWell, SendsAt, SendsWell}
-use Rattle.stack_code.specs.Places.{IsIn, IsInUnit, IsStation, IsWorkerUnit, Station, Tally, crew, map_at, stack_at, tally_at}
-use Rattle.stack_code.specs.Tables.{CapturesWell, DoesSo, EachUnit, HasFields, HasNumbers, HasOwnAtoms, HasRest, HasSlots, IsCallable, IsConstant, IsInherent, IsInitialiser, IsWorkerWell, UnitAt, UsesWell}
-use Rattle.stack_code.specs.WellTyped.{PlaceHolds, WellTyped}
-use Rattle.stack_code.specs.Worked.{nil, seven, two_units, unit_from, worked}
-use Rattle.stack_code.proofs.WorkedHolds.{at, is-worker, none-differs, nothing-there, numbers-differ, second, station-of-worker}
+use Rattle.stack_code.specs.Commands.{Do, command_at}
+use Rattle.stack_code.specs.Flow.{IsBoundedAt, IsTypedAt}
+use Rattle.stack_code.specs.Messages.{DoesAt, HasAll, IsOf, IsReceive, IsSend, MessageFits, NamesAwaited, NamesPeers, ReceivesAt, ReceivesWell, ReturnsWell, SendsAt, SendsWell}
+use Rattle.stack_code.specs.Places.{IsIn, IsStation, IsWorkerUnit, Station, Tally, crew, map_at, tally_at}
+use Rattle.stack_code.specs.Tables.{CapturesWell, EachUnit, HasFields, HasNumbers, HasOwnAtoms, HasRest, HasSlots, IsCallable, IsConstant, IsInherent, IsInitialiser, IsWorkerWell, UnitAt, UsesWell}
+use Rattle.stack_code.specs.WellTyped.{WellTyped}
+use Rattle.stack_code.specs.Worked.{nil, seven, unit_from, worked}
+use Rattle.stack_code.proofs.WorkedHolds.{at, is-worker, none-differs, nothing-there, second, station-of-worker}
 
 -- ---- lists
 
