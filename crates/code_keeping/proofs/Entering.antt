@@ -90,7 +90,7 @@ awaited-comes code fillers c f callee t a = ((λ v holds. resumes code c f calle
 
 -- ---- the slots of a call
 
-nothing-stored : (code : Code) (c : Common) (k : ℕ) (ts : List SemType) → k ≡ length ts → AllZip (HeldFits code c) (replicate k None) ts
+pub nothing-stored : (code : Code) (c : Common) (k : ℕ) (ts : List SemType) → k ≡ length ts → AllZip (HeldFits code c) (replicate k None) ts
 nothing-stored code c zero [] e = tt
 nothing-stored code c zero (t ∷ ts) e = absurd (omega (arith, e))
 nothing-stored code c (suc k) [] e = absurd (omega (arith, e))

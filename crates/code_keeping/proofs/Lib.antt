@@ -1,4 +1,5 @@
 pub mod Asks
+pub mod Beginning
 pub mod Calling
 pub mod Changing
 pub mod Constants

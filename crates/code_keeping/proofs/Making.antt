@@ -75,7 +75,7 @@ below-or-last (suc n) (suc k) l = by (below-or-last n k (omega (arith, l)))
     by (inl m) = inl (omega (arith, m))
     by (inr e) = inr (ap suc e)
 
-all-one : {A : Type 0} (P : A → Type 0) (x : A) → P x → All P (x ∷ [])
+pub all-one : {A : Type 0} (P : A → Type 0) (x : A) → P x → All P (x ∷ [])
 all-one P x h zero d l = h
 all-one P x h (suc k) d l = absurd (omega (arith, l))
 

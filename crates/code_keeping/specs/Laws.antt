@@ -20,7 +20,7 @@ use Rattle.run_model.specs.Strands.{channel_at, settled, with_channel, worker_en
 use Rattle.machine_model.specs.Following.{EndsFrame}
 use Rattle.machine_model.specs.Keeping.{AreApart, AskFits, Caught, IsKept}
 use Rattle.machine_model.specs.Machine.{Frame, On, State, goes_to}
-use Rattle.machine_model.specs.Runs.{IsReached, Phase, Running}
+use Rattle.machine_model.specs.Runs.{IsReached, Phase, Picking, Running, start}
 use Rattle.machine_model.specs.Strands.{StrandsHold}
 use Rattle.stack_code.specs.declared.code.Code.{Code}
 use Rattle.stack_code.specs.declared.code.Unit.{Unit as CodeUnit}
@@ -29,13 +29,21 @@ use Rattle.stack_code.specs.Commands.{Do, command_at}
 use Rattle.stack_code.specs.Flow.{tally_then}
 use Rattle.stack_code.specs.Frames.{AwaitsResult, TallyIs, TopFits}
 use Rattle.stack_code.specs.Activations.{FitsBehind, GoodActivations}
-use Rattle.stack_code.specs.Good.{GoodCommon, IsLater, NearlyCommon, code_invariant}
+use Rattle.stack_code.specs.Good.{Good, GoodCommon, IsLater, NearlyCommon, code_invariant}
 use Rattle.stack_code.specs.Messages.{IsLast}
 use Rattle.stack_code.specs.Places.{IsIn, IsStation, Station, stack_at, tally_at, traps_at}
 use Rattle.stack_code.specs.Tables.{UnitAt}
 use Rattle.stack_code.specs.Values.{Fits, GoodHeap, IsMadeError, code_types}
 use Rattle.stack_code.specs.WellTyped.{WellTyped}
 use Rattle.code_keeping.specs.Rows.{RowKeeps}
+
+-- ---- how a run begins
+
+-- the state before the first pick is good, where the words of the run are texts
+abbrev pub StartsWell : Type 0
+StartsWell =
+    (code : Code) (fillers : ℕ → List Filler) (words : List Text) (input : List ℕ) (ticks : ℕ) (s : State Standing) →
+    WellTyped code → All IsText words → start (codes fillers code) words input ticks ≡ Some s → Good code Picking s
 
 -- ---- what a frame does by itself
 

@@ -1,7 +1,12 @@
 //! Laws of steps. These calls do nothing: their clauses are laws.
-ghost use Rattle.code_keeping.specs.Laws.{AwaitedComes, CallsKeep, EndsKeep, FlushesKeep, GoesOnByItself, GoodHeapsAreServed, IntsKeep, MessagesKeep, NoTrappedReceive, NoTrappedSend, ReturnsKeep, SendsKeep, SettlingKeeps, StrandsOfCodeHold, StrictOperationsKeep, TestsKeep};
+ghost use Rattle.code_keeping.specs.Laws.{AwaitedComes, CallsKeep, EndsKeep, FlushesKeep, GoesOnByItself, GoodHeapsAreServed, IntsKeep, MessagesKeep, NoTrappedReceive, NoTrappedSend, ReturnsKeep, SendsKeep, SettlingKeeps, StartsWell, StrandsOfCodeHold, StrictOperationsKeep, TestsKeep};
 
 use run_model::Meaning;
+
+/// The state in which a run of well-typed code begins is good.
+pub fn runs_start_well()
+    ensures { StartsWell }
+{}
 
 /// A frame of well-typed code that fits its place fits where it goes on by itself.
 pub fn goes_on_by_itself()

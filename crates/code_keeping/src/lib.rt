@@ -1,5 +1,6 @@
 //! What steps of well-typed code keep, as laws over `stack_code` and `machine_model`.
 //!
+//! - [`runs_start_well`]: the state in which a run begins.
 //! - [`goes_on_by_itself`]: what a frame does by itself: constants, slots, jumps, branches and traps.
 //! - [`strict_operations_keep`]: what it asks for with an operation that takes all its operands, panics that are caught
 //!   included, by the operation's row (`specs/Rows.antt`).
@@ -17,6 +18,6 @@ mod laws;
 
 pub use laws::{
     awaited_results_come, calls_and_returns_keep, goes_on_by_itself, good_heaps_are_served,
-    messages_keep, no_trapped_message, settling_keeps, strands_of_code_hold,
+    messages_keep, no_trapped_message, runs_start_well, settling_keeps, strands_of_code_hold,
     strict_operations_keep,
 };
