@@ -1,6 +1,8 @@
--- What code asks for is what its command says, so named workers are started once and an alternate wait is for something.
-use Rattle.std.proofs.Common.{◌≡◌, ◌+◌, ℕ, zero, suc, true, false, List, [], ◌∷◌, ◌++◌, Option, Some, None, inl, inr, refl, subst}
-use Rattle.std.specs.Prelude.{◌⊎◌, All, slice_get}
+-- What code asks for is what its command says, so named workers are started once and an alternate wait is for something; and what
+-- machines keep holds of code.
+use Rattle.std.proofs.Common.{◌≡◌, ◌≢◌, ◌∙◌, ◌+◌, ℕ, zero, suc, true, false, List, [], ◌∷◌, ◌++◌, Option, Some, None, inl, inr, refl, sym, ap, subst}
+use Rattle.std.proofs.lemmas.Option.{unwrap_or-slice_get}
+use Rattle.std.specs.Prelude.{IsSomeAnd, IsTrue, ◌⊎◌, All, get_or, is_some, slice_get, unwrap_or}
 use Rattle.bal_base.specs.declared.text.Text.{Text}
 use Rattle.bal_base.specs.Valid.{IsText}
 use Rattle.operations.specs.declared.operation.Operation.{Operation}
@@ -9,14 +11,16 @@ use Rattle.operations.specs.Structures.{AwaitsAny}
 use Rattle.value_model.specs.declared.value.Value.{Value}
 use Rattle.value_model.specs.declared.value.Value.TheVariants.{Nil, Bool as Truth, Int, Str, Struct, Error, Function, Future}
 use Rattle.value_model.specs.Meaning.{Answers}
-use Rattle.run_model.specs.Common.{Common, Role}
+use Rattle.run_model.specs.Common.{Common, End, Role, Strand}
 use Rattle.run_model.specs.Local.{Local, acts, captured_from, captures, futures_in, loaded, stored, dropped, taken, twice}
-use Rattle.machine_model.specs.Keeping.{FramesFit}
+use Rattle.run_model.specs.Strands.{end_in, has_ended, no_strand, strand_at}
+use Rattle.machine_model.specs.Keeping.{FramesFit, IsIdle}
 use Rattle.machine_model.specs.Machine.{Does, Frame, State, asks, captured_slots}
-use Rattle.machine_model.specs.Runs.{IsReached, Running}
-use Rattle.machine_model.specs.Strands.{StartsOnce, WaitsForSome}
+use Rattle.machine_model.specs.Runs.{IsReached, Phase, Picking, Running}
+use Rattle.machine_model.specs.Strands.{StartsOnce, WaitsForSome, frames_in}
 use Rattle.machine_model.proofs.HoldOfStrands.{hold-of-strands}
 use Rattle.machine_model.proofs.Keeping.{kept-holds}
+use Rattle.machine_model.proofs.Places.{if-other}
 use Rattle.stack_code.specs.declared.code.Code.{Code}
 use Rattle.stack_code.specs.CodeMachine.{OpenedTrap, Standing, branches, closes, code_facts, codes, obeys, standing}
 use Rattle.stack_code.specs.Commands.{Command, CloseTrap, Do, GoTo, GoToIfNot, OpenTrap, command_at}
@@ -25,7 +29,8 @@ use Rattle.stack_code.specs.Frames.{TallyIs, TopFits}
 use Rattle.stack_code.specs.Good.{code_invariant}
 use Rattle.stack_code.specs.Places.{surroundings, tally_at}
 use Rattle.stack_code.specs.WellTyped.{WellTyped}
-use Rattle.code_keeping.specs.Laws.{StrandsOfCodeHold}
+use Rattle.code_keeping.specs.Laws.{ReachedAreGood, StrandsOfCodeHold}
+use Rattle.code_keeping.proofs.Lists.{some-there}
 use Rattle.code_keeping.proofs.Places.{at-place, typed-by, typed-in}
 
 -- ---- an operation asks for itself, or for the load of a slot that has nothing
@@ -179,3 +184,27 @@ strands-of-code-hold natives code fillers t kept = hold-of-strands natives (code
         let d = typed-at code s.common f t fits (op.WaitAny names) ec in
         let at = at-place code s.common f fits.0 in
         subst (λ ns. AwaitsAny code.atoms (surroundings code at.u at.station) ns d.operands d.result) empty d.typed
+
+-- ---- and each reached state is good
+
+idle-frames : (phase : Phase) (s : State Standing) (n : ℕ) → IsIdle phase s.common n → frames_in phase s n ≡ get_or s.others n []
+idle-frames Running s n idle = if-other n s.common.running s.frames (get_or s.others n []) idle
+idle-frames Picking s n idle = refl
+
+-- a strand that has ended is there, and has its end
+ends-with : (c : Common) (n : ℕ) (o : Option Strand) → slice_get c.strands n ≡ o → IsTrue (has_ended c n) → IsSomeAnd o (λ x. end_in x.status ≢ None)
+ends-with c n o e h = by o (sym (unwrap_or-slice_get c.strands n no_strand) ∙ ap (λ o. unwrap_or o no_strand) e)
+  where
+    by : (o : Option Strand) → strand_at c n ≡ unwrap_or o no_strand → IsSomeAnd o (λ x. end_in x.status ≢ None)
+    by (Some x) is = λ none. let k : IsTrue (is_some {T = End} None) = subst (λ y. IsTrue (is_some y)) (ap (λ (x : Strand). end_in x.status) is ∙ none) h in let q : ⊥ = cc in q
+    by None is = absurd (let k : IsTrue (is_some {T = End} None) = subst (λ y. IsTrue (is_some y)) (ap (λ (x : Strand). end_in x.status) is) h in let q : ⊥ = cc in q)
+
+pub reached-are-good : (natives : Answers) → ReachedAreGood natives
+reached-are-good natives code fillers t kept words input ticks phase s texts reached =
+    record {
+      fits = kept-holds natives (codes fillers code) (code_invariant code) kept words input ticks phase s texts reached;
+      ended = λ n idle h. by n idle (some-there (λ (x : Strand). end_in x.status ≢ None) (slice_get s.common.strands n) (ends-with s.common n (slice_get s.common.strands n) refl h));
+    }
+  where
+    by : (n : ℕ) → IsIdle phase s.common n → (x : Strand) × (slice_get s.common.strands n ≡ Some x) × (end_in x.status ≢ None) → get_or s.others n [] ≡ []
+    by n idle (x, e, ended) = sym (idle-frames phase s n idle) ∙ ((strands-of-code-hold natives code fillers t kept words input ticks phase s texts reached).strands n x e).ended ended

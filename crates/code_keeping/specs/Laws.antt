@@ -195,3 +195,10 @@ StrandsOfCodeHold natives =
     (code : Code) (fillers : ℕ → List Filler) → WellTyped code → IsKept natives (codes fillers code) (code_invariant code) →
     (words : List Text) (input : List ℕ) (ticks : ℕ) (phase : Phase) (s : State Standing) → All IsText words →
     IsReached natives (codes fillers code) words input ticks phase s → StrandsHold natives (codes fillers code) phase s
+
+-- and so each state that is reached is good
+abbrev pub ReachedAreGood : Answers → Type 0
+ReachedAreGood natives =
+    (code : Code) (fillers : ℕ → List Filler) → WellTyped code → IsKept natives (codes fillers code) (code_invariant code) →
+    (words : List Text) (input : List ℕ) (ticks : ℕ) (phase : Phase) (s : State Standing) → All IsText words →
+    IsReached natives (codes fillers code) words input ticks phase s → Good code phase s

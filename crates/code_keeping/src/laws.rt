@@ -1,5 +1,5 @@
 //! Laws of steps. These calls do nothing: their clauses are laws.
-ghost use Rattle.code_keeping.specs.Laws.{AwaitedComes, CallsKeep, EndsKeep, FlushesKeep, GoesOnByItself, GoodHeapsAreServed, IntsKeep, MessagesKeep, NoTrappedReceive, NoTrappedSend, ReturnsKeep, SendsKeep, SettlingKeeps, StartsWell, StrandsOfCodeHold, StrictOperationsKeep, TestsKeep};
+ghost use Rattle.code_keeping.specs.Laws.{AwaitedComes, CallsKeep, EndsKeep, FlushesKeep, GoesOnByItself, GoodHeapsAreServed, IntsKeep, MessagesKeep, NoTrappedReceive, NoTrappedSend, ReachedAreGood, ReturnsKeep, SendsKeep, SettlingKeeps, StartsWell, StrandsOfCodeHold, StrictOperationsKeep, TestsKeep};
 
 use run_model::Meaning;
 
@@ -58,7 +58,9 @@ pub fn no_trapped_message()
     ensures sends { NoTrappedSend }
 {}
 
-/// What holds of the strands of machines holds of well-typed code, where its steps keep what is good.
+/// Where steps of well-typed code keep what is good, what holds of the strands of machines holds of it, and each state that it
+/// reaches is good.
 pub fn strands_of_code_hold<N: Meaning>()
-    ensures { StrandsOfCodeHold N.answers }
+    ensures strands { StrandsOfCodeHold N.answers }
+    ensures good { ReachedAreGood N.answers }
 {}

@@ -8,7 +8,8 @@
 //! - [`messages_keep`]: sends, receives and flushes between the workers of an activation.
 //! - [`no_trapped_message`]: messages stand in the reach of no trap.
 //! - [`settling_keeps`]: who wakes becomes ready.
-//! - [`strands_of_code_hold`]: who has frames, who is ready, and who waits for what.
+//! - [`strands_of_code_hold`]: what holds of each state that is reached, where steps keep it: who has frames, who is ready and who
+//!   waits for what.
 //! - [`good_heaps_are_served`]: what calls of the library need of the heap.
 //!
 //! `specs/Laws.antt` states them.
