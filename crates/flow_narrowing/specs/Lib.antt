@@ -1,0 +1,4 @@
+pub mod Asked
+pub mod Belonging
+pub mod Judged
+pub mod Narrowed
