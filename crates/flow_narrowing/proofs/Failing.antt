@@ -109,7 +109,7 @@ module _ (env : List AtomDef) where
 
 -- ---- all kinds
 
-then : {A B C : Type 0} → A ↔ B → B ↔ C → A ↔ C
+pub then : {A B C : Type 0} → A ↔ B → B ↔ C → A ↔ C
 then e f = (λ a. f.0 (e.0 a), λ c. e.1 (f.1 c))
 
 or-same : {A B : Type 0} (F : Type 0) → A ↔ B → (A ⊎ F) ↔ (B ⊎ F)

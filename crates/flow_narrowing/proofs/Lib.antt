@@ -1,3 +1,4 @@
 pub mod Belonging
 pub mod Failing
+pub mod Joining
 pub mod Written

@@ -14,7 +14,7 @@ use Rattle.type_model.specs.SameType.{IsSameType}
 use Rattle.type_model.proofs.SameTypes.{In-same, NamesBelow-same}
 use Rattle.flow_narrowing.specs.declared.kind.Kind.{Kind}
 use Rattle.flow_narrowing.specs.declared.kind.Kind.TheVariants as kind
-use Rattle.flow_narrowing.specs.Asked.{IsBoth, IsNot, IsOpenPart, IsOpenSet, IsUnmarkedSet, open_part, all_of}
+use Rattle.flow_narrowing.specs.Asked.{IsBoth, IsEither, IsNot, IsOpenPart, IsOpenSet, IsUnmarkedSet, open_part, all_of}
 use Rattle.flow_narrowing.specs.Judged.{kind_of}
 use Rattle.flow_narrowing.specs.Narrowed.{part_of}
 
@@ -28,6 +28,13 @@ module _ (env : List AtomDef) (x : Shape) where
   )
   both-in s t _ is = absurd is
 
+  pub either-in : (s t u : SemType) → IsEither (IsSameType s) (IsSameType t) u → In env x u ↔ (In env x s ⊎ In env x t)
+  either-in s t (Or' _ a _ b) is = (
+    ⊎_elim (λ h. inl ((In-same env x s a is.0).1 h)) (λ h. inr ((In-same env x t b is.1).1 h)),
+    ⊎_elim (λ h. inl ((In-same env x s a is.0).0 h)) (λ h. inr ((In-same env x t b is.1).0 h)),
+  )
+  either-in s t _ is = absurd is
+
   pub not-in : (t u : SemType) → IsNot (IsSameType t) u → In env x u ↔ (¬ In env x t)
   not-in t (Not' _ a) is = (λ h k. h ((In-same env x t a is).0 k), λ h k. h ((In-same env x t a is).1 k))
   not-in t _ is = absurd is
@@ -36,6 +43,10 @@ module _ (n : ℕ) where
   pub both-below : (s t u : SemType) → IsBoth (IsSameType s) (IsSameType t) u → NamesBelow n s → NamesBelow n t → NamesBelow n u
   both-below s t (And' _ a _ b) is h k = (NamesBelow-same n s a is.0 h, NamesBelow-same n t b is.1 k)
   both-below s t _ is h k = absurd is
+
+  pub either-below : (s t u : SemType) → IsEither (IsSameType s) (IsSameType t) u → NamesBelow n s → NamesBelow n t → NamesBelow n u
+  either-below s t (Or' _ a _ b) is h k = (NamesBelow-same n s a is.0 h, NamesBelow-same n t b is.1 k)
+  either-below s t _ is h k = absurd is
 
   pub not-below : (t u : SemType) → IsNot (IsSameType t) u → NamesBelow n t → NamesBelow n u
   not-below t (Not' _ a) is h = NamesBelow-same n t a is h

@@ -25,10 +25,14 @@ all_of kind.Mappings = MappingAll
 all_of kind.Functions = FunctionAll
 all_of kind.Futures = FutureAll
 
--- the type is written `a & b`, `!a`, or as a basic set
+-- the type is written `a & b`, `a | b` or `!a`
 abbrev pub IsBoth : (SemType → Type 0) → (SemType → Type 0) → SemType → Type 0
 IsBoth P Q (And' _ s _ t) = P s × Q t
 IsBoth P Q _ = ⊥
+
+abbrev pub IsEither : (SemType → Type 0) → (SemType → Type 0) → SemType → Type 0
+IsEither P Q (Or' _ s _ t) = P s × Q t
+IsEither P Q _ = ⊥
 
 abbrev pub IsNot : (SemType → Type 0) → SemType → Type 0
 IsNot P (Not' _ t) = P t

@@ -8,7 +8,7 @@ ghost use Rattle.type_model.specs.Defined.{IsDefined, NamesBelow};
 ghost use Rattle.type_model.specs.Membership.{In};
 ghost use Rattle.type_model.specs.SameType.{IsSameType};
 ghost use Rattle.type_model.specs.declared.atoms.AtomDef.{AtomDef as Atom};
-ghost use Rattle.flow_narrowing.specs.Asked.{IsBoth, IsNot, NarrowsBeyond, all_of};
+ghost use Rattle.flow_narrowing.specs.Asked.{IsBoth, IsEither, IsNot, NarrowsBeyond, all_of};
 ghost use Rattle.flow_narrowing.specs.Judged.{IsFailing, IsJudged, Settles};
 
 use crate::kind::Kind;
@@ -23,6 +23,15 @@ pub(crate) fn both(alloc: Global, s: &SemType, t: &SemType) -> Result<SemType, M
     let s = Box::new(alloc, s.copy(alloc)?)?;
     let t = Box::new(alloc, t.copy(alloc)?)?;
     Ok(SemType::And(s, t))
+}
+
+/// The shapes of one of the two types or of both.
+pub(crate) fn either(alloc: Global, s: &SemType, t: &SemType) -> Result<SemType, Memory>
+    ensures { IfOk result (IsEither (IsSameType s.now) (IsSameType t.now)) }
+{
+    let s = Box::new(alloc, s.copy(alloc)?)?;
+    let t = Box::new(alloc, t.copy(alloc)?)?;
+    Ok(SemType::Or(s, t))
 }
 
 /// The shapes that aren't in the type.

@@ -1,4 +1,4 @@
-//! Narrowing: what a test leaves of the type of a variable.
+//! Narrowing and flows: what a test leaves of the type of a variable, and what is known where two ways meet.
 //!
 //! Values that can change stand for many shapes, as do functions and futures. So where a test for T fails, a value of S
 //! may still have shapes of T, and what is left of S isn't the shapes that aren't in T. `specs/Narrowed.antt` says what
@@ -6,10 +6,13 @@
 //! belongs to what [`narrow_true`] gives, and one that fails it to what [`narrow_false`] gives.
 //!
 //! - [`narrow_true`], [`narrow_false`]: the types where a test holds and where it doesn't.
+//! - [`Flow`], [`Variable`]: what is known at a place, and [`Flow::join`] where two ways meet (`specs/Flows.antt`).
 #![tactic(auto)]
 
+mod flow;
 mod judging;
 mod kind;
 mod narrowed;
 
+pub use flow::{Flow, Variable, VariableList};
 pub use narrowed::{narrow_false, narrow_true};

@@ -1,0 +1,78 @@
+-- What is known of variables at a place, and what is known where two ways meet.
+use Rattle.std.specs.Prelude.{◌≡◌, ◌||◌, ◌<◌, ℕ, Bool, true, false, List, Option, Some, None, ⊤, All, length, slice_get, IsSomeAnd}
+use Rattle.type_model.specs.declared.atoms.AtomDef.{AtomDef}
+use Rattle.type_model.specs.declared.basic.Ty.{Ty}
+use Rattle.type_model.specs.Defined.{TyBelow}
+use Rattle.typed_tree.specs.SharedTypes.{Shared}
+use Rattle.descriptors.specs.Described.{IsUnion}
+use Rattle.flow_narrowing.specs.declared.flow.Flow.{Flow}
+use Rattle.flow_narrowing.specs.declared.flow.Joins.{Joins}
+use Rattle.flow_narrowing.specs.declared.flow.Joins.TheVariants.{First, Second, Both}
+use Rattle.flow_narrowing.specs.declared.flow.Variable.{Variable}
+
+-- the type that a variable has at the place: the narrowed one, or else the declared one
+abbrev pub or_declared : Option Shared → Shared → Ty
+or_declared (Some t) declared = t.value
+or_declared None declared = declared.value
+
+abbrev pub now : Variable → Ty
+now v = or_declared v.narrowed v.declared
+
+-- ---- types that are there
+
+abbrev pub IfShared : (Ty → Type 0) → Option Shared → Type 0
+IfShared P None = ⊤
+IfShared P (Some t) = P t.value
+
+-- the types of the variable name atoms that are there
+pub record VariableBelow (n : ℕ) (v : Variable) : Type 0 where
+  pub declared : TyBelow n v.declared.value
+  pub narrowed : IfShared (TyBelow n) v.narrowed
+
+abbrev pub VariablesBelow : ℕ → List Variable → Type 0
+VariablesBelow n vs = All (VariableBelow n) vs
+
+-- ---- where two ways meet
+
+-- which of the two are joined: those that go on, or both where neither does
+abbrev pub joins : Bool → Bool → Joins
+joins true true = Both
+joins true false = First
+joins false true = Second
+joins false false = Both
+
+-- the same type, or none both times
+abbrev pub AreSame : Option Shared → Option Shared → Type 0
+AreSame None None = ⊤
+AreSame (Some s) (Some t) = t.value ≡ s.value
+AreSame None (Some t) = ⊥
+AreSame (Some s) None = ⊥
+
+-- a variable that has its declared type in both ways keeps it; else it has the union of its types, with the choices of the first
+-- and then those of the second, each atom once
+abbrev pub UnionOf : List AtomDef → Variable → Variable → Option Shared → Option Shared → Option Shared → Type 0
+UnionOf env v w None None u = u ≡ None
+UnionOf env v w (Some s) t u = IsSomeAnd u (λ x. IsUnion (now v) (now w) env x.value)
+UnionOf env v w None (Some t) u = IsSomeAnd u (λ x. IsUnion (now v) (now w) env x.value)
+
+abbrev pub NarrowedTo : List AtomDef → Joins → Variable → Variable → Option Shared → Type 0
+NarrowedTo env First v w u = AreSame v.narrowed u
+NarrowedTo env Second v w u = AreSame w.narrowed u
+NarrowedTo env Both v w u = UnionOf env v w v.narrowed w.narrowed u
+
+-- what is known of one variable, of which v and w are known in the two ways
+pub record IsJoined (env : List AtomDef) (which : Joins) (v w u : Variable) : Type 0 where
+  pub name : u.name ≡ v.name
+  pub declared : u.declared.value ≡ v.declared.value
+  pub narrowed : NarrowedTo env which v w u.narrowed
+  pub assigned : u.assigned ≡ (v.assigned || w.assigned)
+
+-- so many variables are joined, slot by slot
+pub record AreJoined (env : List AtomDef) (which : Joins) (count : ℕ) (vs ws us : List Variable) : Type 0 where
+  pub length : length us ≡ count
+  pub each : (i : ℕ) (v w : Variable) → i < count → slice_get vs i ≡ Some v → slice_get ws i ≡ Some w → IsSomeAnd (slice_get us i) (IsJoined env which v w)
+
+-- what is known where two ways of the same variables meet
+pub record IsJoin (env : List AtomDef) (f g h : Flow) : Type 0 where
+  pub variables : AreJoined env (joins f.reached g.reached) (length f.variables) f.variables g.variables h.variables
+  pub reached : h.reached ≡ (f.reached || g.reached)

@@ -1,0 +1,238 @@
+//! What is known of variables at a place.
+ghost use Rattle.std.specs.Prelude.{◌≡◌, IfOk, length};
+ghost use Rattle.descriptors.specs.Described.{IsUnion, is_chosen as is_chosen_in, with_choices as joined_choices};
+ghost use Rattle.type_model.specs.Defined.{TyBelow};
+ghost use Rattle.flow_narrowing.specs.Flows.{AreJoined, AreSame, IfShared, IsJoin, IsJoined, NarrowedTo, UnionOf, VariableBelow, VariablesBelow, joins as joins_of, now as now_of};
+
+use crate::judging::either;
+use bal_base::{Memory, Name, Row};
+use std::alloc::Global;
+use std::rc::Rc;
+use type_model::{Choice, ChoiceList, SemType, Ty, Types};
+use typed_tree::SharedTy;
+
+/// A variable of a unit, as it is known at a place.
+#[derive(Drop)]
+pub struct Variable {
+    pub name: Name,
+    /// The type that it was declared with.
+    pub declared: SharedTy,
+    /// The type that it has at the place, unless that is the declared one.
+    pub narrowed: Option<SharedTy>,
+    /// Whether it is assigned after its declaration.
+    pub assigned: bool,
+}
+
+/// Variables in the order of their slots.
+pub type VariableList = Row<Variable>;
+
+/// The variables that are visible at a place, and whether the place is reached.
+#[derive(Drop)]
+pub struct Flow {
+    pub variables: VariableList,
+    pub reached: bool,
+}
+
+impl Variable {
+    /// The type that the variable has at the place. Takes no memory.
+    pub fn now(&self) -> &Ty
+        ensures { result.now ≡ now_of self.now }
+    {
+        match &self.narrowed {
+            Some(t) => t.as_ref(),
+            None => self.declared.as_ref(),
+        }
+    }
+}
+
+impl Flow {
+    /// What is known where two ways of the same variables meet. Of each variable it is the union of its types in those of
+    /// the two that go on, or in both where neither does, written anew, with the constructor choices of the first and then
+    /// those of the second, each atom once; a variable that has its declared type in both keeps it. It costs a type for each
+    /// variable that is narrowed in one of the two.
+    pub fn join<T: Types>(alloc: Global, types: &mut T, a: &Flow, b: &Flow) -> Result<Flow, Memory>
+        requires first { VariablesBelow (length (T.atoms types.old)) a.now.variables }
+        requires second { VariablesBelow (length (T.atoms types.old)) b.now.variables }
+        requires same { length b.now.variables ≡ length a.now.variables }
+        ensures atoms { T.atoms types.new ≡ T.atoms types.old }
+        ensures defined { IfOk result (λ f. VariablesBelow (length (T.atoms types.old)) f.variables) }
+        ensures is { IfOk result (IsJoin (T.atoms types.old) a.now b.now) }
+    {
+        let which = ways_that_count(a.reached, b.reached);
+        let first = a.variables.as_slice();
+        let second = b.variables.as_slice();
+        let variables = all_joined(alloc, types, which, first, second)?;
+        Ok(Flow {
+            variables,
+            reached: a.reached || b.reached,
+        })
+    }
+}
+
+/// Which of two ways are joined.
+#[derive(Clone, Copy)]
+enum Joins {
+    First,
+    Second,
+    Both,
+}
+
+/// Those that go on, or both where neither does.
+fn ways_that_count(first: bool, second: bool) -> Joins
+    ensures { result ≡ joins_of first second }
+{
+    match first {
+        true => match second {
+            true => Joins::Both,
+            false => Joins::First,
+        },
+        false => match second {
+            true => Joins::Second,
+            false => Joins::Both,
+        },
+    }
+}
+
+fn all_joined<T: Types>(
+    alloc: Global,
+    types: &mut T,
+    which: Joins,
+    first: &[Variable],
+    second: &[Variable],
+) -> Result<VariableList, Memory>
+    requires first { VariablesBelow (length (T.atoms types.old)) first.now }
+    requires second { VariablesBelow (length (T.atoms types.old)) second.now }
+    requires same { length second.now ≡ length first.now }
+    ensures atoms { T.atoms types.new ≡ T.atoms types.old }
+    ensures defined { IfOk result (VariablesBelow (length (T.atoms types.old))) }
+    ensures joined { IfOk result (AreJoined (T.atoms types.old) which (length first.now) first.now second.now) }
+{
+    let mut variables = Vec::new(alloc);
+    for i in 0..first.len() {
+        variables.push(joined(alloc, types, which, &first[i], &second[i])?)?;
+    }
+    Ok(VariableList::of(variables))
+}
+
+/// What is known of one variable.
+fn joined<T: Types>(
+    alloc: Global,
+    types: &mut T,
+    which: Joins,
+    v: &Variable,
+    w: &Variable,
+) -> Result<Variable, Memory>
+    requires first { VariableBelow (length (T.atoms types.old)) v.now }
+    requires second { VariableBelow (length (T.atoms types.old)) w.now }
+    ensures atoms { T.atoms types.new ≡ T.atoms types.old }
+    ensures defined { IfOk result (VariableBelow (length (T.atoms types.old))) }
+    ensures joined { IfOk result (IsJoined (T.atoms types.old) which v.now w.now) }
+{
+    let narrowed = narrowed_to(alloc, types, which, v, w)?;
+    let declared = v.declared.clone()?;
+    Ok(Variable {
+        name: v.name.share(),
+        declared,
+        narrowed,
+        assigned: v.assigned || w.assigned,
+    })
+}
+
+/// The narrowed type of one variable, if it has one.
+fn narrowed_to<T: Types>(
+    alloc: Global,
+    types: &mut T,
+    which: Joins,
+    v: &Variable,
+    w: &Variable,
+) -> Result<Option<SharedTy>, Memory>
+    requires first { VariableBelow (length (T.atoms types.old)) v.now }
+    requires second { VariableBelow (length (T.atoms types.old)) w.now }
+    ensures atoms { T.atoms types.new ≡ T.atoms types.old }
+    ensures defined { IfOk result (IfShared (TyBelow (length (T.atoms types.old)))) }
+    ensures narrowed { IfOk result (NarrowedTo (T.atoms types.old) which v.now w.now) }
+{
+    match which {
+        Joins::First => shared(&v.narrowed),
+        Joins::Second => shared(&w.narrowed),
+        Joins::Both => union_of(alloc, types, v, w),
+    }
+}
+
+/// The same type, if there is one.
+fn shared(t: &Option<SharedTy>) -> Result<Option<SharedTy>, Memory>
+    ensures { IfOk result (AreSame t.now) }
+{
+    match t {
+        None => Ok(None),
+        Some(t) => Ok(Some(t.clone()?)),
+    }
+}
+
+/// The union of the two types of a variable, unless it has its declared type both times.
+fn union_of<T: Types>(
+    alloc: Global,
+    types: &mut T,
+    v: &Variable,
+    w: &Variable,
+) -> Result<Option<SharedTy>, Memory>
+    requires first { VariableBelow (length (T.atoms types.old)) v.now }
+    requires second { VariableBelow (length (T.atoms types.old)) w.now }
+    ensures atoms { T.atoms types.new ≡ T.atoms types.old }
+    ensures defined { IfOk result (IfShared (TyBelow (length (T.atoms types.old)))) }
+    ensures union { IfOk result (UnionOf (T.atoms types.old) v.now w.now v.now.narrowed w.now.narrowed) }
+{
+    match &v.narrowed {
+        None => match &w.narrowed {
+            None => Ok(None),
+            Some(_) => Ok(Some(union(alloc, types, v.now(), w.now())?)),
+        },
+        Some(_) => Ok(Some(union(alloc, types, v.now(), w.now())?)),
+    }
+}
+
+/// The union of two types, written anew, with the choices of both.
+fn union<T: Types>(alloc: Global, types: &mut T, s: &Ty, t: &Ty) -> Result<SharedTy, Memory>
+    requires first { TyBelow (length (T.atoms types.old)) s.now }
+    requires second { TyBelow (length (T.atoms types.old)) t.now }
+    ensures atoms { T.atoms types.new ≡ T.atoms types.old }
+    ensures defined { IfOk result (λ u. TyBelow (length (T.atoms types.old)) u.value) }
+    ensures union { IfOk result (λ u. IsUnion s.now t.now (T.atoms types.old) u.value) }
+{
+    let shapes = either(alloc, &s.sem, &t.sem)?;
+    let sem = types.compact(alloc, &shapes)?;
+    let both = with_choices_of_both(alloc, sem, s, t)?;
+    Ok(Rc::new(alloc, both)?)
+}
+
+/// The type with these shapes and the choices of both others.
+fn with_choices_of_both(alloc: Global, sem: SemType, s: &Ty, t: &Ty) -> Result<Ty, Memory>
+    ensures { IfOk result (λ u. u ≡ record { sem = sem; lists = joined_choices s.now.lists t.now.lists; maps = joined_choices s.now.maps t.now.maps }) }
+{
+    let lists = with_choices(alloc, &s.lists, &t.lists)?;
+    let maps = with_choices(alloc, &s.maps, &t.maps)?;
+    Ok(Ty { sem, lists, maps })
+}
+
+fn is_chosen(choices: &[Choice], choice: Choice) -> bool
+    ensures { result ≡ is_chosen_in choices.now choice }
+{
+    choices.iter().any(|c| c.atom == choice.atom)
+}
+
+/// The choices of the first list, and behind them those of the second whose atom isn't there yet.
+fn with_choices(
+    alloc: Global,
+    choices: &ChoiceList,
+    more: &ChoiceList,
+) -> Result<ChoiceList, Memory>
+    ensures { IfOk result (λ r. r ≡ joined_choices choices.now more.now) }
+{
+    let mut all = choices.as_slice().to_vec(alloc)?;
+    for choice in more.as_slice() {
+        if !is_chosen(&all, *choice) {
+            all.push(*choice)?;
+        }
+    }
+    Ok(ChoiceList::of(all))
+}
