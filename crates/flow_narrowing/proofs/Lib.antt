@@ -1,4 +1,5 @@
 pub mod Belonging
 pub mod Failing
 pub mod Joining
+pub mod Undoing
 pub mod Written

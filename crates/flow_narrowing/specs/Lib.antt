@@ -1,5 +1,6 @@
 pub mod Asked
 pub mod Belonging
+pub mod Changes
 pub mod Flows
 pub mod Judged
 pub mod Narrowed
