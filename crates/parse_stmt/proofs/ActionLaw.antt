@@ -157,7 +157,7 @@ names-law : (ns : List QualifiedName) (ks : Kinds) → has_members ns ≡ true �
 names-law [] ks h = cc h
 names-law (n ∷ ns) ks h = separated-law name_pieces any_name Bar NoColon refl (λ zs. refl) name-law n ns (SignKind Semicolon ∷ ks) refl refl
 
-names-no-brace : (ns : List QualifiedName) (ks : Kinds) → has_members ns ≡ true → take_sign OpenBrace (onto (separated Bar (map name_pieces ns)) ks) ≡ None
+pub names-no-brace : (ns : List QualifiedName) (ks : Kinds) → has_members ns ≡ true → take_sign OpenBrace (onto (separated Bar (map name_pieces ns)) ks) ≡ None
 names-no-brace [] ks h = cc h
 names-no-brace (n ∷ ns) ks h = no-brace n.prefix n.word (onto (behind Bar (map name_pieces ns)) ks)
 

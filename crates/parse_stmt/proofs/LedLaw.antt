@@ -132,6 +132,7 @@ no-word-before (k ∷ xs) h = refl
 
 pub record AsExpr (t : Target) : Type 0 where
   pub e : Expr
+  pub written : expr_pieces e ≡ target_pieces t
   pub pieces : (ks : Kinds) → onto (expr_pieces e) ks ≡ onto (target_pieces t) ks
   pub is : is_target (last_of e) ≡ true
   pub formed : target_is_formed t ≡ true → expr_is_formed e false ≡ true
@@ -139,6 +140,7 @@ pub record AsExpr (t : Target) : Type 0 where
 pub as-expr : (t : Target) → AsExpr t
 as-expr (NameTarget n) = record {
   e = PostfixExpr (PrimaryPostfix (NamePrimary n));
+  written = pieces n;
   pieces = λ ks. ap (λ p. onto p ks) (pieces n);
   is = ap is_target (last n);
   formed = λ h. formed n;
@@ -154,6 +156,7 @@ as-expr (NameTarget n) = record {
     formed n = search (rules, expr_layers)
 as-expr (IndexTarget base index at) = record {
   e = PostfixExpr (IndexPostfix base index at);
+  written = pieces;
   pieces = λ ks. ap (λ p. onto p ks) pieces;
   is = ap is_target last;
   formed = λ h. let b = both_pass (postfix_is_formed base.value false) (expr_is_formed index.value false) h in formed ∙ ap (λ b. (b && (expr_is_formed index.value false && true)) && true) b.0 ∙ ap (λ b. (b && true) && true) b.1;
@@ -169,6 +172,7 @@ as-expr (IndexTarget base index at) = record {
     formed = search (rules, expr_layers)
 as-expr (FieldTarget base field at) = record {
   e = PostfixExpr (FieldPostfix base field at);
+  written = pieces;
   pieces = λ ks. ap (λ p. onto p ks) pieces;
   is = ap is_target last;
   formed = λ h. formed ∙ ap (λ b. (b && true) && true) h;
@@ -185,7 +189,7 @@ as-expr (FieldTarget base field at) = record {
 
 -- ---- signs of assignments
 
-assign-ends : (op : AssignOp) → ends_expr (assign_sign op) ≡ true
+pub assign-ends : (op : AssignOp) → ends_expr (assign_sign op) ≡ true
 assign-ends Set = refl
 assign-ends Add = refl
 assign-ends Subtract = refl
@@ -228,7 +232,7 @@ module _ (known : Known) where
   local-law t w value ks f g =
       ap (λ o. o >>= take_word >>= take_sign Equal >>= ended) (local_type-law t w (SignKind Equal ∷ onto (ended_pieces value) ks) f) ∙ ended-law known value ks g
 
-  local-mark : (t : TypeTree) (w : Word) (ks : Kinds) → first_mark true 0 (onto (type_pieces t) (onto (word_pieces w) (SignKind Equal ∷ ks))) ≡ Declares
+  pub local-mark : (t : TypeTree) (w : Word) (ks : Kinds) → first_mark true 0 (onto (type_pieces t) (onto (word_pieces w) (SignKind Equal ∷ ks))) ≡ Declares
   local-mark t w ks = (known.type_passes t).mark true 0 (onto (word_pieces w) (SignKind Equal ∷ ks)) refl
 
   pub declared-law : (t : TypeTree) (w : Word) (value : Rhs) (ks : Kinds) → type_is_formed t false ≡ true → rhs_is_formed value ≡ true → led (onto (type_pieces t & word_pieces w & sign Equal & ended_pieces value) ks) ≡ Some ks
@@ -274,7 +278,7 @@ module _ (known : Known) where
   other-mark : (t : Target) (zs : Kinds) → take_sign Equal zs ≡ None → first_mark true 0 (onto (target_pieces t) zs) ≡ first_mark false 0 zs
   other-mark t zs h = let a = as-expr t in ap (first_mark true 0) (sym (a.pieces zs)) ∙ (known.expr_passes a.e).mark true 0 zs h
 
-  assign-mark : (t : Target) (op : AssignOp) (ks : Kinds) → first_mark true 0 (onto (target_pieces t) (SignKind (assign_sign op) ∷ ks)) ≡ Assigns
+  pub assign-mark : (t : Target) (op : AssignOp) (ks : Kinds) → first_mark true 0 (onto (target_pieces t) (SignKind (assign_sign op) ∷ ks)) ≡ Assigns
   assign-mark t Set ks = set-mark t ks
   assign-mark t Add ks = other-mark t (SignKind (assign_sign Add) ∷ ks) refl
   assign-mark t Subtract ks = other-mark t (SignKind (assign_sign Subtract) ∷ ks) refl

@@ -18,3 +18,9 @@ pub mod FileLaw
 pub mod StopLaw
 pub mod KnownAll
 pub mod FileAnswers
+pub mod Alike
+pub mod OneBelow
+pub mod PartTree
+pub mod FormTree
+pub mod StmtTree
+pub mod ChosenLaw

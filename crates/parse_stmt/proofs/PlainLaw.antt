@@ -66,7 +66,7 @@ name-pattern None w ks h = ap (λ o. Some (else_stays (o >>= take_word) ks)) h
 name-pattern (Some (WordPrefix p)) w ks h = refl
 name-pattern (Some (IntPrefix at)) w ks h = refl
 
-pattern-law : (p : Pattern) (ks : Kinds) → NoColon ks → pattern (onto (pattern_pieces p) ks) ≡ Some ks
+pub pattern-law : (p : Pattern) (ks : Kinds) → NoColon ks → pattern (onto (pattern_pieces p) ks) ≡ Some ks
 pattern-law (Any at) ks h = refl
 pattern-law (Value (LiteralValue (Int value at))) ks h = refl
 pattern-law (Value (LiteralValue (Str text at))) ks h = refl
@@ -81,7 +81,7 @@ patterns-law [] ks h = cc h
 patterns-law (p ∷ ps) ks h = separated-law pattern_pieces pattern Bar NoColon refl (λ zs. refl) pattern-law p ps (SignKind FatArrow ∷ ks) refl refl
 
 -- no value begins with a semicolon
-no-semicolon : (xs : Kinds) → leads xs ≡ true → take_sign Semicolon xs ≡ None
+pub no-semicolon : (xs : Kinds) → leads xs ≡ true → take_sign Semicolon xs ≡ None
 no-semicolon [] h = refl
 no-semicolon (SignKind Semicolon ∷ xs) h = cc h
 no-semicolon (SignKind s ∷ xs) h = refl
@@ -103,7 +103,7 @@ module _ (known : Known) where
       of_op Below end f = known.expr_before end.value OpenBrace ks f refl
 
   -- an expression before a range or a block
-  before-range : (e : Expr) (range : Option Range) (ks : Kinds) → expr_is_formed e false ≡ true → expr (onto (expr_pieces e) (onto (if_there range_pieces range) (SignKind OpenBrace ∷ ks))) ≡ Some (onto (if_there range_pieces range) (SignKind OpenBrace ∷ ks))
+  pub before-range : (e : Expr) (range : Option Range) (ks : Kinds) → expr_is_formed e false ≡ true → expr (onto (expr_pieces e) (onto (if_there range_pieces range) (SignKind OpenBrace ∷ ks))) ≡ Some (onto (if_there range_pieces range) (SignKind OpenBrace ∷ ks))
   before-range e None ks f = known.expr_before e OpenBrace ks f refl
   before-range e (Some r) ks f = known.expr_before e (range_sign r.op) (onto (expr_pieces r.end.value) (SignKind OpenBrace ∷ ks)) f (range-ends r.op)
 
@@ -128,7 +128,7 @@ module _ (known : Known) where
   action-leads (Send value p at) ks = known.expr_leads value.value (onto (sign Arrow & peer_pieces p) ks) refl
   action-leads (SyncSend value p at) ks = known.expr_leads value.value (onto (sign DoubleArrow & peer_pieces p) ks) refl
 
-  rhs-leads : (r : Rhs) (ks : Kinds) → leads (onto (ended_pieces r) ks) ≡ true
+  pub rhs-leads : (r : Rhs) (ks : Kinds) → leads (onto (ended_pieces r) ks) ≡ true
   rhs-leads (ExprRhs e) ks = known.expr_leads e.value (SignKind Semicolon ∷ ks) refl
   rhs-leads (ActionRhs a) ks = action-leads a.value (SignKind Semicolon ∷ ks)
 
@@ -139,7 +139,7 @@ module _ (known : Known) where
   assign-goes Multiply ks = refl
   assign-goes Divide ks = refl
 
-  target-leads : (t : Target) (op : AssignOp) (ks : Kinds) → leads (onto (target_pieces t) (SignKind (assign_sign op) ∷ ks)) ≡ true
+  pub target-leads : (t : Target) (op : AssignOp) (ks : Kinds) → leads (onto (target_pieces t) (SignKind (assign_sign op) ∷ ks)) ≡ true
   target-leads t op ks =
       let a = as-expr t in
       ap leads (sym (a.pieces (SignKind (assign_sign op) ∷ ks))) ∙ known.expr_leads a.e (SignKind (assign_sign op) ∷ ks) (assign-goes op ks)

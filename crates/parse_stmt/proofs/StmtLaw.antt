@@ -12,8 +12,8 @@ use Rattle.bal_tree.specs.declared.stmt.Else.TheOpen as layer
 use Rattle.bal_tree.specs.declared.stmt.Else.{Else, Else-F, roll-Else, map-Else}
 use Rattle.bal_tree.specs.declared.stmt.Stmt.{Stmt, Stmt-F, roll-Stmt, map-Stmt, ind-Stmt}
 use Rattle.bal_tree.specs.declared.stmt.Block.{Block, Block-F, roll-Block, map-Block, ind-Block}
-use Rattle.bal_tree.specs.declared.stmt.Clause.{Clause, Clause-F, roll-Clause, map-Clause}
-use Rattle.bal_tree.specs.declared.stmt.IfStmt.{IfStmt, IfStmt-F, roll-IfStmt, map-IfStmt}
+use Rattle.bal_tree.specs.declared.stmt.Clause.{Clause, Clause-F, roll-Clause, map-Clause, ind-Clause}
+use Rattle.bal_tree.specs.declared.stmt.IfStmt.{IfStmt, IfStmt-F, roll-IfStmt, map-IfStmt, ind-IfStmt}
 use Rattle.bal_tree.specs.ActionRules.{has_members, rhs_is_formed}
 use Rattle.bal_tree.specs.declared.expr.Expr.{Expr}
 use Rattle.parse_expr.specs.Reaches.{expr}
@@ -330,7 +330,7 @@ module _ (known : Known) where
       }
 
   -- a condition and a block
-  before-block : (e : Expr) (p : Pieces) (ks : Kinds) → expr_is_formed e false ≡ true → BlockAt p → expr (onto (expr_pieces e) (onto p ks)) ≡ Some (onto p ks)
+  pub before-block : (e : Expr) (p : Pieces) (ks : Kinds) → expr_is_formed e false ≡ true → BlockAt p → expr (onto (expr_pieces e) (onto p ks)) ≡ Some (onto p ks)
   before-block e p ks f at =
       let o = at.opens ks in
       ap (λ xs. expr (onto (expr_pieces e) xs)) o.1.0 ∙ known.expr_before e OpenBrace o.0 f refl ∙ ap Some (sym o.1.0)
@@ -532,3 +532,9 @@ module _ (known : Known) where
 
   pub block-law : (t : Block) → block_is_formed t ≡ true → BlockAt (block_pieces t)
   block-law = ind-Block ClaimElse ClaimStmt ClaimBlock ClaimClause ClaimIf else-step stmt-step block-step clause-step if-step
+
+  pub if-law : (t : IfStmt) → if_is_formed t ≡ true → IfAt (if_pieces t)
+  if-law = ind-IfStmt ClaimElse ClaimStmt ClaimBlock ClaimClause ClaimIf else-step stmt-step block-step clause-step if-step
+
+  pub clause-law : (t : Clause) → clause_is_formed t ≡ true → ClauseAt (clause_pieces t)
+  clause-law = ind-Clause ClaimElse ClaimStmt ClaimBlock ClaimClause ClaimIf else-step stmt-step block-step clause-step if-step

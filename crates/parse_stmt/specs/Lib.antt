@@ -1,4 +1,5 @@
 pub mod Ahead
+pub mod Chosen
 pub mod Reaches
 pub mod Shapes
 pub mod Starts
