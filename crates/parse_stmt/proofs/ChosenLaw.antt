@@ -154,6 +154,15 @@ firsts_of_clause = map-Clause AnElse AStmt ABlock AClause AnIf Else Stmt Block C
 abbrev firsts_of_if_stmt : IfStmt-F AnElse AStmt ABlock AClause AnIf → IfStmt-F Else Stmt Block Clause IfStmt
 firsts_of_if_stmt = map-IfStmt AnElse AStmt ABlock AClause AnIf Else Stmt Block Clause IfStmt (λ e. e.0) (λ e. e.0) (λ e. e.0) (λ e. e.0) (λ e. e.0)
 
+-- of each statement in a list
+abbrev pub Claims : List Stmt → Type 0
+Claims [] = Unit {0}
+Claims (t ∷ ts) = ClaimStmt t × Claims ts
+
+claims-of : (xs : List AStmt) → Claims (map (λ e. e.0) xs)
+claims-of [] = tt
+claims-of (x ∷ xs) = (x.1, claims-of xs)
+
 range-no-brace : (op : RangeOp) (ks ls : Kinds) → SignKind OpenBrace ∷ ks ≡ SignKind (range_sign op) ∷ ls → ⊥
 range-no-brace Through ks ls e = cc e
 range-no-brace Below ks ls e = cc e
@@ -161,18 +170,18 @@ range-no-brace Below ks ls e = cc e
 module _ (known : Known) (one : OneBelow) where
   -- ---- lists
 
-  stmts-same : (ts : List AStmt) (us : List Stmt) (ks ls : Kinds) → ends_stmts ks ≡ true → ends_stmts ls ≡ true → are_formed (map stmt_is_formed (map (λ e. e.0) ts)) ≡ true → are_formed (map stmt_is_formed us) ≡ true → AreChosen (together (map led_in_stmt (map (λ e. e.0) ts))) → AreChosen (together (map led_in_stmt us)) → onto (joined (map stmt_pieces (map (λ e. e.0) ts))) ks ≡ onto (joined (map stmt_pieces us)) ls → Same (joined (map stmt_pieces (map (λ e. e.0) ts))) (joined (map stmt_pieces us)) ks ls
-  stmts-same [] [] ks ls h k f g c d e = (tt, e)
-  stmts-same [] (u ∷ us) ks ls h k f g c d e =
+  pub stmts-same : (ts us : List Stmt) → Claims ts → (ks ls : Kinds) → ends_stmts ks ≡ true → ends_stmts ls ≡ true → are_formed (map stmt_is_formed ts) ≡ true → are_formed (map stmt_is_formed us) ≡ true → AreChosen (led_in_stmts ts) → AreChosen (led_in_stmts us) → onto (joined (map stmt_pieces ts)) ks ≡ onto (joined (map stmt_pieces us)) ls → Same (joined (map stmt_pieces ts)) (joined (map stmt_pieces us)) ks ls
+  stmts-same [] [] all ks ls h k f g c d e = (tt, e)
+  stmts-same [] (u ∷ us) all ks ls h k f g c d e =
       absurd (no-end known u (onto (joined (map stmt_pieces us)) ls) (both_pass (stmt_is_formed u) (are_formed (map stmt_is_formed us)) g).0 (ap ends_stmts (sym e) ∙ h))
-  stmts-same (t ∷ ts) [] ks ls h k f g c d e =
-      absurd (no-end known t.0 (onto (joined (map stmt_pieces (map (λ e. e.0) ts))) ks) (both_pass (stmt_is_formed t.0) (are_formed (map stmt_is_formed (map (λ e. e.0) ts))) f).0 (ap ends_stmts e ∙ k))
-  stmts-same (t ∷ ts) (u ∷ us) ks ls h k f g c d e =
-      let a = both_pass (stmt_is_formed t.0) (are_formed (map stmt_is_formed (map (λ e. e.0) ts))) f in
+  stmts-same (t ∷ ts) [] all ks ls h k f g c d e =
+      absurd (no-end known t (onto (joined (map stmt_pieces ts)) ks) (both_pass (stmt_is_formed t) (are_formed (map stmt_is_formed ts)) f).0 (ap ends_stmts e ∙ k))
+  stmts-same (t ∷ ts) (u ∷ us) all ks ls h k f g c d e =
+      let a = both_pass (stmt_is_formed t) (are_formed (map stmt_is_formed ts)) f in
       let b = both_pass (stmt_is_formed u) (are_formed (map stmt_is_formed us)) g in
-      let s = t.1 u (onto (joined (map stmt_pieces (map (λ e. e.0) ts))) ks) (onto (joined (map stmt_pieces us)) ls) (behind known (map (λ e. e.0) ts) ks a.1 h) (behind known us ls b.1 k) a.0 b.0
-      (chosen-front (led_in_stmt t.0) (together (map led_in_stmt (map (λ e. e.0) ts))) c) (chosen-front (led_in_stmt u) (together (map led_in_stmt us)) d) e in
-      let more = stmts-same ts us ks ls h k a.1 b.1 (chosen-back (led_in_stmt t.0) (together (map led_in_stmt (map (λ e. e.0) ts))) c) (chosen-back (led_in_stmt u) (together (map led_in_stmt us)) d) s.1 in
+      let s = all.0 u (onto (joined (map stmt_pieces ts)) ks) (onto (joined (map stmt_pieces us)) ls) (behind known ts ks a.1 h) (behind known us ls b.1 k) a.0 b.0
+      (chosen-front (led_in_stmt t) (led_in_stmts ts) c) (chosen-front (led_in_stmt u) (led_in_stmts us) d) e in
+      let more = stmts-same ts us all.1 ks ls h k a.1 b.1 (chosen-back (led_in_stmt t) (led_in_stmts ts) c) (chosen-back (led_in_stmt u) (led_in_stmts us) d) s.1 in
       ((s.0, more.0), more.1)
 
   no-clause : (u : Clause) (ks ls : Kinds) → clause_is_formed u ≡ true → SignKind CloseBrace ∷ ks ≡ onto (clause_pieces u) ls → ⊥
@@ -236,7 +245,7 @@ module _ (known : Known) (one : OneBelow) where
 
   block-pair : (y : Block-F AnElse AStmt ABlock AClause AnIf) (x : Block-F Else Stmt Block Clause IfStmt) → Pair Anything (BlockLayer (firsts_of_block y)) (BlockLayer x)
   block-pair y x ks ls h k f g c d e =
-      let s = stmts-same y.stmts.items x.stmts.items (SignKind CloseBrace ∷ ks) (SignKind CloseBrace ∷ ls) refl refl f g c d (ap behind_first e) in
+      let s = stmts-same (map (λ e. e.0) y.stmts.items) x.stmts.items (claims-of y.stmts.items) (SignKind CloseBrace ∷ ks) (SignKind CloseBrace ∷ ls) refl refl f g c d (ap behind_first e) in
       let rest : SignKind CloseBrace ∷ ks ≡ SignKind CloseBrace ∷ ls = s.1 in
       ((tt, (refl, (s.0, (tt, refl)))), cc rest)
 
@@ -431,3 +440,7 @@ module _ (known : Known) (one : OneBelow) where
 
   pub block-one : (t : Block) → ClaimBlock t
   block-one = ind-Block ClaimElse ClaimStmt ClaimBlock ClaimClause ClaimIf else-step stmt-step block-step clause-step if-step
+
+  pub all-claims : (ts : List Stmt) → Claims ts
+  all-claims [] = tt
+  all-claims (t ∷ ts) = (stmt-one t, all-claims ts)

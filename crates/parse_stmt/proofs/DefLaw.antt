@@ -96,7 +96,7 @@ import-law i ks = second-law i.second i.more.items i.prefix ks
 
 -- ---- what begins no definition of another form
 
-no-key : (xs : Kinds) → leads xs ≡ true → (take_key PublicKey xs ≡ None) × (take_key FinalKey xs ≡ None)
+pub no-key : (xs : Kinds) → leads xs ≡ true → (take_key PublicKey xs ≡ None) × (take_key FinalKey xs ≡ None)
 no-key [] h = (refl, refl)
 no-key (KeywordKind PublicKey ∷ xs) h = cc h
 no-key (KeywordKind FinalKey ∷ xs) h = cc h
@@ -111,7 +111,7 @@ other-def n (KeywordKind k ∷ xs) h = refl
 other-def n (k ∷ xs) h = refl
 
 -- `T a =` is not `a =`
-not-named : (xs : Kinds) → first_mark true 0 xs ≡ Declares → is_named xs ≡ false
+pub not-named : (xs : Kinds) → first_mark true 0 xs ≡ Declares → is_named xs ≡ false
 not-named [] h = refl
 not-named (WordKind w ∷ zs) h = test (is_some (take_sign Equal zs)) refl
   where
@@ -129,13 +129,13 @@ pub record Behind (zs : Kinds) : Type 0 where
 pub brace-behind : (ks : Kinds) → Behind (SignKind OpenBrace ∷ ks)
 brace-behind ks = record { closes = record { less = refl; paren = refl; colon = refl; returns = refl; ends = record { no_suffix = refl; no_ampersand = refl; no_bar = refl } }; no_returns = refl }
 
-arrow-behind : (ks : Kinds) → Behind (SignKind FatArrow ∷ ks)
+pub arrow-behind : (ks : Kinds) → Behind (SignKind FatArrow ∷ ks)
 arrow-behind ks = record { closes = record { less = refl; paren = refl; colon = refl; returns = refl; ends = record { no_suffix = refl; no_ampersand = refl; no_bar = refl } }; no_returns = refl }
 
-semicolon-closes : (ks : Kinds) → Closes (SignKind Semicolon ∷ ks)
+pub semicolon-closes : (ks : Kinds) → Closes (SignKind Semicolon ∷ ks)
 semicolon-closes ks = record { less = refl; paren = refl; colon = refl; returns = refl; ends = record { no_suffix = refl; no_ampersand = refl; no_bar = refl } }
 
-body-behind : (b : Body) (ks : Kinds) → Behind (onto (body_pieces b) ks)
+pub body-behind : (b : Body) (ks : Kinds) → Behind (onto (body_pieces b) ks)
 body-behind (BlockBody stmts workers rest close at) ks = brace-behind (onto (joined (map stmt_pieces stmts.items) & joined (map worker_pieces workers.items) & joined (map stmt_pieces rest.items) & sign CloseBrace) ks)
 body-behind (ExprBody value at) ks = arrow-behind (onto (expr_pieces value.value & sign Semicolon) ks)
 
@@ -169,7 +169,7 @@ module _ (known : Known) where
   stmts-at [] h = tt
   stmts-at (x ∷ xs) h = let b = both_pass (stmt_is_formed x) (list_all stmt_is_formed xs) h in (stmt-law known x b.0, stmts-at xs b.1)
 
-  worker-law : (n : ℕ) (w : Worker) (ks : Kinds) → worker_is_formed w ≡ true → length (onto (worker_pieces w) ks) < n → worker n (onto (worker_pieces w) ks) ≡ Some ks
+  pub worker-law : (n : ℕ) (w : Worker) (ks : Kinds) → worker_is_formed w ≡ true → length (onto (worker_pieces w) ks) < n → worker n (onto (worker_pieces w) ks) ≡ Some ks
   worker-law n w ks f fits =
       let b = both_pass (type_is_formed_if w.result) (block_is_formed w.body) f in
       let at = block-law known w.body b.1 in
@@ -189,7 +189,7 @@ module _ (known : Known) where
       let l = worker-longer w ys in
       many-goes length (worker n) (onto (worker_pieces w) ys) ys (worker-law n w ys b.0 fits) l ∙ workers-go n ws zs b.1 e (omega arith)
 
-  rest-no-worker : (xs : List Stmt) (ks : Kinds) → list_all stmt_is_formed xs ≡ true → take_key WorkerKey (onto (joined (map stmt_pieces xs)) (SignKind CloseBrace ∷ ks)) ≡ None
+  pub rest-no-worker : (xs : List Stmt) (ks : Kinds) → list_all stmt_is_formed xs ≡ true → take_key WorkerKey (onto (joined (map stmt_pieces xs)) (SignKind CloseBrace ∷ ks)) ≡ None
   rest-no-worker [] ks f = refl
   rest-no-worker (x ∷ xs) ks f = (stmt-law known x (both_pass (stmt_is_formed x) (list_all stmt_is_formed xs) f).0).no_worker (onto (joined (map stmt_pieces xs)) (SignKind CloseBrace ∷ ks))
 
@@ -258,7 +258,7 @@ module _ (known : Known) where
       head true zs = refl
       head false zs = refl
 
-  const-type-law : (t : Option (Box TypeTree)) (w : Word) (ks : Kinds) → type_is_formed_if t ≡ true → const_type (onto (if_boxed type_pieces t & word_pieces w) (SignKind Equal ∷ ks)) ≡ Some (WordKind w.name ∷ SignKind Equal ∷ ks)
+  pub const-type-law : (t : Option (Box TypeTree)) (w : Word) (ks : Kinds) → type_is_formed_if t ≡ true → const_type (onto (if_boxed type_pieces t & word_pieces w) (SignKind Equal ∷ ks)) ≡ Some (WordKind w.name ∷ SignKind Equal ∷ ks)
   const-type-law None w ks f = refl
   const-type-law (Some t) w ks f =
       let zs = WordKind w.name ∷ SignKind Equal ∷ ks in
@@ -289,7 +289,7 @@ module _ (known : Known) where
       let same : zs ≡ SignKind Equal ∷ ks = cc both in
       ap (λ xs. is_some (take_sign OpenParen xs)) same
 
-  no-function : (xs : Kinds) (w : Name) (ks : Kinds) → type_at false xs ≡ Some (WordKind w ∷ SignKind Equal ∷ ks) → begins_function xs ≡ false
+  pub no-function : (xs : Kinds) (w : Name) (ks : Kinds) → type_at false xs ≡ Some (WordKind w ∷ SignKind Equal ∷ ks) → begins_function xs ≡ false
   no-function [] w ks e = refl
   no-function (KeywordKind FunctionKey ∷ WordKind f ∷ zs) w ks e = no-paren w f ks zs e
   no-function (KeywordKind FunctionKey ∷ []) w ks e = refl

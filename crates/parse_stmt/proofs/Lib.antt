@@ -24,3 +24,5 @@ pub mod PartTree
 pub mod FormTree
 pub mod StmtTree
 pub mod ChosenLaw
+pub mod DefTree
+pub mod FileTree

@@ -13,6 +13,7 @@ use Rattle.bal_tree.specs.declared.def.Worker.{Worker}
 use Rattle.bal_tree.specs.declared.stmt.Block.{Block}
 use Rattle.bal_tree.specs.declared.stmt.Else.TheOpen as layer
 use Rattle.bal_tree.specs.declared.stmt.Stmt.{Stmt}
+use Rattle.bal_tree.specs.DefPieces.{file_pieces}
 use Rattle.bal_tree.specs.Pieces.{Pieces, kinds}
 use Rattle.bal_tree.specs.StmtLayers.{StmtOf, StmtSteps, of_stmt, of_block}
 use Rattle.bal_tree.specs.StmtPieces.{stmt_step, stmt_pieces}
@@ -88,3 +89,7 @@ AreChosen stmts = All (λ p. IsBlockFirst p → ⊥) stmts
 -- Where a statement may stand and braces with nothing between them read as a block before a statement, they are one.
 abbrev pub IsChosen : FileTree → Type 0
 IsChosen t = AreChosen (led_in_file t)
+
+-- Both are written out alike: they are the same but for where their parts lie in memory.
+abbrev pub IsSameFile : FileTree → FileTree → Type 0
+IsSameFile t u = file_pieces t ≡ file_pieces u
