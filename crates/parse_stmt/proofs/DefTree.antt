@@ -41,7 +41,7 @@ use Rattle.parse_stmt.proofs.ChosenLaw.{all-claims, block-one, stmts-same}
 use Rattle.parse_stmt.proofs.DefLaw.{Behind as BehindResult, body-behind, brace-behind, import-law, rest-no-worker}
 use Rattle.parse_stmt.proofs.Known.{Known}
 use Rattle.parse_stmt.proofs.OneBelow.{OneBelow}
-use Rattle.parse_stmt.proofs.PartTree.{expr-same, separated-same, type-same}
+use Rattle.parse_stmt.proofs.PartTree.{expr-same, lists-same, type-same}
 use Rattle.parse_stmt.proofs.StmtLaw.{block-law}
 use Rattle.parse_stmt.proofs.StmtReadings.{some-members}
 use Rattle.parse_stmt.proofs.StmtTree.{chosen-back, chosen-front}
@@ -143,11 +143,7 @@ module _ (known : Known) (one : OneBelow) where
       let bad : None ≡ Some (SignKind Ellipsis ∷ WordKind p.name.name ∷ ks) = sym (no-type-paren zs) ∙ ap (type_at false) e ∙ known.type_before p.ty.value (SignKind Ellipsis ∷ WordKind p.name.name ∷ ks) f (ellipsis-closes (WordKind p.name.name ∷ ks)) in cc bad
 
   list-same : (xs ys : List Item) (ks ls : Kinds) → onto (separated Comma (map item_pieces xs)) (SignKind CloseParen ∷ ks) ≡ onto (separated Comma (map item_pieces ys)) (SignKind CloseParen ∷ ls) → Same (separated Comma (map item_pieces xs)) (separated Comma (map item_pieces ys)) (SignKind CloseParen ∷ ks) (SignKind CloseParen ∷ ls)
-  list-same [] [] ks ls e = (tt, e)
-  list-same [] (y ∷ ys) ks ls e = absurd (item-no-paren y _ ks e)
-  list-same (x ∷ xs) [] ks ls e = absurd (item-no-paren x _ ls (sym e))
-  list-same (x ∷ xs) (y ∷ ys) ks ls e =
-      separated-same item_pieces Comma CloseParen (λ ks. Unit {0}) (λ ks ls q. cc q) (λ ks. tt) (λ ks. tt) item-same (x ∷ xs) (y ∷ ys) ks ls (some-members (length (x ∷ xs)) (omega arith)) (some-members (length (y ∷ ys)) (omega arith)) e
+  list-same = lists-same item_pieces item_pieces Comma CloseParen (λ ks. Unit {0}) (λ ks ls q. cc q) (λ ks. tt) (λ ks. tt) item-same (λ x ks zs h. item-no-paren x ks zs) (λ x ks zs h. item-no-paren x ks zs)
 
   pub params-same : (p q : Params) (ks ls : Kinds) → params_are_formed p ≡ true → params_are_formed q ≡ true → onto (params_pieces p) ks ≡ onto (params_pieces q) ls → Same (params_pieces p) (params_pieces q) ks ls
   params-same p q ks ls f g e =

@@ -26,3 +26,7 @@ pub mod StmtTree
 pub mod ChosenLaw
 pub mod DefTree
 pub mod FileTree
+pub mod Spines
+pub mod TypeForms
+pub mod TypeSpines
+pub mod TypeTrees

@@ -54,7 +54,7 @@ use Rattle.parse_stmt.specs.declared.ahead.Mark.TheVariants.{Declares, Assigns, 
 use Rattle.parse_stmt.specs.Ahead.{first_mark}
 use Rattle.parse_stmt.specs.Reaches.{begins_simple, begins_with_check}
 use Rattle.parse_stmt.proofs.ActionLaw.{NoColon, action-mark, as_expr, call-formed, call-pieces, mark_by, names-no-brace, simple-begins}
-use Rattle.parse_stmt.proofs.Alike.{Alike, Same, same-kinds}
+use Rattle.parse_stmt.proofs.Alike.{Alike, Same, behind_first, same-kinds}
 use Rattle.parse_stmt.proofs.Known.{Known, ends_expr, leads}
 use Rattle.parse_stmt.proofs.LedLaw.{as-expr, assign-ends}
 use Rattle.parse_stmt.proofs.OneBelow.{OneBelow}
@@ -90,27 +90,44 @@ peer-same (FunctionPeer at) (FunctionPeer other) ks ls e = ((tt, refl), cc e)
 peer-same (WordPeer w) (FunctionPeer at) ks ls e = cc e
 peer-same (FunctionPeer at) (WordPeer w) ks ls e = cc e
 
-module _ {X : Type 0} (f : X → Pieces) (s c : Sign) (Stops : Kinds → Type 0) (differ : (ks ls : Kinds) → SignKind c ∷ ks ≡ SignKind s ∷ ls → ⊥) (at-sign : (ks : Kinds) → Stops (SignKind s ∷ ks)) (at-end : (ks : Kinds) → Stops (SignKind c ∷ ks)) (each : (x y : X) (ks ls : Kinds) → Stops ks → Stops ls → onto (f x) ks ≡ onto (f y) ls → Same (f x) (f y) ks ls) where
-  stops-behind : (xs : List X) (ks : Kinds) → Stops (onto (behind s (map f xs)) (SignKind c ∷ ks))
-  stops-behind [] ks = at-end ks
-  stops-behind (x ∷ xs) ks = at-sign (onto (f x) (onto (behind s (map f xs)) (SignKind c ∷ ks)))
+module _ {X Y : Type 0} (f : X → Pieces) (g : Y → Pieces) (s c : Sign) (Stops : Kinds → Type 0) (differ : (ks ls : Kinds) → SignKind c ∷ ks ≡ SignKind s ∷ ls → ⊥) (at-sign : (ks : Kinds) → Stops (SignKind s ∷ ks)) (at-end : (ks : Kinds) → Stops (SignKind c ∷ ks)) (each : (x : X) (y : Y) (ks ls : Kinds) → Stops ks → Stops ls → onto (f x) ks ≡ onto (g y) ls → Same (f x) (g y) ks ls) where
+  stops-f : (xs : List X) (ks : Kinds) → Stops (onto (behind s (map f xs)) (SignKind c ∷ ks))
+  stops-f [] ks = at-end ks
+  stops-f (x ∷ xs) ks = at-sign (onto (f x) (onto (behind s (map f xs)) (SignKind c ∷ ks)))
 
-  behind-same : (xs ys : List X) (ks ls : Kinds) → onto (behind s (map f xs)) (SignKind c ∷ ks) ≡ onto (behind s (map f ys)) (SignKind c ∷ ls) → Same (behind s (map f xs)) (behind s (map f ys)) (SignKind c ∷ ks) (SignKind c ∷ ls)
+  stops-g : (ys : List Y) (ks : Kinds) → Stops (onto (behind s (map g ys)) (SignKind c ∷ ks))
+  stops-g [] ks = at-end ks
+  stops-g (y ∷ ys) ks = at-sign (onto (g y) (onto (behind s (map g ys)) (SignKind c ∷ ks)))
+
+  pub behind-same : (xs : List X) (ys : List Y) (ks ls : Kinds) → onto (behind s (map f xs)) (SignKind c ∷ ks) ≡ onto (behind s (map g ys)) (SignKind c ∷ ls) → Same (behind s (map f xs)) (behind s (map g ys)) (SignKind c ∷ ks) (SignKind c ∷ ls)
   behind-same [] [] ks ls e = (tt, e)
   behind-same [] (y ∷ ys) ks ls e = absurd (differ ks _ e)
   behind-same (x ∷ xs) [] ks ls e = absurd (differ ls _ (sym e))
   behind-same (x ∷ xs) (y ∷ ys) ks ls e =
-      let a = each x y (onto (behind s (map f xs)) (SignKind c ∷ ks)) (onto (behind s (map f ys)) (SignKind c ∷ ls)) (stops-behind xs ks) (stops-behind ys ls) (cc e) in
+      let a = each x y (onto (behind s (map f xs)) (SignKind c ∷ ks)) (onto (behind s (map g ys)) (SignKind c ∷ ls)) (stops-f xs ks) (stops-g ys ls) (ap behind_first e) in
       let b = behind-same xs ys ks ls a.1 in
       ((refl, (a.0, b.0)), b.1)
 
+  -- some on both sides
+  pub members-same : (x : X) (xs : List X) (y : Y) (ys : List Y) (ks ls : Kinds) → onto (separated s (map f (x ∷ xs))) (SignKind c ∷ ks) ≡ onto (separated s (map g (y ∷ ys))) (SignKind c ∷ ls) → Same (separated s (map f (x ∷ xs))) (separated s (map g (y ∷ ys))) (SignKind c ∷ ks) (SignKind c ∷ ls)
+  members-same x xs y ys ks ls e =
+      let a = each x y (onto (behind s (map f xs)) (SignKind c ∷ ks)) (onto (behind s (map g ys)) (SignKind c ∷ ls)) (stops-f xs ks) (stops-g ys ls) e in
+      let b = behind-same xs ys ks ls a.1 in
+      ((a.0, b.0), b.1)
+
+  -- or none, where no member begins like the end
+  module _ (no-f : (x : X) (ks zs : Kinds) → Stops ks → SignKind c ∷ zs ≡ onto (f x) ks → ⊥) (no-g : (y : Y) (ks zs : Kinds) → Stops ks → SignKind c ∷ zs ≡ onto (g y) ks → ⊥) where
+    pub lists-same : (xs : List X) (ys : List Y) (ks ls : Kinds) → onto (separated s (map f xs)) (SignKind c ∷ ks) ≡ onto (separated s (map g ys)) (SignKind c ∷ ls) → Same (separated s (map f xs)) (separated s (map g ys)) (SignKind c ∷ ks) (SignKind c ∷ ls)
+    lists-same [] [] ks ls e = (tt, e)
+    lists-same [] (y ∷ ys) ks ls e = absurd (no-g y _ ks (stops-g ys ls) e)
+    lists-same (x ∷ xs) [] ks ls e = absurd (no-f x _ ls (stops-f xs ks) (sym e))
+    lists-same (x ∷ xs) (y ∷ ys) ks ls e = members-same x xs y ys ks ls e
+
+module _ {X : Type 0} (f : X → Pieces) (s c : Sign) (Stops : Kinds → Type 0) (differ : (ks ls : Kinds) → SignKind c ∷ ks ≡ SignKind s ∷ ls → ⊥) (at-sign : (ks : Kinds) → Stops (SignKind s ∷ ks)) (at-end : (ks : Kinds) → Stops (SignKind c ∷ ks)) (each : (x y : X) (ks ls : Kinds) → Stops ks → Stops ls → onto (f x) ks ≡ onto (f y) ls → Same (f x) (f y) ks ls) where
   pub separated-same : (xs ys : List X) (ks ls : Kinds) → has_members xs ≡ true → has_members ys ≡ true → onto (separated s (map f xs)) (SignKind c ∷ ks) ≡ onto (separated s (map f ys)) (SignKind c ∷ ls) → Same (separated s (map f xs)) (separated s (map f ys)) (SignKind c ∷ ks) (SignKind c ∷ ls)
   separated-same [] ys ks ls h k e = cc h
   separated-same xs [] ks ls h k e = cc k
-  separated-same (x ∷ xs) (y ∷ ys) ks ls h k e =
-      let a = each x y (onto (behind s (map f xs)) (SignKind c ∷ ks)) (onto (behind s (map f ys)) (SignKind c ∷ ls)) (stops-behind xs ks) (stops-behind ys ls) e in
-      let b = behind-same xs ys ks ls a.1 in
-      ((a.0, b.0), b.1)
+  separated-same (x ∷ xs) (y ∷ ys) ks ls h k e = members-same f f s c Stops differ at-sign at-end each x xs y ys ks ls e
 
 names-alike : (ns ms : List QualifiedName) (ks ls : Kinds) → has_members ns ≡ true → has_members ms ≡ true → onto (separated Bar (map name_pieces ns)) (SignKind Semicolon ∷ ks) ≡ onto (separated Bar (map name_pieces ms)) (SignKind Semicolon ∷ ls) → Same (separated Bar (map name_pieces ns)) (separated Bar (map name_pieces ms)) ks ls
 names-alike ns ms ks ls h k e =
