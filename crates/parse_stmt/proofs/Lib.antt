@@ -30,3 +30,4 @@ pub mod Spines
 pub mod TypeForms
 pub mod TypeSpines
 pub mod TypeTrees
+pub mod ExprSpines

@@ -58,13 +58,13 @@ module _ {B X : Type 0} (pb : B → Pieces) (px : X → Pieces) where
     pub one-spine : (b : B) (E : Kinds → Type 0) → ((ks : Kinds) → E ks → A b ks) → Spine (pb b) E
     one-spine b E h = record { base = b; steps = []; written = refl; first = h; good = λ ks e. tt }
 
-    pub more-spine : (p : Pieces) (E F : Kinds → Type 0) (s : Step X) → Spine p E → ((ks : Kinds) → E (onto (px s.is) ks)) → ((ks : Kinds) → F ks → D s.is ks) → Spine (starts s.at & p & px s.is) F
+    pub more-spine : (p : Pieces) (E F : Kinds → Type 0) (s : Step X) → Spine p E → ((ks : Kinds) → F ks → E (onto (px s.is) ks)) → ((ks : Kinds) → F ks → D s.is ks) → Spine (starts s.at & p & px s.is) F
     more-spine p E F s sp here last = record {
       base = sp.base;
       steps = sp.steps ++ s ∷ [];
       written = ap (λ q. starts s.at & q & px s.is) sp.written ∙ sym (spun-more (pb sp.base) sp.steps s);
-      first = λ ks f. subst (A sp.base) (sym (after-more sp.steps s ks)) (sp.first (onto (px s.is) ks) (here ks));
-      good = λ ks f. good-more sp.steps s ks (sp.good (onto (px s.is) ks) (here ks)) (last ks f);
+      first = λ ks f. subst (A sp.base) (sym (after-more sp.steps s ks)) (sp.first (onto (px s.is) ks) (here ks f));
+      good = λ ks f. good-more sp.steps s ks (sp.good (onto (px s.is) ks) (here ks f)) (last ks f);
     }
 
 -- ---- two of them

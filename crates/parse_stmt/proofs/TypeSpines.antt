@@ -201,18 +201,18 @@ module _ (QI : IntersectionType → Type 0) (QP : PostfixType → Type 0) (QR : 
         let f = (told_postfix of.value.0).facts in
         let a = both_pass (not f.end.in_result) (f.is_formed middle && true) h in
         more-spine _ _ _ _ (told_postfix of.value.0).pieces (After middle f.end) (After middle closed) record { at = at; is = question } (spine of.value.0 of.value.1 middle (both_pass (f.is_formed middle) true a.1).0)
-        (λ ks. record { stays = sign-stays Question middle f.end.in_int ks refl refl refl; ends = not-ends f.end (SignKind Question ∷ ks) (not_true f.end.in_result a.0) }) (λ ks e. tt)
+        (λ ks next. record { stays = sign-stays Question middle f.end.in_int ks refl refl refl; ends = not-ends f.end (SignKind Question ∷ ks) (not_true f.end.in_result a.0) }) (λ ks e. tt)
     postfix-layer (layer.Array member at) middle h =
         let f = (told_postfix member.value.0).facts in
         let a = both_pass (not f.end.in_result) (f.is_formed middle && true) h in
         more-spine _ _ _ _ (told_postfix member.value.0).pieces (After middle f.end) (After middle closed) record { at = at; is = brackets } (spine member.value.0 member.value.1 middle (both_pass (f.is_formed middle) true a.1).0)
-        (λ ks. record { stays = sign-stays OpenBracket middle f.end.in_int (SignKind CloseBracket ∷ ks) refl refl refl; ends = not-ends f.end (SignKind OpenBracket ∷ SignKind CloseBracket ∷ ks) (not_true f.end.in_result a.0) }) (λ ks e. tt)
+        (λ ks next. record { stays = sign-stays OpenBracket middle f.end.in_int (SignKind CloseBracket ∷ ks) refl refl refl; ends = not-ends f.end (SignKind OpenBracket ∷ SignKind CloseBracket ∷ ks) (not_true f.end.in_result a.0) }) (λ ks e. tt)
     postfix-layer (layer.FixedArray member n at) middle h =
         let f = (told_postfix member.value.0).facts in
         let a = both_pass (not f.end.in_result && is_length n) (f.is_formed middle && true) h in
         let b = both_pass (not f.end.in_result) (is_length n) a.0 in
         more-spine _ _ _ _ (told_postfix member.value.0).pieces (After middle f.end) (After middle closed) record { at = at; is = fixed n b.1 } (spine member.value.0 member.value.1 middle (both_pass (f.is_formed middle) true a.1).0)
-        (λ ks. record { stays = sign-stays OpenBracket middle f.end.in_int (IntKind n ∷ SignKind CloseBracket ∷ ks) refl refl refl; ends = not-ends f.end (SignKind OpenBracket ∷ IntKind n ∷ SignKind CloseBracket ∷ ks) (not_true f.end.in_result b.0) }) (λ ks e. tt)
+        (λ ks next. record { stays = sign-stays OpenBracket middle f.end.in_int (IntKind n ∷ SignKind CloseBracket ∷ ks) refl refl refl; ends = not-ends f.end (SignKind OpenBracket ∷ IntKind n ∷ SignKind CloseBracket ∷ ks) (not_true f.end.in_result b.0) }) (λ ks e. tt)
 
     pub postfix-step : (x : PostfixType-F IntersectionType PostfixType PrimaryType TypeTree FieldTree ParamType ParamTypes) (y : PostfixType-F AnIntersection APostfix APrimary AType AField AParam SomeParams) → firsts_of_postfix_type y ≡ x → IsPostfix C (told_postfix (roll-PostfixType x))
     postfix-step x y is =
@@ -229,7 +229,7 @@ module _ (QI : IntersectionType → Type 0) (QP : PostfixType → Type 0) (QR : 
         let a = both_pass (not f.end.in_result) (f.is_formed middle && (g.is_formed middle && true)) h in
         let b = both_pass (f.is_formed middle) (g.is_formed middle && true) a.1 in
         more-spine _ _ _ _ (told_intersection left.value.0).pieces (AfterPostfix middle f.end) (AfterPostfix middle g.end) record { at = at; is = (right.value.0, (both_pass (g.is_formed middle) true b.1).0, claim right.value.0 right.value.1) } (spine left.value.0 left.value.1 middle b.0)
-        (λ ks.
+        (λ ks next.
         let zs = onto (told_postfix right.value.0).pieces ks in
         record { after = record { stays = sign-stays Ampersand middle f.end.in_int zs refl refl refl; ends = not-ends f.end (SignKind Ampersand ∷ zs) (not_true f.end.in_result a.0) }; no_suffix = refl }) (λ ks e. e)
 
@@ -248,7 +248,7 @@ module _ (QI : IntersectionType → Type 0) (QP : PostfixType → Type 0) (QR : 
         let a = both_pass (not f.end.in_result) (f.is_formed middle && (g.is_formed middle && true)) h in
         let b = both_pass (f.is_formed middle) (g.is_formed middle && true) a.1 in
         more-spine _ _ _ _ (told_type left.value.0).pieces (AfterIntersection middle f.end) (AfterIntersection middle g.end) record { at = at; is = (right.value.0, (both_pass (g.is_formed middle) true b.1).0, claim right.value.0 right.value.1) } (spine left.value.0 left.value.1 middle b.0)
-        (λ ks.
+        (λ ks next.
         let zs = onto (told_intersection right.value.0).pieces ks in
         record { after = record { after = record { stays = sign-stays Bar middle f.end.in_int zs refl refl refl; ends = not-ends f.end (SignKind Bar ∷ zs) (not_true f.end.in_result a.0) }; no_suffix = refl }; no_ampersand = refl }) (λ ks e. e)
 
