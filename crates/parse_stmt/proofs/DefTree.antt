@@ -41,7 +41,7 @@ use Rattle.parse_stmt.proofs.ChosenLaw.{all-claims, block-one, stmts-same}
 use Rattle.parse_stmt.proofs.DefLaw.{Behind as BehindResult, body-behind, brace-behind, import-law, rest-no-worker}
 use Rattle.parse_stmt.proofs.Known.{Known}
 use Rattle.parse_stmt.proofs.OneBelow.{OneBelow}
-use Rattle.parse_stmt.proofs.PartTree.{expr-same, lists-same, type-same}
+use Rattle.parse_stmt.proofs.PartTree.{expr-same, type-same}
 use Rattle.parse_stmt.proofs.StmtLaw.{block-law}
 use Rattle.parse_stmt.proofs.StmtReadings.{some-members}
 use Rattle.parse_stmt.proofs.StmtTree.{chosen-back, chosen-front}
@@ -86,77 +86,7 @@ import-same i j ks ls e =
     let s = second-same i.second j.second i.more.items j.more.items i.prefix j.prefix ks ls (ap behind_first (ap behind_first e)) in
     ((tt, (refl, ((tt, first-token (WordKind i.first.name) (WordKind j.first.name) _ _ (ap behind_first e)), s.0))), s.1)
 
--- ---- parameters
-
--- no type begins with `)`
-no-type-paren : (ks : Kinds) → type_at false (SignKind CloseParen ∷ ks) ≡ None
-unfolding type_at longest_type union intersection type_postfix
-no-type-paren ks = refl
-
--- a parameter, or the one that takes the rest, and that it is well formed
-data Item : Type 0 where
-  plain : (p : Param) → param_is_formed p ≡ true → Item
-  rest : (p : Param) → param_is_formed p ≡ true → Item
-
-abbrev item_pieces : Item → Pieces
-item_pieces (plain p f) = param_pieces p
-item_pieces (rest p f) = rest_param_pieces p
-
-last_item : (m : Option Param) → last_is_formed m ≡ true → List Item
-last_item None f = []
-last_item (Some p) f = rest p f ∷ []
-
-items : (ps : List Param) (m : Option Param) → list_all param_is_formed ps ≡ true → last_is_formed m ≡ true → List Item
-items [] m f g = last_item m g
-items (p ∷ ps) m f g = let b = both_pass (param_is_formed p) (list_all param_is_formed ps) f in plain p b.0 ∷ items ps m b.1 g
-
-items-are : (ps : List Param) (m : Option Param) (f : list_all param_is_formed ps ≡ true) (g : last_is_formed m ≡ true) → map item_pieces (items ps m f g) ≡ with_last rest_param_pieces (map param_pieces ps) m
-unfolding items last_item
-items-are [] None f g = refl
-items-are [] (Some p) f g = refl
-items-are (p ∷ ps) None f g = ap (λ xs. param_pieces p ∷ xs) (items-are ps None (both_pass (param_is_formed p) (list_all param_is_formed ps) f).1 g)
-items-are (p ∷ ps) (Some q) f g = ap (λ xs. param_pieces p ∷ xs) (items-are ps (Some q) (both_pass (param_is_formed p) (list_all param_is_formed ps) f).1 g)
-
 module _ (known : Known) (one : OneBelow) where
-  item-same : (x y : Item) (ks ls : Kinds) → Unit {0} → Unit {0} → onto (item_pieces x) ks ≡ onto (item_pieces y) ls → Same (item_pieces x) (item_pieces y) ks ls
-  item-same (plain p f) (plain q g) ks ls h k e =
-      let s = type-same known one p.ty.value q.ty.value (WordKind p.name.name ∷ ks) (WordKind q.name.name ∷ ls) f g (word-closes p.name.name ks) (word-closes q.name.name ls) e in
-      let behind : WordKind p.name.name ∷ ks ≡ WordKind q.name.name ∷ ls = s.1 in
-      ((tt, (s.0, (tt, cc behind))), cc behind)
-  item-same (plain p f) (rest q g) ks ls h k e =
-      let s = type-same known one p.ty.value q.ty.value (WordKind p.name.name ∷ ks) (SignKind Ellipsis ∷ WordKind q.name.name ∷ ls) f g (word-closes p.name.name ks) (ellipsis-closes (WordKind q.name.name ∷ ls)) e in
-      let behind : WordKind p.name.name ∷ ks ≡ SignKind Ellipsis ∷ WordKind q.name.name ∷ ls = s.1 in
-      cc behind
-  item-same (rest p f) (plain q g) ks ls h k e =
-      let s = type-same known one p.ty.value q.ty.value (SignKind Ellipsis ∷ WordKind p.name.name ∷ ks) (WordKind q.name.name ∷ ls) f g (ellipsis-closes (WordKind p.name.name ∷ ks)) (word-closes q.name.name ls) e in
-      let behind : SignKind Ellipsis ∷ WordKind p.name.name ∷ ks ≡ WordKind q.name.name ∷ ls = s.1 in
-      cc behind
-  item-same (rest p f) (rest q g) ks ls h k e =
-      let s = type-same known one p.ty.value q.ty.value (SignKind Ellipsis ∷ WordKind p.name.name ∷ ks) (SignKind Ellipsis ∷ WordKind q.name.name ∷ ls) f g (ellipsis-closes (WordKind p.name.name ∷ ks)) (ellipsis-closes (WordKind q.name.name ∷ ls)) e in
-      let behind : SignKind Ellipsis ∷ WordKind p.name.name ∷ ks ≡ SignKind Ellipsis ∷ WordKind q.name.name ∷ ls = s.1 in
-      ((tt, ((s.0, refl), (tt, cc behind))), cc behind)
-
-  item-no-paren : (x : Item) (ks zs : Kinds) → SignKind CloseParen ∷ zs ≡ onto (item_pieces x) ks → ⊥
-  item-no-paren (plain p f) ks zs e =
-      let bad : None ≡ Some (WordKind p.name.name ∷ ks) = sym (no-type-paren zs) ∙ ap (type_at false) e ∙ known.type_before p.ty.value (WordKind p.name.name ∷ ks) f (word-closes p.name.name ks) in cc bad
-  item-no-paren (rest p f) ks zs e =
-      let bad : None ≡ Some (SignKind Ellipsis ∷ WordKind p.name.name ∷ ks) = sym (no-type-paren zs) ∙ ap (type_at false) e ∙ known.type_before p.ty.value (SignKind Ellipsis ∷ WordKind p.name.name ∷ ks) f (ellipsis-closes (WordKind p.name.name ∷ ks)) in cc bad
-
-  list-same : (xs ys : List Item) (ks ls : Kinds) → onto (separated Comma (map item_pieces xs)) (SignKind CloseParen ∷ ks) ≡ onto (separated Comma (map item_pieces ys)) (SignKind CloseParen ∷ ls) → Same (separated Comma (map item_pieces xs)) (separated Comma (map item_pieces ys)) (SignKind CloseParen ∷ ks) (SignKind CloseParen ∷ ls)
-  list-same = lists-same item_pieces item_pieces Comma CloseParen (λ ks. Unit {0}) (λ ks ls q. cc q) (λ ks. tt) (λ ks. tt) item-same (λ x ks zs h. item-no-paren x ks zs) (λ x ks zs h. item-no-paren x ks zs)
-
-  pub params-same : (p q : Params) (ks ls : Kinds) → params_are_formed p ≡ true → params_are_formed q ≡ true → onto (params_pieces p) ks ≡ onto (params_pieces q) ls → Same (params_pieces p) (params_pieces q) ks ls
-  params-same p q ks ls f g e =
-      let a = both_pass (list_all param_is_formed p.params.items) (last_is_formed p.rest) f in
-      let b = both_pass (list_all param_is_formed q.params.items) (last_is_formed q.rest) g in
-      let xs = items p.params.items p.rest a.0 a.1 in
-      let ys = items q.params.items q.rest b.0 b.1 in
-      let i = items-are p.params.items p.rest a.0 a.1 in
-      let j = items-are q.params.items q.rest b.0 b.1 in
-      let s = list-same xs ys ks ls (ap (λ l. onto (separated Comma l) (SignKind CloseParen ∷ ks)) i ∙ ap behind_first e ∙ sym (ap (λ l. onto (separated Comma l) (SignKind CloseParen ∷ ls)) j)) in
-      let behind : SignKind CloseParen ∷ ks ≡ SignKind CloseParen ∷ ls = s.1 in
-      ((refl, (subst (λ l. Alike (separated Comma l) (separated Comma (with_last rest_param_pieces (map param_pieces q.params.items) q.rest))) i (subst (λ l. Alike (separated Comma (map item_pieces xs)) (separated Comma l)) j s.0), refl)), cc behind)
-
   -- ---- results
 
   abbrev result_pieces : Option (Box TypeTree) → Pieces

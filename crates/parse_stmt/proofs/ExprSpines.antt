@@ -91,11 +91,11 @@ is_field (args xs) = false
 is_field (method w xs) = false
 
 -- well-formed arguments, one by one
-with-forms : (middle : Bool) (es : List Expr) → list_all (part_is_formed middle) (each_inside (map (of_expr facts) es)) ≡ true → List AnArgument
+pub with-forms : (middle : Bool) (es : List Expr) → list_all (part_is_formed middle) (each_inside (map (of_expr facts) es)) ≡ true → List AnArgument
 with-forms middle [] h = []
 with-forms middle (e ∷ es) h = let b = both_pass ((told_expr e).facts.is_formed false) (list_all (part_is_formed middle) (each_inside (map (of_expr facts) es))) h in (e, b.0) ∷ with-forms middle es b.1
 
-forms-are : (middle : Bool) (es : List Expr) (h : list_all (part_is_formed middle) (each_inside (map (of_expr facts) es)) ≡ true) → map argument_pieces (with-forms middle es h) ≡ map (of_expr writing) es
+pub forms-are : (middle : Bool) (es : List Expr) (h : list_all (part_is_formed middle) (each_inside (map (of_expr facts) es)) ≡ true) → map argument_pieces (with-forms middle es h) ≡ map (of_expr writing) es
 unfolding with-forms
 forms-are middle [] h = refl
 forms-are middle (e ∷ es) h = ap (λ ps. (told_expr e).pieces ∷ ps) (forms-are middle es (both_pass ((told_expr e).facts.is_formed false) (list_all (part_is_formed middle) (each_inside (map (of_expr facts) es))) h).1)

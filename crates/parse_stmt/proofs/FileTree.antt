@@ -38,7 +38,8 @@ use Rattle.parse_stmt.specs.Reaches.{begins_function, const_type}
 use Rattle.parse_stmt.specs.Starts.{const_def_behind, function_def_behind, type_def_behind, variable_def_behind}
 use Rattle.parse_stmt.proofs.Alike.{Alike, Same, behind_first, first-token, placed, same-kinds}
 use Rattle.parse_stmt.proofs.DefLaw.{body-behind, const-type-law, no-function, no-key, semicolon-closes}
-use Rattle.parse_stmt.proofs.DefTree.{body-same, import-same, params-same, result-same}
+use Rattle.parse_stmt.proofs.DefTree.{body-same, import-same, result-same}
+use Rattle.parse_stmt.proofs.ParamsTree.{params-same}
 use Rattle.parse_stmt.proofs.FileLaw.{NoImport, no-def-at-end, no-import-at-end, no-import-behind}
 use Rattle.parse_stmt.proofs.Known.{Known, leads}
 use Rattle.parse_stmt.proofs.OneBelow.{OneBelow}
@@ -151,7 +152,7 @@ module _ (known : Known) (one : OneBelow) where
       let xs = onto (const_pieces d.value) (SignKind Semicolon ∷ ks) in
       let ys = onto (const_pieces b.value) (SignKind Semicolon ∷ ls) in
       let both : Some (WordKind d.name.name ∷ SignKind Equal ∷ xs) ≡ Some (WordKind b.name.name ∷ SignKind Equal ∷ ys) =
-          sym (const-type-law known d.ty d.name xs f) ∙ ap const_type (ap behind_first e) ∙ const-type-law known b.ty b.name ys g in
+      sym (const-type-law known d.ty d.name xs f) ∙ ap const_type (ap behind_first e) ∙ const-type-law known b.ty b.name ys g in
       let behind : WordKind d.name.name ∷ SignKind Equal ∷ xs ≡ WordKind b.name.name ∷ SignKind Equal ∷ ys = cc both in
       let v = const-same d.value b.value (SignKind Semicolon ∷ ks) (SignKind Semicolon ∷ ls) (ap behind_first (ap behind_first behind)) in
       let rest : SignKind Semicolon ∷ ks ≡ SignKind Semicolon ∷ ls = v.1 in
@@ -181,7 +182,7 @@ module _ (known : Known) (one : OneBelow) where
       let xs = onto (if_boxed (λ t. returning (type_pieces t)) d.result) (onto (body_pieces d.body) ks) in
       let ys = onto (if_boxed (λ t. returning (type_pieces t)) b.result) (onto (body_pieces b.body) ls) in
       let i = flag-same IsolatedKey (λ zs. refl) d.isolated b.isolated (KeywordKind FunctionKey ∷ WordKind d.name.name ∷ onto (params_pieces d.params) xs) (KeywordKind FunctionKey ∷ WordKind b.name.name ∷ onto (params_pieces b.params) ys) refl refl e in
-      let p = params-same known one d.params b.params xs ys a2.0 j2.0 (ap behind_first (ap behind_first i.1)) in
+      let p = params-same d.params b.params xs ys a2.0 j2.0 (ap behind_first (ap behind_first i.1)) in
       let r = result-same known one d.result b.result (onto (body_pieces d.body) ks) (onto (body_pieces b.body) ls) a2.1 j2.1 (body-behind d.body ks) (body-behind b.body ls) p.1 in
       let s = body-same known one d.body b.body ks ls a.1 j.1 c h r.1 in
       ((i.0, (refl, ((tt, first-token (WordKind d.name.name) (WordKind b.name.name) _ _ (ap behind_first i.1)), (p.0, (r.0, s.0))))), s.1)

@@ -82,9 +82,9 @@ module _ {B X C Y : Type 0} (pb : B → Pieces) (px : X → Pieces) (pc : C → 
   spun-alike p q (s ∷ ss) [] a all = absurd all
 
   module _ (A : B → Kinds → Type 0) (D : X → Kinds → Type 0) (A2 : C → Kinds → Type 0) (D2 : Y → Kinds → Type 0) (Stop : Kinds → Type 0)
-    (no-x : (x : X) (zs : Kinds) → Stop (onto (px x) zs) → ⊥) (no-y : (y : Y) (zs : Kinds) → Stop (onto (py y) zs) → ⊥)
-    (bases : (b : B) (c : C) (zs ws : Kinds) → A b zs → A2 c ws → onto (pb b) zs ≡ onto (pc c) ws → Same (pb b) (pc c) zs ws)
-    (operands : (x : X) (y : Y) (zs ws : Kinds) → D x zs → D2 y ws → onto (px x) zs ≡ onto (py y) ws → Same (px x) (py y) zs ws) where
+      (no-x : (x : X) (zs : Kinds) → Stop (onto (px x) zs) → ⊥) (no-y : (y : Y) (zs : Kinds) → Stop (onto (py y) zs) → ⊥)
+      (bases : (b : B) (c : C) (zs ws : Kinds) → A b zs → A2 c ws → onto (pb b) zs ≡ onto (pc c) ws → Same (pb b) (pc c) zs ws)
+      (operands : (x : X) (y : Y) (zs ws : Kinds) → D x zs → D2 y ws → onto (px x) zs ≡ onto (py y) ws → Same (px x) (py y) zs ws) where
     steps-same : (ss : List (Step X)) (rs : List (Step Y)) (ks ls : Kinds) → AllGood pb px A D ss ks → AllGood pc py A2 D2 rs ls → Stop ks → Stop ls → after pb px ss ks ≡ after pc py rs ls → AllAlike ss rs × (ks ≡ ls)
     steps-same [] [] ks ls g h k l e = (tt, e)
     steps-same [] (r ∷ rs) ks ls g h k l e = absurd (no-y r.is (after pc py rs ls) (subst Stop e k))
@@ -97,7 +97,7 @@ module _ {B X C Y : Type 0} (pb : B → Pieces) (px : X → Pieces) (pc : C → 
     pub spines-same : (p q : Pieces) (E F : Kinds → Type 0) → Spine pb px A D p E → Spine pc py A2 D2 q F → (ks ls : Kinds) → E ks → F ls → Stop ks → Stop ls → onto p ks ≡ onto q ls → Same p q ks ls
     spines-same p q E F sp sq ks ls x y k l e =
         let here : onto (pb sp.base) (after pb px sp.steps ks) ≡ onto (pc sq.base) (after pc py sq.steps ls) =
-            sym (ap (λ r. onto r ks) sp.written ∙ onto-spun pb px (pb sp.base) sp.steps ks) ∙ e ∙ ap (λ r. onto r ls) sq.written ∙ onto-spun pc py (pc sq.base) sq.steps ls in
+        sym (ap (λ r. onto r ks) sp.written ∙ onto-spun pb px (pb sp.base) sp.steps ks) ∙ e ∙ ap (λ r. onto r ls) sq.written ∙ onto-spun pc py (pc sq.base) sq.steps ls in
         let b = bases sp.base sq.base (after pb px sp.steps ks) (after pc py sq.steps ls) (sp.first ks x) (sq.first ls y) here in
         let s = steps-same sp.steps sq.steps ks ls (sp.good ks x) (sq.good ls y) k l b.1 in
         (subst (λ r. Alike r q) (sym sp.written) (subst (λ r. Alike (spun pb px (pb sp.base) sp.steps) r) (sym sq.written) (spun-alike (pb sp.base) (pc sq.base) sp.steps sq.steps b.0 s.0)), s.1)

@@ -104,11 +104,11 @@ tuple-listed =
 
 -- fields, and behind them what begins no field
 fields-same : (middle : Bool) (xs : List AField) (us : List FieldTree) (p q : List (Part TypeFacts)) (ks ls : Kinds)
-  → ((u : FieldTree) (zs : Kinds) → (told_field u).facts.is_formed false ≡ true → list_all (part_is_formed middle) p ≡ true → ks ≡ onto (told_field u).pieces zs → ⊥)
-  → ((x : AField) (zs : Kinds) → (told_field x.0).facts.is_formed false ≡ true → list_all (part_is_formed middle) q ≡ true → onto (told_field x.0).pieces zs ≡ ls → ⊥)
-  → list_all (part_is_formed middle) (each_inside (map (of_field_tree facts) (map (λ e. e.0) xs)) ++ p) ≡ true → list_all (part_is_formed middle) (each_inside (map (of_field_tree facts) us) ++ q) ≡ true
-  → onto (joined (map field_pieces (map (λ e. e.0) xs))) ks ≡ onto (joined (map field_pieces us)) ls
-  → Same (joined (map field_pieces (map (λ e. e.0) xs))) (joined (map field_pieces us)) ks ls × ((list_all (part_is_formed middle) p ≡ true) × (list_all (part_is_formed middle) q ≡ true))
+    → ((u : FieldTree) (zs : Kinds) → (told_field u).facts.is_formed false ≡ true → list_all (part_is_formed middle) p ≡ true → ks ≡ onto (told_field u).pieces zs → ⊥)
+    → ((x : AField) (zs : Kinds) → (told_field x.0).facts.is_formed false ≡ true → list_all (part_is_formed middle) q ≡ true → onto (told_field x.0).pieces zs ≡ ls → ⊥)
+    → list_all (part_is_formed middle) (each_inside (map (of_field_tree facts) (map (λ e. e.0) xs)) ++ p) ≡ true → list_all (part_is_formed middle) (each_inside (map (of_field_tree facts) us) ++ q) ≡ true
+    → onto (joined (map field_pieces (map (λ e. e.0) xs))) ks ≡ onto (joined (map field_pieces us)) ls
+    → Same (joined (map field_pieces (map (λ e. e.0) xs))) (joined (map field_pieces us)) ks ls × ((list_all (part_is_formed middle) p ≡ true) × (list_all (part_is_formed middle) q ≡ true))
 fields-same middle [] [] p q ks ls no-u no-x f g e = ((tt, e), (f, g))
 fields-same middle [] (u ∷ us) p q ks ls no-u no-x f g e =
     let b = both_pass ((told_field u).facts.is_formed false) (list_all (part_is_formed middle) (each_inside (map (of_field_tree facts) us) ++ q)) g in
@@ -237,7 +237,7 @@ primary-tag (layer.Function isolated params result at) middle ks f h = function-
 
 -- ---- names
 
-type-name-same : (middle : Bool) (n m : QualifiedName) (ks ls : Kinds) → name_fits middle n.prefix ≡ true → name_fits middle m.prefix ≡ true → Stays middle false ks → Stays middle false ls → onto (name_pieces n) ks ≡ onto (name_pieces m) ls → Same (name_pieces n) (name_pieces m) ks ls
+pub type-name-same : (middle : Bool) (n m : QualifiedName) (ks ls : Kinds) → name_fits middle n.prefix ≡ true → name_fits middle m.prefix ≡ true → Stays middle false ks → Stays middle false ls → onto (name_pieces n) ks ≡ onto (name_pieces m) ls → Same (name_pieces n) (name_pieces m) ks ls
 type-name-same false n m ks ls f g h k e = name-same n m ks ls (h.colon refl) (k.colon refl) e
 type-name-same true n m ks ls f g h k e = by n.prefix m.prefix f g e
   where
@@ -276,7 +276,7 @@ no-less-here ks zs h e = let bad : None ≡ Some zs = sym h ∙ ap (take_sign Le
 
 -- ---- one layer
 
-after-result : (middle : Bool) (end : TypeEnd) (ks : Kinds) → Stays middle end.in_int ks → Ends ks → AfterType middle end ks
+pub after-result : (middle : Bool) (end : TypeEnd) (ks : Kinds) → Stays middle end.in_int ks → Ends ks → AfterType middle end ks
 after-result middle end ks s e = record {
   after = record { after = record { after = record { stays = s; ends = λ h. e }; no_suffix = e.no_suffix }; no_ampersand = e.no_ampersand };
   no_bar = e.no_bar;
@@ -388,7 +388,7 @@ primary-step x y is =
 
 -- ---- the whole
 
-type-spine : (t : TypeTree) → QT t
+pub type-spine : (t : TypeTree) → QT t
 type-spine =
     ind-TypeTree QI QP OnePrimary QT QF QA QS (intersection-step QI QP OnePrimary QT QF QA QS OnePostfix (λ t q. q) (λ t q. one-postfix t q))
     (postfix-step QI QP OnePrimary QT QF QA QS OnePrimary (λ t q. q) (λ t q. q)) primary-step (type-step QI QP OnePrimary QT QF QA QS OneIntersection (λ t q. q) (λ t q. one-intersection t q)) field-step param-step params-step

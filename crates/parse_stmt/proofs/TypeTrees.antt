@@ -166,7 +166,7 @@ field-no-rest y middle u ks zs f g w e =
 pub field-step : (x : LayerOfField) (y : FieldTree-F ((t : IntersectionType) × QI t) ((t : PostfixType) × QP t) ((t : PrimaryType) × OnePrimary t) AType AField AParam ((t : ParamTypes) × QS t)) → firsts_of_field y ≡ x → QF (roll-FieldTree x)
 field-step x y is = (
   λ u. subst (λ v. Pair Anything (told_field (roll-FieldTree x)) (told_field v)) (roll-out-FieldTree u)
-  (subst (λ a. Pair Anything a (told_field (roll-FieldTree (out-FieldTree u)))) (sym (told-field x)) (subst (λ b. Pair Anything (layer_field x) b) (sym (told-field (out-FieldTree u))) (subst (λ z. Pair Anything (layer_field z) (layer_field (out-FieldTree u))) is (field-pair y (out-FieldTree u))))),
+      (subst (λ a. Pair Anything a (told_field (roll-FieldTree (out-FieldTree u)))) (sym (told-field x)) (subst (λ b. Pair Anything (layer_field x) b) (sym (told-field (out-FieldTree u))) (subst (λ z. Pair Anything (layer_field z) (layer_field (out-FieldTree u))) is (field-pair y (out-FieldTree u))))),
   subst (NoRest (λ ks. Unit {0})) (sym (told-field x)) (subst (λ z. NoRest (λ ks. Unit {0}) (layer_field z)) is (field-no-rest y)),
 )
 
@@ -241,7 +241,7 @@ param-no-rest y middle u ks zs f g w e =
 pub param-step : (x : LayerOfParam) (y : KnownParam) → firsts_of_param y ≡ x → QA (roll-ParamType x)
 param-step x y is = (
   λ u. subst (λ v. Pair AtItemEnd (told_param (roll-ParamType x)) (told_param v)) (roll-out-ParamType u)
-  (subst (λ a. Pair AtItemEnd a (told_param (roll-ParamType (out-ParamType u)))) (sym (told-param x)) (subst (λ b. Pair AtItemEnd (layer_param x) b) (sym (told-param (out-ParamType u))) (subst (λ z. Pair AtItemEnd (layer_param z) (layer_param (out-ParamType u))) is (param-pair y (out-ParamType u))))),
+      (subst (λ a. Pair AtItemEnd a (told_param (roll-ParamType (out-ParamType u)))) (sym (told-param x)) (subst (λ b. Pair AtItemEnd (layer_param x) b) (sym (told-param (out-ParamType u))) (subst (λ z. Pair AtItemEnd (layer_param z) (layer_param (out-ParamType u))) is (param-pair y (out-ParamType u))))),
   subst (NoRest ItemEnds) (sym (told-param x)) (subst (λ z. NoRest ItemEnds (layer_param z)) is (param-no-rest y)),
 )
 
@@ -335,10 +335,10 @@ module _ {T : Type 0} (told : T → Told) (Q : T → Type 0) where
 
   -- the whole lists, up to the closing sign
   module _ (c : Sign) (differ : (ks ls : Kinds) → SignKind c ∷ ks ≡ SignKind Comma ∷ ls → ⊥) (at-end : (ks : Kinds) → ItemEnds (SignKind c ∷ ks)) (none : (inner : Bool → Kinds → Option Kinds) (m : Bool) (zs : Kinds) → sign_type inner m c (SignKind c ∷ zs) ≡ None)
-    (plains : (x : T) → Q x → (y : T) (ks ls : Kinds) → (told x).facts.is_formed false ≡ true → (told y).facts.is_formed false ≡ true → ItemEnds ks → ItemEnds ls → onto (told x).pieces ks ≡ onto (told y).pieces ls → Same (told x).pieces (told y).pieces ks ls)
-    (plain-last : (x : T) → Q x → (u : TypeTree) (ks zs : Kinds) → (told x).facts.is_formed false ≡ true → type_is_formed u false ≡ true → ItemEnds ks → onto (told x).pieces ks ≡ onto (type_pieces u) (SignKind Ellipsis ∷ zs) → ⊥)
-    (last-plain : (t : TypeTree) → QT t → (y : T) (ks zs : Kinds) → type_is_formed t false ≡ true → (told y).facts.is_formed false ≡ true → ItemEnds ks → onto (type_pieces t) (SignKind Ellipsis ∷ zs) ≡ onto (told y).pieces ks → ⊥)
-    (no-plain : (y : T) (ks zs : Kinds) → (told y).facts.is_formed false ≡ true → ItemEnds ks → SignKind c ∷ zs ≡ onto (told y).pieces ks → ⊥) where
+      (plains : (x : T) → Q x → (y : T) (ks ls : Kinds) → (told x).facts.is_formed false ≡ true → (told y).facts.is_formed false ≡ true → ItemEnds ks → ItemEnds ls → onto (told x).pieces ks ≡ onto (told y).pieces ls → Same (told x).pieces (told y).pieces ks ls)
+      (plain-last : (x : T) → Q x → (u : TypeTree) (ks zs : Kinds) → (told x).facts.is_formed false ≡ true → type_is_formed u false ≡ true → ItemEnds ks → onto (told x).pieces ks ≡ onto (type_pieces u) (SignKind Ellipsis ∷ zs) → ⊥)
+      (last-plain : (t : TypeTree) → QT t → (y : T) (ks zs : Kinds) → type_is_formed t false ≡ true → (told y).facts.is_formed false ≡ true → ItemEnds ks → onto (type_pieces t) (SignKind Ellipsis ∷ zs) ≡ onto (told y).pieces ks → ⊥)
+      (no-plain : (y : T) (ks zs : Kinds) → (told y).facts.is_formed false ≡ true → ItemEnds ks → SignKind c ∷ zs ≡ onto (told y).pieces ks → ⊥) where
     item-same : (x : Left) (y : Right) (ks ls : Kinds) → ItemEnds ks → ItemEnds ls → onto (left_pieces x) ks ≡ onto (right_pieces y) ls → Same (left_pieces x) (right_pieces y) ks ls
     item-same (plain x) (plain y) ks ls h k e = plains x.0 x.2 y.0 ks ls x.1 y.1 h k e
     item-same (plain x) (last u) ks ls h k e = absurd (plain-last x.0 x.2 u.0 ks ls x.1 u.1 h e)
