@@ -1,5 +1,5 @@
 -- Trees that are written out alike: the same forms with the same tokens, wherever their places are.
-use Rattle.std.proofs.Common.{◌≡◌, ℕ, List, [], ◌∷◌, ◌++◌, refl, sym, ap, ◌∙◌, subst}
+use Rattle.std.proofs.Common.{◌≡◌, ℕ, List, [], ◌∷◌, refl, sym, ap, ◌∙◌, subst}
 use Rattle.std.proofs.lemmas.List.{append_cancel_right}
 use Rattle.bal_base.specs.declared.token.Token.{Token}
 use Rattle.bal_base.specs.declared.token.TokenKind.{TokenKind}

@@ -1,15 +1,11 @@
 -- Two chosen statements of the same tokens are alike: each form of a statement, and all by induction on the first.
-use Rattle.std.proofs.Common.{◌≡◌, ℕ, ◌≤◌, Bool, true, false, ◌&&◌, List, [], ◌∷◌, ◌++◌, map, length, All, Option, None, Some, refl, sym, ap, ◌∙◌, subst, arith, inl, inr}
+use Rattle.std.proofs.Common.{◌≡◌, Bool, true, false, ◌&&◌, List, [], ◌∷◌, ◌++◌, map, length, Option, None, Some, refl, sym, ap, ◌∙◌, subst, arith, inl, inr}
 use Rattle.std.specs.Global.{Box}
-use Rattle.std.specs.Prelude.{◌⊎◌}
 use Rattle.std.proofs.lemmas.Bool.{false≢true}
-use Rattle.bal_base.specs.declared.token.TokenKind.TheVariants.{Word as WordKind, Keyword as KeywordKind, Sign as SignKind}
-use Rattle.bal_base.specs.declared.token.Keyword.TheVariants.{If as IfKey, Else as ElseKey, While as WhileKey, In as InKey}
-use Rattle.bal_base.specs.declared.token.Sign.TheVariants.{OpenBrace, CloseBrace, FatArrow, Semicolon, Equal}
-use Rattle.bal_tree.specs.declared.action.Rhs.{Rhs}
+use Rattle.bal_base.specs.declared.token.TokenKind.TheVariants.{Keyword as KeywordKind, Sign as SignKind}
+use Rattle.bal_base.specs.declared.token.Keyword.TheVariants.{If as IfKey, Else as ElseKey, In as InKey}
+use Rattle.bal_base.specs.declared.token.Sign.TheVariants.{OpenBrace, CloseBrace, Semicolon}
 use Rattle.bal_tree.specs.declared.expr.Expr.{Expr}
-use Rattle.bal_tree.specs.declared.name.Word.{Word}
-use Rattle.bal_tree.specs.declared.stmt.LocalType.{LocalType}
 use Rattle.bal_tree.specs.declared.stmt.LocalType.TheVariants.{«Type» as TypeOf, Var}
 use Rattle.bal_tree.specs.declared.stmt.Range.{Range}
 use Rattle.bal_tree.specs.declared.stmt.RangeOp.{RangeOp}
@@ -23,18 +19,18 @@ use Rattle.bal_tree.specs.declared.stmt.IfStmt.{IfStmt, IfStmt-F, roll-IfStmt, m
 use Rattle.bal_tree.specs.ActionRules.{has_members, rhs_is_formed}
 use Rattle.bal_tree.specs.ExprPieces.{expr_pieces}
 use Rattle.bal_tree.specs.ExprRules.{expr_is_formed}
-use Rattle.bal_tree.specs.Pieces.{Pieces, ◌&◌, if_there, joined, sign}
+use Rattle.bal_tree.specs.Pieces.{Pieces, if_there, joined}
 use Rattle.bal_tree.specs.Spells.{onto}
 use Rattle.bal_tree.specs.StmtLayers.{of_else, of_stmt, of_block, of_clause, of_if_stmt}
-use Rattle.bal_tree.specs.StmtPieces.{assign_sign, block_pieces, clause_pieces, else_pieces, ended as ended_pieces, if_pieces, local_pieces, range_pieces, range_sign, stmt_pieces, writing}
+use Rattle.bal_tree.specs.StmtPieces.{assign_sign, block_pieces, clause_pieces, else_pieces, ended as ended_pieces, range_pieces, range_sign, stmt_pieces, writing}
 use Rattle.bal_tree.specs.StmtRules.{are_formed, block_is_formed, clause_is_formed, else_is_formed, forming, if_is_formed, local_type_is_formed, range_is_formed, stands_alone, stmt_is_formed, target_is_formed, value_is_formed}
-use Rattle.parse_types.specs.Tokens.{Kinds, take_key, take_sign}
+use Rattle.parse_types.specs.Tokens.{Kinds, take_key}
 use Rattle.parse_types.proofs.Law.{both_pass}
 use Rattle.parse_expr.specs.Reaches.{expr}
-use Rattle.parse_stmt.specs.Chosen.{AreChosen, led_in_block, led_in_stmt, led_in_stmts, listing, together}
+use Rattle.parse_stmt.specs.Chosen.{AreChosen, led_in_stmt, led_in_stmts, listing, together}
 use Rattle.parse_stmt.specs.Reaches.{clause, inside}
 use Rattle.parse_stmt.specs.Starts.{ends_stmts}
-use Rattle.parse_stmt.proofs.Alike.{Alike, Same, behind_first, first-token}
+use Rattle.parse_stmt.proofs.Alike.{Same, behind_first, first-token}
 use Rattle.parse_stmt.proofs.FormTree.{AStmtLayer, Fits, fits, one-code, form, form-known, is_brace, is_led, no-end, one-form}
 use Rattle.parse_stmt.proofs.Known.{Known}
 use Rattle.parse_stmt.proofs.OneBelow.{OneBelow}

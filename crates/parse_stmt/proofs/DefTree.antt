@@ -1,44 +1,35 @@
 -- Two chosen definitions of the same tokens are alike.
-use Rattle.std.proofs.Common.{◌≡◌, ℕ, ◌<◌, ◌≤◌, Bool, true, false, ◌&&◌, List, [], ◌∷◌, ◌++◌, map, length, Option, None, Some, refl, sym, ap, ◌∙◌, subst, arith}
+use Rattle.std.proofs.Common.{◌≡◌, true, ◌&&◌, List, [], ◌∷◌, ◌++◌, map, length, Option, None, Some, refl, sym, ap, ◌∙◌, subst, arith}
 use Rattle.std.specs.Global.{Box}
 use Rattle.std.specs.List.{list_all}
-use Rattle.std.specs.Prelude.{is_some, not, ◌||◌}
+use Rattle.std.specs.Prelude.{not, ◌||◌}
 use Rattle.std.proofs.lemmas.Bool.{false≢true}
 use Rattle.bal_base.specs.declared.token.TokenKind.TheVariants.{Word as WordKind, Keyword as KeywordKind, Sign as SignKind}
-use Rattle.bal_base.specs.declared.token.Keyword.TheVariants.{As, Public as PublicKey, «Type» as TypeKey, Const as ConstKey, Final as FinalKey, Worker as WorkerKey, Function as FunctionKey, Isolated as IsolatedKey, Returns}
-use Rattle.bal_base.specs.declared.token.Sign.TheVariants.{Semicolon, Equal, OpenBrace, CloseBrace, OpenParen, CloseParen, Comma, Ellipsis, FatArrow, Slash, Dot}
+use Rattle.bal_base.specs.declared.token.Keyword.TheVariants.{As, Worker as WorkerKey, Returns}
+use Rattle.bal_base.specs.declared.token.Sign.TheVariants.{Semicolon, CloseBrace, Slash, Dot}
 use Rattle.bal_tree.specs.declared.def.Body.{Body}
 use Rattle.bal_tree.specs.declared.def.Body.TheVariants.{Block as BlockBody, Expr as ExprBody}
 use Rattle.bal_tree.specs.declared.def.Import.{Import}
 use Rattle.bal_tree.specs.declared.def.Worker.{Worker}
 use Rattle.bal_tree.specs.declared.name.Word.{Word}
-use Rattle.bal_tree.specs.declared.params.Param.{Param}
-use Rattle.bal_tree.specs.declared.params.Params.{Params}
 use Rattle.bal_tree.specs.declared.stmt.Stmt.{Stmt}
 use Rattle.bal_tree.specs.declared.types.TypeTree.{TypeTree}
 use Rattle.bal_tree.specs.ActionRules.{has_members}
 use Rattle.bal_tree.specs.DefPieces.{body_pieces, import_pieces, word_after, word_behind, worker_pieces}
 use Rattle.bal_tree.specs.DefRules.{body_is_formed, type_is_formed_if, worker_is_formed}
-use Rattle.bal_tree.specs.ExprPieces.{expr_pieces}
 use Rattle.bal_tree.specs.NamePieces.{word_pieces}
-use Rattle.bal_tree.specs.Pieces.{Pieces, ◌&◌, behind, if_boxed, if_there, joined, separated, sign}
+use Rattle.bal_tree.specs.Pieces.{Pieces, ◌&◌, behind, if_boxed, if_there, joined, sign}
 use Rattle.bal_tree.specs.Spells.{onto}
 use Rattle.bal_tree.specs.StmtPieces.{block_pieces, stmt_pieces}
 use Rattle.bal_tree.specs.StmtRules.{block_is_formed, stmt_is_formed, are_formed}
-use Rattle.bal_tree.specs.TypePieces.{param_pieces, params_pieces, rest_param_pieces, returning, type_pieces, with_last}
-use Rattle.bal_tree.specs.TypeRules.{last_is_formed, param_is_formed, params_are_formed, type_is_formed}
-use Rattle.parse_types.specs.Reaches.{longest_type, union, intersection, postfix as type_postfix}
-use Rattle.parse_types.specs.Tokens.{Kinds, take_key, take_sign}
+use Rattle.bal_tree.specs.TypePieces.{returning, type_pieces}
+use Rattle.parse_types.specs.Tokens.{Kinds, take_key}
 use Rattle.parse_types.proofs.Law.{both_pass}
-use Rattle.parse_types.proofs.ListLaw.{ellipsis-closes}
-use Rattle.parse_types.proofs.PrimaryLaw.{word-closes}
-use Rattle.parse_expr.specs.Reaches.{params, type_at}
-use Rattle.parse_stmt.specs.Chosen.{AreChosen, led_in_block, led_in_body, led_in_stmts, led_in_worker, together}
-use Rattle.parse_stmt.specs.Reaches.{import}
+use Rattle.parse_stmt.specs.Chosen.{AreChosen, led_in_body, led_in_stmts, led_in_worker, together}
 use Rattle.parse_stmt.specs.Starts.{ends_stmts}
-use Rattle.parse_stmt.proofs.Alike.{Alike, Same, behind_first, first-token, same-kinds}
+use Rattle.parse_stmt.proofs.Alike.{Same, behind_first, first-token}
 use Rattle.parse_stmt.proofs.ChosenLaw.{all-claims, block-one, stmts-same}
-use Rattle.parse_stmt.proofs.DefLaw.{Behind as BehindResult, body-behind, brace-behind, import-law, rest-no-worker}
+use Rattle.parse_stmt.proofs.DefLaw.{Behind as BehindResult, brace-behind, rest-no-worker}
 use Rattle.parse_stmt.proofs.Known.{Known}
 use Rattle.parse_stmt.proofs.OneBelow.{OneBelow}
 use Rattle.parse_stmt.proofs.PartTree.{expr-same, type-same}

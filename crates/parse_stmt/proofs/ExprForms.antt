@@ -1,67 +1,46 @@
 -- Two expressions of the same tokens are alike: each form, and all by how many tokens they have.
-use Rattle.std.proofs.Common.{◌≡◌, ℕ, zero, suc, ◌-◌, ◌<◌, ◌≤◌, Bool, true, false, ◌&&◌, List, [], ◌∷◌, ◌++◌, map, length, Option, None, Some, refl, sym, ap, ◌∙◌, subst, eq-eqb, arith}
+use Rattle.std.proofs.Common.{◌≡◌, ℕ, ◌≤◌, Bool, true, false, ◌&&◌, List, [], ◌∷◌, map, length, Option, None, Some, refl, sym, ap, ◌∙◌, subst, eq-eqb, arith}
 use Rattle.std.specs.Global.{Box}
 use Rattle.std.specs.List.{list_all}
-use Rattle.std.specs.Prelude.{◌==◌, is_some, not, if◌then◌else◌}
+use Rattle.std.specs.Prelude.{◌==◌}
 use Rattle.std.proofs.lemmas.Bool.{false≢true}
 use Rattle.bal_base.specs.declared.token.TokenKind.TheVariants.{Word as WordKind, Keyword as KeywordKind, Int as IntKind, Str as StrKind, Sign as SignKind}
-use Rattle.bal_base.specs.declared.token.Keyword.TheVariants.{Int as IntKey, True as TrueKey, False as FalseKey, Error as ErrorKey, Check as CheckKey, CheckPanic as CheckPanicKey, Trap as TrapKey, Function as FunctionKey, Isolated as IsolatedKey, Is}
+use Rattle.bal_base.specs.declared.token.Keyword.TheVariants.{Int as IntKey, True as TrueKey, False as FalseKey, Error as ErrorKey}
 use Rattle.bal_base.specs.declared.token.Sign.{Sign}
-use Rattle.bal_base.specs.declared.token.Sign.TheVariants.{Minus, Not, Less, Greater, OpenParen, CloseParen, OpenBracket, CloseBracket, OpenBrace, CloseBrace, Comma, Colon, Dot, QuestionDot, Question, Equal, FatArrow}
-use Rattle.bal_tree.specs.declared.expr.BinaryOp.{BinaryOp}
-use Rattle.bal_tree.specs.declared.expr.BinaryOp.TheVariants.{Multiply, Divide, Remainder, Add, Subtract, Less as LessOp, LessEqual, Greater as GreaterOp, GreaterEqual, Equal as EqualOp, NotEqual, Same as SameOp, NotSame, And, Or, Elvis}
+use Rattle.bal_base.specs.declared.token.Sign.TheVariants.{OpenParen, CloseParen, OpenBracket, CloseBracket, OpenBrace, CloseBrace, Comma, Colon, Dot, QuestionDot, Equal}
 use Rattle.bal_tree.specs.declared.expr.Call.{Call}
 use Rattle.bal_tree.specs.declared.expr.Call.TheOpen as layer
-use Rattle.bal_tree.specs.declared.expr.Detail.{Detail, Detail-F, roll-Detail, out-Detail, roll-out-Detail}
-use Rattle.bal_tree.specs.declared.expr.Expr.{Expr, Expr-F, roll-Expr, out-Expr, roll-out-Expr}
-use Rattle.bal_tree.specs.declared.expr.Key.{Key, Key-F, roll-Key, out-Key, roll-out-Key}
-use Rattle.bal_tree.specs.declared.expr.Member.{Member, Member-F, roll-Member, out-Member, roll-out-Member}
+use Rattle.bal_tree.specs.declared.expr.Detail.{Detail}
+use Rattle.bal_tree.specs.declared.expr.Expr.{Expr}
+use Rattle.bal_tree.specs.declared.expr.Key.{Key}
+use Rattle.bal_tree.specs.declared.expr.Member.{Member}
 use Rattle.bal_tree.specs.declared.expr.Postfix.{Postfix}
-use Rattle.bal_tree.specs.declared.expr.PrefixOp.{PrefixOp}
-use Rattle.bal_tree.specs.declared.expr.PrefixOp.TheVariants.{Negate, Not as NotOp, Check, CheckPanic}
 use Rattle.bal_tree.specs.declared.expr.Primary.{Primary, Primary-F, roll-Primary, out-Primary, roll-out-Primary}
-use Rattle.bal_tree.specs.declared.level.Level.TheVariants.{Prefix as PrefixLevel}
 use Rattle.bal_tree.specs.declared.name.Literal.TheVariants.{Int as IntLiteral, Str as StrLiteral, True as TrueLiteral, False as FalseLiteral, Nil as NilLiteral}
 use Rattle.bal_tree.specs.declared.name.Word.{Word}
-use Rattle.bal_tree.specs.ExprLayers.{of_detail, of_key, of_member}
-use Rattle.bal_tree.specs.ExprPieces.{as_next, arguments, binary_sign, expr_pieces, prefix_op, type_test, writing}
-use Rattle.bal_tree.specs.ExprRules.{ExprEnd, ExprFacts, expr_facts, facts, part_is_formed}
-use Rattle.bal_tree.specs.Levels.{is_no_looser, rank}
-use Rattle.bal_tree.specs.NamePieces.{word_pieces}
+use Rattle.bal_tree.specs.ExprPieces.{as_next, expr_pieces, writing}
+use Rattle.bal_tree.specs.ExprRules.{ExprFacts, facts, part_is_formed}
 use Rattle.bal_tree.specs.Parts.{each_inside}
 use Rattle.bal_tree.specs.Pieces.{Pieces, ◌&◌, behind, if_boxed, key, separated, sign, starts}
 use Rattle.bal_tree.specs.Spells.{onto}
-use Rattle.bal_tree.specs.TypePieces.{in_angles, type_pieces}
-use Rattle.bal_tree.specs.TypeRules.{type_end, type_is_formed}
-use Rattle.parse_types.specs.Tokens.{Kinds, take_key, take_sign, take_word}
-use Rattle.parse_types.proofs.Follows.{closes-stay}
+use Rattle.parse_types.specs.Tokens.{Kinds, take_sign}
 use Rattle.parse_types.proofs.Law.{both_pass}
 use Rattle.parse_types.proofs.Onto.{onto-longer}
-use Rattle.parse_types.proofs.PrimaryLaw.{greater-closes}
-use Rattle.parse_expr.specs.Ranks.{op_rank, sign_level, take_op}
-use Rattle.parse_expr.specs.Reaches.{inside}
-use Rattle.parse_expr.proofs.ExprRolls.{parts_of_detail, parts_of_key, parts_of_member, parts_of_primary, rolled-detail, rolled-key, rolled-member, rolled-primary}
-use Rattle.parse_expr.proofs.Follows.{Closes, Ends, Quiet, TypeEnds, closes, differs, done, done-below, ends-anywhere}
-use Rattle.parse_expr.proofs.Law.{before}
+use Rattle.parse_expr.proofs.ExprRolls.{parts_of_primary, rolled-primary}
+use Rattle.parse_expr.proofs.Follows.{Closes, Ends, closes}
 use Rattle.parse_expr.proofs.PrimaryLaw.{no-expr-at-bracket, no-expr-at-paren}
-use Rattle.parse_expr.proofs.Shapes.{no_looser, op-sign}
-use Rattle.parse_expr.proofs.WholeLaw.{expr-begins, expr-law}
-use Rattle.parse_stmt.proofs.Alike.{Alike, Same, behind_first, first-token}
-use Rattle.parse_stmt.proofs.ExprSpines.{is_field, AfterExpr, AfterLevel, AfterTight, AnArgument, Suffix, Tail, Told, args, argument_pieces, binary, branches, expr-spine, field, index, layer_expr, method, optional, postfix-spine, rank_of, right_of, suffix_pieces, tail_end, tail_pieces, tail_rank, test, tighter-after, told-expr, told_expr, told_postfix, told_primary}
-use Rattle.parse_stmt.proofs.Spines.{after, onto-spun, spines-same}
-use Rattle.parse_stmt.proofs.TypeForms.{after-result, type-one}
-use Rattle.parse_stmt.proofs.TypeSpines.{closes-after as type-closes-after}
+use Rattle.parse_stmt.proofs.Alike.{Alike, Same, behind_first}
+use Rattle.parse_stmt.proofs.ExprSpines.{Suffix, Told, args, argument_pieces, field, index, method, optional, postfix-spine, suffix_pieces, told_expr, told_postfix, told_primary}
+use Rattle.parse_stmt.proofs.Spines.{spines-same}
 use Rattle.bal_tree.specs.declared.name.ConstValue.TheVariants.{Literal as LiteralValue}
 use Rattle.bal_base.specs.declared.place.Place.{Place}
 use Rattle.bal_tree.specs.declared.name.Prefix.{Prefix}
 use Rattle.bal_tree.specs.declared.name.Prefix.TheVariants.{Word as WordPrefix, Int as IntPrefix}
 use Rattle.bal_tree.specs.declared.name.QualifiedName.{QualifiedName}
-use Rattle.bal_tree.specs.declared.stmt.Target.TheVariants.{Name as NameTarget}
 use Rattle.bal_tree.specs.NamePieces.{name_pieces}
 use Rattle.bal_tree.specs.TypeRules.{name_fits}
 use Rattle.parse_stmt.proofs.ExprSpines.{forms-are, with-forms}
-use Rattle.parse_stmt.proofs.ExprTrees.{AllBelow, OneAt, before-end, closes-after, detail-same, list-same, member-first, member-same, no-cause, no-first, some-same, suffixes-same, tail-closes, tail-same, told_detail, told_member}
-use Rattle.parse_stmt.proofs.LedLaw.{as-expr}
+use Rattle.parse_stmt.proofs.ExprTrees.{AllBelow, before-end, detail-same, list-same, member-first, member-same, no-cause, no-first, some-same, suffixes-same, tail-closes, tail-same, told_detail, told_member}
 use Rattle.parse_stmt.proofs.PartTree.{const-same, name-same, name_at}
 
 -- ---- names

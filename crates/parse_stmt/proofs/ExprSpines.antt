@@ -1,8 +1,8 @@
 -- Expressions that are put together by suffixes and operators, as spines.
-use Rattle.std.proofs.Common.{◌≡◌, ℕ, zero, suc, ◌-◌, ◌<◌, ◌≤◌, Bool, true, false, ◌&&◌, List, [], ◌∷◌, ◌++◌, map, length, Option, None, Some, refl, sym, ap, ◌∙◌, subst, arith, inl, inr}
+use Rattle.std.proofs.Common.{◌≡◌, ℕ, ◌-◌, ◌<◌, ◌≤◌, Bool, true, false, ◌&&◌, List, [], ◌∷◌, map, length, None, Some, refl, sym, ap, ◌∙◌, subst, arith, inl, inr}
 use Rattle.std.specs.List.{list_all}
-use Rattle.std.specs.Prelude.{not, nat_le, nat_lt, if◌then◌else◌}
-use Rattle.std.proofs.lemmas.Bool.{cases_Bool, false≢true, leb-true, leb-false, ltb-true, ltb-false}
+use Rattle.std.specs.Prelude.{not, nat_lt, if◌then◌else◌}
+use Rattle.std.proofs.lemmas.Bool.{cases_Bool, false≢true, ltb-true, ltb-false}
 use Rattle.bal_base.specs.declared.token.TokenKind.TheVariants.{Keyword as KeywordKind, Sign as SignKind}
 use Rattle.bal_base.specs.declared.token.Keyword.TheVariants.{Is}
 use Rattle.bal_base.specs.declared.token.Sign.TheVariants.{OpenParen, OpenBracket, CloseBracket, Dot, QuestionDot, Colon, Question}
@@ -10,12 +10,12 @@ use Rattle.bal_tree.specs.declared.expr.BinaryOp.{BinaryOp}
 use Rattle.bal_tree.specs.declared.expr.BinaryOp.TheVariants.{Multiply, Divide, Remainder, Add, Subtract, Less, LessEqual, Greater, GreaterEqual, Equal, NotEqual, Same as SameOp, NotSame, And, Or, Elvis}
 use Rattle.bal_tree.specs.declared.expr.Call.{Call, Call-F, roll-Call, map-Call}
 use Rattle.bal_tree.specs.declared.expr.Call.TheOpen as layer
-use Rattle.bal_tree.specs.declared.expr.Detail.{Detail, Detail-F, roll-Detail}
+use Rattle.bal_tree.specs.declared.expr.Detail.{Detail}
 use Rattle.bal_tree.specs.declared.expr.Expr.{Expr, Expr-F, roll-Expr, map-Expr, ind-Expr}
-use Rattle.bal_tree.specs.declared.expr.Key.{Key, Key-F, roll-Key}
-use Rattle.bal_tree.specs.declared.expr.Member.{Member, Member-F, roll-Member}
+use Rattle.bal_tree.specs.declared.expr.Key.{Key}
+use Rattle.bal_tree.specs.declared.expr.Member.{Member}
 use Rattle.bal_tree.specs.declared.expr.Postfix.{Postfix, Postfix-F, roll-Postfix, map-Postfix, ind-Postfix}
-use Rattle.bal_tree.specs.declared.expr.Primary.{Primary, Primary-F, roll-Primary}
+use Rattle.bal_tree.specs.declared.expr.Primary.{Primary}
 use Rattle.bal_tree.specs.declared.level.Level.{Level}
 use Rattle.bal_tree.specs.declared.level.Level.TheVariants.{Comparison, Conditional as ConditionalLevel}
 use Rattle.bal_base.specs.declared.place.Place.{Place}
@@ -35,12 +35,12 @@ use Rattle.parse_types.specs.Tokens.{Kinds, take_sign}
 use Rattle.parse_types.proofs.Law.{both_pass, not_true}
 use Rattle.parse_types.proofs.Onto.{onto-longer}
 use Rattle.parse_expr.specs.Operators.{is_chain}
-use Rattle.parse_expr.specs.Ranks.{op_rank, sign_level, take_op}
+use Rattle.parse_expr.specs.Ranks.{op_rank}
 use Rattle.parse_expr.proofs.ExprRolls.{parts_of_call, parts_of_expr, parts_of_postfix, rolled-call, rolled-expr, rolled-postfix}
 use Rattle.parse_expr.proofs.Follows.{Ends, Quiet, Quiet-tighter, differs, done, TypeEnds, is-ends, op-ends, op-quiet, op-type-ends, question-ends}
 use Rattle.parse_expr.proofs.Shapes.{op-sign, sides, tighter, no_looser}
 use Rattle.parse_expr.proofs.WholeLaw.{expr-law}
-use Rattle.parse_stmt.proofs.Spines.{Spine, Step, more-spine, one-spine}
+use Rattle.parse_stmt.proofs.Spines.{Spine, more-spine, one-spine}
 
 pub record Told : Type 0 where
   pub facts : ExprFacts
@@ -158,7 +158,8 @@ right-side And a b h = let s = (sides And a b h).1 in omega arith
 right-side Or a b h = let s = (sides Or a b h).1 in omega arith
 right-side Elvis a b h = (sides Elvis a b h).1
 
--- it is of the level at most, and below it where operators of it stand once; and it is tight where no type may stand before the operator
+-- it is of the level at most, and below it where operators of it stand once; and it is tight where no type may stand
+-- before the operator
 record LeftSide (op : BinaryOp) (a : Level) : Type 0 where
   within : rank a ≤ op_rank op
   once : is_chain (op_rank op) ≡ false → rank a < op_rank op

@@ -2,7 +2,7 @@
 use Rattle.std.proofs.Common.{◌≡◌, ℕ, Bool, true, false, ◌&&◌, List, [], ◌∷◌, ◌++◌, map, Option, None, Some, refl, sym, ap, ◌∙◌, subst, eq-eqb}
 use Rattle.std.specs.Global.{Box}
 use Rattle.std.specs.List.{list_all}
-use Rattle.std.specs.Prelude.{◌==◌, is_some}
+use Rattle.std.specs.Prelude.{◌==◌}
 use Rattle.std.proofs.lemmas.Bool.{false≢true}
 use Rattle.bal_base.specs.declared.token.Token.{Token}
 use Rattle.bal_base.specs.declared.token.TokenKind.TheVariants.{Word as WordKind, Keyword as KeywordKind, Sign as SignKind}
@@ -23,8 +23,8 @@ use Rattle.bal_tree.specs.DefPieces.{body_pieces, def_pieces, file_pieces, impor
 use Rattle.bal_tree.specs.DefRules.{body_is_formed, def_is_formed, function_is_formed, type_is_formed_if}
 use Rattle.bal_tree.specs.ExprPieces.{expr_pieces}
 use Rattle.bal_tree.specs.ExprRules.{expr_is_formed}
-use Rattle.bal_tree.specs.NamePieces.{const_pieces, word_pieces}
-use Rattle.bal_tree.specs.Pieces.{Pieces, ◌&◌, if_boxed, joined, key_if, kinds}
+use Rattle.bal_tree.specs.NamePieces.{const_pieces}
+use Rattle.bal_tree.specs.Pieces.{Pieces, if_boxed, joined, key_if, kinds}
 use Rattle.bal_tree.specs.Reads.{Reads}
 use Rattle.bal_tree.specs.Spells.{onto}
 use Rattle.bal_tree.specs.TypePieces.{params_pieces, returning, type_pieces}

@@ -1,10 +1,10 @@
 -- The form of a statement is told by its tokens, but that an empty block may begin like a mapping.
-use Rattle.std.proofs.Common.{◌≡◌, ℕ, Bool, true, false, ◌&&◌, List, [], ◌∷◌, map, Option, None, Some, refl, sym, ap, ◌∙◌, subst, eq-eqb, inl, inr}
+use Rattle.std.proofs.Common.{◌≡◌, ℕ, Bool, true, false, ◌&&◌, [], ◌∷◌, None, Some, refl, sym, ap, ◌∙◌, subst, eq-eqb, inl, inr}
 use Rattle.std.specs.Prelude.{◌⊎◌, ◌==◌}
 use Rattle.std.proofs.lemmas.Bool.{false≢true}
-use Rattle.bal_base.specs.declared.token.TokenKind.TheVariants.{Word as WordKind, Keyword as KeywordKind, Sign as SignKind}
-use Rattle.bal_base.specs.declared.token.Keyword.TheVariants.{If as IfKey, Else as ElseKey, While as WhileKey, Foreach as ForeachKey, Match as MatchKey, Return as ReturnKey, Panic as PanicKey, Break as BreakKey, Continue as ContinueKey, Final as FinalKey, Var as VarKey, Is as IsKey, Worker as WorkerKey, Public as PublicKey, «Type» as TypeKey, Const as ConstKey, Import as ImportKey}
-use Rattle.bal_base.specs.declared.token.Sign.TheVariants.{OpenBrace, CloseBrace, Underscore, Semicolon, Equal}
+use Rattle.bal_base.specs.declared.token.TokenKind.TheVariants.{Keyword as KeywordKind, Sign as SignKind}
+use Rattle.bal_base.specs.declared.token.Keyword.TheVariants.{If as IfKey, While as WhileKey, Foreach as ForeachKey, Match as MatchKey, Return as ReturnKey, Panic as PanicKey, Break as BreakKey, Continue as ContinueKey, Final as FinalKey, Var as VarKey, Is as IsKey, Worker as WorkerKey}
+use Rattle.bal_base.specs.declared.token.Sign.TheVariants.{OpenBrace, CloseBrace, Underscore, Semicolon}
 use Rattle.bal_tree.specs.declared.action.Rhs.{Rhs}
 use Rattle.bal_tree.specs.declared.action.Rhs.TheVariants.{Expr as ExprRhs, Action as ActionRhs}
 use Rattle.bal_tree.specs.declared.action.Sending.{Sending}
@@ -17,9 +17,8 @@ use Rattle.bal_tree.specs.declared.stmt.Block.{Block}
 use Rattle.bal_tree.specs.declared.stmt.Clause.{Clause}
 use Rattle.bal_tree.specs.declared.stmt.IfStmt.{IfStmt}
 use Rattle.bal_tree.specs.ActionRules.{rhs_is_formed, sending}
-use Rattle.bal_tree.specs.ExprRules.{expr_is_formed}
 use Rattle.bal_tree.specs.Spells.{onto}
-use Rattle.bal_tree.specs.StmtPieces.{assign_sign, ended as ended_pieces, stmt_pieces, writing}
+use Rattle.bal_tree.specs.StmtPieces.{ended as ended_pieces, stmt_pieces, writing}
 use Rattle.bal_tree.specs.StmtRules.{block_is_formed, forming, if_is_formed, local_type_is_formed, stands_alone, stmt_is_formed, target_is_formed}
 use Rattle.parse_types.specs.Tokens.{Kinds}
 use Rattle.parse_types.proofs.Law.{both_pass}
@@ -76,7 +75,8 @@ group Sends = Nothing
 group SendsSync = Nothing
 group Nothing = Nothing
 
--- what tells the form of a statement: its first token, or, where it begins with a type, an expression or an action, the first mark
+-- what tells the form of a statement: its first token, or, where it begins with a type, an expression or an action,
+-- the first mark
 pub data Form : Type 0 where
   by_first : First → Form
   by_mark : Mark → Form

@@ -49,8 +49,7 @@ use Rattle.parse_types.proofs.Follows.{Closes}
 use Rattle.parse_types.proofs.Law.{both_pass, not_true}
 use Rattle.parse_types.proofs.PrimaryLaw.{word-closes}
 use Rattle.parse_expr.specs.Reaches.{expr, type_at}
-use Rattle.parse_stmt.specs.declared.ahead.Mark.{Mark}
-use Rattle.parse_stmt.specs.declared.ahead.Mark.TheVariants.{Declares, Assigns, Sends, SendsSync, Nothing}
+use Rattle.parse_stmt.specs.declared.ahead.Mark.TheVariants.{Nothing}
 use Rattle.parse_stmt.specs.Ahead.{first_mark}
 use Rattle.parse_stmt.specs.Reaches.{begins_simple, begins_with_check}
 use Rattle.parse_stmt.proofs.ActionLaw.{NoColon, action-mark, as_expr, call-formed, call-pieces, mark_by, names-no-brace, simple-begins}

@@ -1,15 +1,13 @@
 -- Two chosen statements of the same tokens are alike, by induction on the first.
-use Rattle.std.proofs.Common.{◌≡◌, ℕ, zero, suc, ◌<◌, ◌≤◌, Bool, true, false, ◌&&◌, List, [], ◌∷◌, ◌++◌, map, length, All, get_or, Option, None, Some, refl, sym, ap, ◌∙◌, subst, arith, inl, inr}
-use Rattle.std.specs.Global.{Box}
-use Rattle.std.specs.Prelude.{is_some, ◌⊎◌}
+use Rattle.std.proofs.Common.{◌≡◌, ℕ, zero, suc, ◌<◌, true, false, List, [], ◌∷◌, ◌++◌, map, length, All, get_or, None, Some, refl, sym, ap, ◌∙◌, subst, arith}
 use Rattle.std.proofs.lemmas.Bool.{false≢true}
-use Rattle.bal_base.specs.declared.token.TokenKind.TheVariants.{Word as WordKind, Keyword as KeywordKind, Sign as SignKind}
-use Rattle.bal_base.specs.declared.token.Keyword.TheVariants.{Else as ElseKey, In as InKey, Worker as WorkerKey}
-use Rattle.bal_base.specs.declared.token.Sign.TheVariants.{OpenBrace, CloseBrace, Semicolon}
+use Rattle.bal_base.specs.declared.token.TokenKind.TheVariants.{Keyword as KeywordKind, Sign as SignKind}
+use Rattle.bal_base.specs.declared.token.Keyword.TheVariants.{Else as ElseKey, Worker as WorkerKey}
+use Rattle.bal_base.specs.declared.token.Sign.TheVariants.{OpenBrace, CloseBrace}
 use Rattle.bal_tree.specs.declared.stmt.LocalType.TheVariants.{«Type» as TypeOf, Var}
 use Rattle.bal_tree.specs.declared.stmt.Else.TheOpen as layer
 use Rattle.bal_tree.specs.declared.stmt.Else.{Else}
-use Rattle.bal_tree.specs.declared.stmt.Stmt.{Stmt, Stmt-F, roll-Stmt, out-Stmt, roll-out-Stmt}
+use Rattle.bal_tree.specs.declared.stmt.Stmt.{Stmt}
 use Rattle.bal_tree.specs.declared.stmt.Block.{Block, Block-F, roll-Block, out-Block, roll-out-Block}
 use Rattle.bal_tree.specs.declared.stmt.Clause.{Clause}
 use Rattle.bal_tree.specs.declared.stmt.IfStmt.{IfStmt}
@@ -20,16 +18,15 @@ use Rattle.bal_tree.specs.StmtRules.{are_formed, block_is_formed, forming, stmt_
 use Rattle.parse_types.specs.Tokens.{Kinds, take_key}
 use Rattle.parse_types.proofs.Law.{both_pass}
 use Rattle.parse_stmt.specs.Ahead.{semicolon}
-use Rattle.parse_stmt.specs.Chosen.{AreChosen, IsBlockFirst, led_in_block, led_in_stmt, led_in_stmts, listing, together}
-use Rattle.parse_stmt.specs.Reaches.{goes_on, led, may_be_mapping}
+use Rattle.parse_stmt.specs.Chosen.{AreChosen, IsBlockFirst, listing}
+use Rattle.parse_stmt.specs.Reaches.{goes_on, led}
 use Rattle.parse_stmt.specs.Starts.{ends_stmts}
-use Rattle.parse_stmt.proofs.Alike.{Alike, Same, same-kinds}
-use Rattle.parse_stmt.proofs.FormTree.{AStmtLayer, Fits, Form, by_first, by_mark, OneForm, fits, form, form-known, is_brace, is_led, is_other, led-of, no-end, one-form}
+use Rattle.parse_stmt.proofs.Alike.{same-kinds}
+use Rattle.parse_stmt.proofs.FormTree.{AStmtLayer, Fits, Form, by_first, by_mark, fits, form, is_led, led-of}
 use Rattle.parse_stmt.proofs.Known.{Known, leads}
 use Rattle.parse_stmt.proofs.LedLaw.{led-end}
-use Rattle.parse_stmt.proofs.OneBelow.{OneBelow}
 use Rattle.parse_stmt.proofs.StmtLaw.{stmt-law}
-use Rattle.parse_stmt.proofs.StmtRolls.{parts_of_block, parts_of_stmt, rolled-block, rolled-stmt}
+use Rattle.parse_stmt.proofs.StmtRolls.{parts_of_stmt, rolled-block}
 
 -- ---- what is chosen in lists
 

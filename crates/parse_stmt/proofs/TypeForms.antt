@@ -1,5 +1,5 @@
 -- Two types of the same tokens are alike: each form of a primary type, and all by induction on the first.
-use Rattle.std.proofs.Common.{◌≡◌, ℕ, zero, suc, ◌<◌, ◌≤◌, Bool, true, false, ◌&&◌, List, [], ◌∷◌, ◌++◌, map, length, Option, None, Some, refl, sym, ap, ◌∙◌, subst, eq-eqb, arith}
+use Rattle.std.proofs.Common.{◌≡◌, ℕ, Bool, true, false, ◌&&◌, List, [], ◌∷◌, ◌++◌, map, Option, None, Some, refl, sym, ap, ◌∙◌, subst, eq-eqb}
 use Rattle.std.specs.Global.{Box}
 use Rattle.std.specs.List.{list_all}
 use Rattle.std.specs.Prelude.{◌==◌}
@@ -8,7 +8,7 @@ use Rattle.std.proofs.lemmas.List.{append-nil}
 use Rattle.bal_base.specs.declared.token.TokenKind.TheVariants.{Word as WordKind, Keyword as KeywordKind, Int as IntKind, Str as StrKind, Sign as SignKind}
 use Rattle.bal_base.specs.declared.token.Keyword.TheVariants.{Int as IntKey, String as StringKey, Boolean as BooleanKey, Byte as ByteKey, Any as AnyKey, AnyData as AnyDataKey, Never as NeverKey, ReadOnly as ReadOnlyKey, True as TrueKey, False as FalseKey, Map as MapKey, Future as FutureKey, Error as ErrorKey, Record as RecordKey, Function as FunctionKey, Isolated as IsolatedKey, Returns}
 use Rattle.bal_base.specs.declared.token.Sign.{Sign}
-use Rattle.bal_base.specs.declared.token.Sign.TheVariants.{Colon, Minus, OpenParen, CloseParen, OpenBracket, CloseBracket, OpenBrace, CloseBrace, OpenBraceBar, CloseBraceBar, Comma, Ellipsis, Less, Greater, Semicolon, Question}
+use Rattle.bal_base.specs.declared.token.Sign.TheVariants.{Colon, Minus, OpenParen, CloseParen, OpenBracket, CloseBracket, CloseBrace, OpenBraceBar, CloseBraceBar, Comma, Ellipsis, Less, Greater, Semicolon}
 use Rattle.bal_tree.specs.declared.name.ConstValue.TheVariants.{Literal as LiteralValue}
 use Rattle.bal_tree.specs.declared.name.Literal.TheVariants.{Int as IntLiteral, Str as StrLiteral, True as TrueLiteral, False as FalseLiteral, Nil as NilLiteral}
 use Rattle.bal_tree.specs.declared.name.Prefix.{Prefix}
@@ -16,35 +16,33 @@ use Rattle.bal_tree.specs.declared.name.Prefix.TheVariants.{Word as WordPrefix, 
 use Rattle.bal_tree.specs.declared.name.QualifiedName.{QualifiedName}
 use Rattle.bal_tree.specs.declared.name.Word.{Word}
 use Rattle.bal_tree.specs.declared.types.BuiltinType.TheVariants.{Int, String, Boolean, Byte, Any, AnyData, Never, ReadOnly}
-use Rattle.bal_tree.specs.declared.types.FieldTree.{FieldTree, FieldTree-F, roll-FieldTree, map-FieldTree, out-FieldTree, roll-out-FieldTree}
-use Rattle.bal_tree.specs.declared.types.IntersectionType.{IntersectionType, IntersectionType-F, roll-IntersectionType}
+use Rattle.bal_tree.specs.declared.types.FieldTree.{FieldTree}
+use Rattle.bal_tree.specs.declared.types.IntersectionType.{IntersectionType}
 use Rattle.bal_tree.specs.declared.types.IntersectionType.TheOpen as layer
-use Rattle.bal_tree.specs.declared.types.ParamType.{ParamType, ParamType-F, roll-ParamType, map-ParamType, out-ParamType, roll-out-ParamType}
+use Rattle.bal_tree.specs.declared.types.ParamType.{ParamType}
 use Rattle.bal_tree.specs.declared.types.ParamTypes.{ParamTypes, ParamTypes-F, roll-ParamTypes, map-ParamTypes, out-ParamTypes, roll-out-ParamTypes}
-use Rattle.bal_tree.specs.declared.types.PostfixType.{PostfixType, PostfixType-F, roll-PostfixType}
+use Rattle.bal_tree.specs.declared.types.PostfixType.{PostfixType}
 use Rattle.bal_tree.specs.declared.types.PrimaryType.{PrimaryType, PrimaryType-F, roll-PrimaryType, map-PrimaryType, out-PrimaryType, roll-out-PrimaryType}
-use Rattle.bal_tree.specs.declared.types.TypeTree.{TypeTree, TypeTree-F, roll-TypeTree, ind-TypeTree}
-use Rattle.bal_tree.specs.NamePieces.{name_pieces, word_pieces}
+use Rattle.bal_tree.specs.declared.types.TypeTree.{TypeTree, ind-TypeTree}
+use Rattle.bal_tree.specs.NamePieces.{name_pieces}
 use Rattle.bal_tree.specs.Parts.{Part, inside as inside_part, each_inside}
-use Rattle.bal_tree.specs.Pieces.{Pieces, ◌&◌, if_boxed, if_there, joined, kinds, separated, sign, sign_if}
+use Rattle.bal_tree.specs.Pieces.{joined, kinds, separated}
 use Rattle.bal_tree.specs.Spells.{onto}
-use Rattle.bal_tree.specs.TypeLayers.{of_field_tree, of_param_type, of_param_types}
-use Rattle.bal_tree.specs.TypePieces.{as_rest, builtin_key, field_pieces, function_word, param_type_pieces, returning, type_pieces, writing}
+use Rattle.bal_tree.specs.TypeLayers.{of_field_tree}
+use Rattle.bal_tree.specs.TypePieces.{builtin_key, field_pieces, function_word, type_pieces, writing}
 use Rattle.bal_tree.specs.TypeRules.{TypeEnd, TypeFacts, facts, name_fits, part_is_formed, type_is_formed}
-use Rattle.parse_types.specs.Loops.{◌>>=◌}
-use Rattle.parse_types.specs.Reaches.{colon_word, inside, sign_type}
-use Rattle.parse_types.specs.Tokens.{Kinds, take_key, take_sign, take_word}
-use Rattle.parse_types.proofs.Follows.{Closes, Ends, Stays}
+use Rattle.parse_types.specs.Reaches.{colon_word, sign_type}
+use Rattle.parse_types.specs.Tokens.{Kinds, take_key, take_sign}
+use Rattle.parse_types.proofs.Follows.{Ends, Stays}
 use Rattle.bal_tree.proofs.Spelling.{onto-kinds}
-use Rattle.parse_types.proofs.Law.{before, both_pass}
+use Rattle.parse_types.proofs.Law.{both_pass}
 use Rattle.parse_types.proofs.ListLaw.{ellipsis-closes}
-use Rattle.parse_types.proofs.PrimaryLaw.{greater-closes, no-type, paren-closes, word-closes}
-use Rattle.parse_types.proofs.TypeRolls.{parts_of_field_tree, parts_of_param_type, parts_of_param_types, parts_of_primary_type, rolled-field_tree, rolled-param_type, rolled-param_types, rolled-primary_type}
-use Rattle.parse_types.proofs.WholeLaw.{type-law}
-use Rattle.parse_stmt.proofs.Alike.{Alike, Same, behind_first, first-token, same-kinds}
-use Rattle.parse_stmt.proofs.PartTree.{const-same, lists-same, name-same, name_at}
-use Rattle.parse_stmt.proofs.TypeSpines.{After, AfterType, IsIntersection, IsPostfix, IsUnion, OneIntersection, OnePostfix, OnePrimary, OneType, Pair, Told, closes-after, intersection-step, firsts_of_intersection_type, firsts_of_postfix_type, firsts_of_type_tree, one-intersection, one-postfix, one-type, postfix-step, told_intersection, told_postfix, told_primary, told_type, type-step}
-use Rattle.parse_stmt.proofs.TypeTrees.{AField, AParam, AType, Anything, AtItemEnd, ItemEnds, NoRest, QA, QF, QI, QP, QS, QT, bracket-ends, field-no-first, field-step, firsts, last_pieces, listed, no-first, rest_parts, param-no-first, param-step, paren-ends, rest-no-field, rest-no-param, semicolon-closes, told_field, told_param, told_params, type-then}
+use Rattle.parse_types.proofs.PrimaryLaw.{greater-closes, paren-closes}
+use Rattle.parse_types.proofs.TypeRolls.{parts_of_param_types, parts_of_primary_type, rolled-param_types, rolled-primary_type}
+use Rattle.parse_stmt.proofs.Alike.{Alike, Same, behind_first, first-token}
+use Rattle.parse_stmt.proofs.PartTree.{const-same, name-same, name_at}
+use Rattle.parse_stmt.proofs.TypeSpines.{After, AfterType, OneIntersection, OnePostfix, OnePrimary, OneType, Pair, Told, intersection-step, one-intersection, one-postfix, one-type, postfix-step, told_primary, told_type, type-step}
+use Rattle.parse_stmt.proofs.TypeTrees.{AField, AParam, AType, Anything, ItemEnds, QA, QF, QI, QP, QS, QT, bracket-ends, field-no-first, field-step, firsts, last_pieces, listed, no-first, rest_parts, param-no-first, param-step, paren-ends, rest-no-field, rest-no-param, semicolon-closes, told_field, told_param, told_params, type-then}
 
 -- ---- the parameters of a function type
 

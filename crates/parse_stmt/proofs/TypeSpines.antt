@@ -1,21 +1,21 @@
 -- Types that are put together by suffixes, `&` and `|`, as spines.
-use Rattle.std.proofs.Common.{◌≡◌, ℤ, Bool, true, false, ◌&&◌, List, [], ◌∷◌, Option, None, Some, refl, sym, ap, ◌∙◌, subst}
+use Rattle.std.proofs.Common.{◌≡◌, ℤ, Bool, true, false, ◌&&◌, ◌∷◌, None, Some, refl, sym, ap, ◌∙◌, subst}
 use Rattle.std.specs.Prelude.{not, if◌then◌else◌}
 use Rattle.std.proofs.lemmas.Bool.{false≢true}
 use Rattle.bal_base.specs.declared.token.TokenKind.TheVariants.{Int as IntKind, Sign as SignKind}
 use Rattle.bal_base.specs.declared.token.Sign.{Sign}
 use Rattle.bal_base.specs.declared.token.Sign.TheVariants.{Question, OpenBracket, CloseBracket, Ampersand, Bar, Less, OpenParen, Colon}
-use Rattle.bal_tree.specs.declared.types.FieldTree.{FieldTree, FieldTree-F, roll-FieldTree, map-FieldTree}
+use Rattle.bal_tree.specs.declared.types.FieldTree.{FieldTree}
 use Rattle.bal_tree.specs.declared.types.IntersectionType.{IntersectionType, IntersectionType-F, roll-IntersectionType, map-IntersectionType, ind-IntersectionType}
 use Rattle.bal_tree.specs.declared.types.IntersectionType.TheOpen as layer
-use Rattle.bal_tree.specs.declared.types.ParamType.{ParamType, ParamType-F, roll-ParamType, map-ParamType}
-use Rattle.bal_tree.specs.declared.types.ParamTypes.{ParamTypes, ParamTypes-F, roll-ParamTypes, map-ParamTypes}
+use Rattle.bal_tree.specs.declared.types.ParamType.{ParamType}
+use Rattle.bal_tree.specs.declared.types.ParamTypes.{ParamTypes}
 use Rattle.bal_tree.specs.declared.types.PostfixType.{PostfixType, PostfixType-F, roll-PostfixType, map-PostfixType, ind-PostfixType}
-use Rattle.bal_tree.specs.declared.types.PrimaryType.{PrimaryType, PrimaryType-F, roll-PrimaryType, map-PrimaryType}
+use Rattle.bal_tree.specs.declared.types.PrimaryType.{PrimaryType}
 use Rattle.bal_tree.specs.declared.types.TypeTree.{TypeTree, TypeTree-F, roll-TypeTree, map-TypeTree, ind-TypeTree}
 use Rattle.bal_tree.specs.Pieces.{Pieces, ◌&◌, sign, token}
 use Rattle.bal_tree.specs.Spells.{onto}
-use Rattle.bal_tree.specs.TypeLayers.{of_field_tree, of_intersection_type, of_param_type, of_param_types, of_postfix_type, of_primary_type, of_type_tree}
+use Rattle.bal_tree.specs.TypeLayers.{of_intersection_type, of_postfix_type, of_primary_type, of_type_tree}
 use Rattle.bal_tree.specs.TypePieces.{writing}
 use Rattle.bal_tree.specs.TypeRules.{TypeEnd, TypeFacts, closed, facts, is_length}
 use Rattle.parse_types.specs.Loops.{◌>>=◌}
@@ -25,7 +25,7 @@ use Rattle.parse_types.proofs.Follows.{Closes, Ends, Stays, closes-stay}
 use Rattle.parse_types.proofs.Law.{both_pass, not_true}
 use Rattle.parse_types.proofs.TypeRolls.{parts_of_intersection_type, parts_of_postfix_type, parts_of_type_tree, rolled-intersection_type, rolled-postfix_type, rolled-type_tree}
 use Rattle.parse_stmt.proofs.Alike.{Same, behind_first}
-use Rattle.parse_stmt.proofs.Spines.{Spine, Step, more-spine, one-spine, spines-same}
+use Rattle.parse_stmt.proofs.Spines.{Spine, more-spine, one-spine, spines-same}
 
 -- ---- what may stand behind
 

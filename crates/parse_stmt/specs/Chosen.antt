@@ -1,5 +1,6 @@
--- Which tree of a text is chosen. By the grammar alone some texts have two: behind braces with nothing between them that may be a
--- block, what begins the next statement may go on with an empty mapping as well, as in `{} (f)();`. The block is chosen.
+-- Which tree of a text is chosen. By the grammar alone some texts have two: behind braces with nothing between them
+-- that may be a block, what begins the next statement may go on with an empty mapping as well, as in `{} (f)();`.
+-- The block is chosen.
 use Rattle.std.specs.Prelude.{◌≡◌, true, List, [], ◌∷◌, ◌++◌, map}
 use Rattle.std.specs.List.{All}
 use Rattle.bal_base.specs.declared.token.TokenKind.TheVariants.{Sign as SignKind}
