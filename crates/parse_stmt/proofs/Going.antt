@@ -57,7 +57,7 @@ block-is inner ks = refl
 pub no_more-passes : (ks a : Kinds) → length a ≤ length ks → no_more ks (Some a) ≡ Some a
 no_more-passes ks a h = rw (le-leb (length a) (length ks) h) refl
 
-empty-block : (n : ℕ) (zs : Kinds) → 0 < n → inside n false (SignKind OpenBrace ∷ SignKind CloseBrace ∷ zs) ≡ Some zs
+pub empty-block : (n : ℕ) (zs : Kinds) → 0 < n → inside n false (SignKind OpenBrace ∷ SignKind CloseBrace ∷ zs) ≡ Some zs
 empty-block zero zs h = absurd (omega arith)
 empty-block (suc n) zs h =
     ap (no_more (SignKind OpenBrace ∷ SignKind CloseBrace ∷ zs)) (block-is (inside n) (SignKind CloseBrace ∷ zs) ∙ ap (take_sign CloseBrace) (stmts-close (inside n) zs))

@@ -3,6 +3,7 @@ pub mod Alike
 pub mod CallReadings
 pub mod Calm
 pub mod ChosenLaw
+pub mod ChosenMaking
 pub mod ChosenReading
 pub mod DefLaw
 pub mod DefTree

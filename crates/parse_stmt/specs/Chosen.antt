@@ -1,7 +1,8 @@
 -- Which tree of a text is chosen. By the grammar alone some texts have two: behind braces with nothing between them
 -- that may be a block, what begins the next statement may go on with an empty mapping as well, as in `{} (f)();`.
 -- The block is chosen.
-use Rattle.std.specs.Prelude.{◌≡◌, true, List, [], ◌∷◌, ◌++◌, map}
+use Rattle.std.specs.Prelude.{◌≡◌, true, List, [], ◌∷◌, ◌++◌, map, Option, None, Some}
+use Rattle.std.specs.Global.{Box}
 use Rattle.std.specs.List.{All}
 use Rattle.bal_base.specs.declared.token.TokenKind.TheVariants.{Sign as SignKind}
 use Rattle.bal_base.specs.declared.token.Sign.TheVariants.{OpenBrace, CloseBrace}
@@ -12,11 +13,14 @@ use Rattle.bal_tree.specs.declared.def.Def.TheVariants.{«Type» as TypeOf, Cons
 use Rattle.bal_tree.specs.declared.def.FileTree.{FileTree}
 use Rattle.bal_tree.specs.declared.def.Worker.{Worker}
 use Rattle.bal_tree.specs.declared.stmt.Block.{Block}
+use Rattle.bal_tree.specs.declared.stmt.Clause.{Clause}
+use Rattle.bal_tree.specs.declared.stmt.Else.{Else}
 use Rattle.bal_tree.specs.declared.stmt.Else.TheOpen as layer
+use Rattle.bal_tree.specs.declared.stmt.IfStmt.{IfStmt}
 use Rattle.bal_tree.specs.declared.stmt.Stmt.{Stmt}
 use Rattle.bal_tree.specs.DefPieces.{file_pieces}
 use Rattle.bal_tree.specs.Pieces.{Pieces, kinds}
-use Rattle.bal_tree.specs.StmtLayers.{StmtOf, StmtSteps, of_stmt, of_block}
+use Rattle.bal_tree.specs.StmtLayers.{StmtOf, StmtSteps, of_else, of_stmt, of_block, of_clause, of_if_stmt}
 use Rattle.bal_tree.specs.StmtPieces.{stmt_step, stmt_pieces}
 use Rattle.bal_tree.specs.StmtRules.{else_parts, if_parts, stmt_is_formed}
 
@@ -57,15 +61,35 @@ led_in_stmt = of_stmt listing
 abbrev pub led_in_block : Block → List Pieces
 led_in_block = of_block listing
 
+abbrev pub led_in_if : IfStmt → List Pieces
+led_in_if = of_if_stmt listing
+
+abbrev pub led_in_else : Else → List Pieces
+led_in_else = of_else listing
+
+-- behind an if statement, where it is there
+abbrev pub led_in_else_if : Option (Box Else) → List Pieces
+led_in_else_if None = []
+led_in_else_if (Some e) = led_in_else e.value
+
+abbrev pub led_in_clause : Clause → List Pieces
+led_in_clause = of_clause listing
+
+abbrev pub led_in_clauses : List Clause → List Pieces
+led_in_clauses clauses = together (map led_in_clause clauses)
+
 abbrev pub led_in_stmts : List Stmt → List Pieces
 led_in_stmts stmts = together (map led_in_stmt stmts)
 
 abbrev pub led_in_worker : Worker → List Pieces
 led_in_worker w = led_in_block w.body
 
+abbrev pub led_in_workers : List Worker → List Pieces
+led_in_workers workers = together (map led_in_worker workers)
+
 abbrev pub led_in_body : Body → List Pieces
 led_in_body (BlockBody stmts workers rest close at) =
-    led_in_stmts stmts.items ++ together (map led_in_worker workers.items) ++ led_in_stmts rest.items
+    led_in_stmts stmts.items ++ led_in_workers workers.items ++ led_in_stmts rest.items
 led_in_body (ExprBody value at) = []
 
 abbrev pub led_in_def : Def → List Pieces
@@ -74,8 +98,11 @@ led_in_def (Const d) = []
 led_in_def (Variable d) = []
 led_in_def (Function d) = led_in_body d.body
 
+abbrev pub led_in_defs : List Def → List Pieces
+led_in_defs defs = together (map led_in_def defs)
+
 abbrev pub led_in_file : FileTree → List Pieces
-led_in_file t = together (map led_in_def t.defs.items)
+led_in_file t = led_in_defs t.defs.items
 
 -- ---- the choice
 

@@ -1,7 +1,7 @@
 -- What is promised of the reader of files.
 use Rattle.std.specs.Global.{Box}
 use Rattle.std.specs.Prelude.{◌≡◌, ◌⊎◌, ◌≤◌, ◌&&◌, ℕ, Bool, true, false, List, [], ◌∷◌, length, map, drop, Option, Some, None, Result, Ok, Err, MatchResult}
-use Rattle.std.specs.List.{list_all}
+use Rattle.std.specs.List.{All, list_all}
 use Rattle.bal_base.specs.declared.fault.Fault.{Fault}
 use Rattle.bal_base.specs.declared.fault.FaultCode.TheVariants.{Depth, Syntax}
 use Rattle.bal_base.specs.declared.fault.Kept.TheVariants.{Count}
@@ -48,6 +48,7 @@ use Rattle.bal_base.specs.declared.stop.Stop.{Stop}
 use Rattle.bal_base.specs.declared.stop.Stop.TheVariants.{Memory, Fault as FaultOf}
 use Rattle.bal_tree.specs.declared.def.FileTree.{FileTree}
 use Rattle.parse_types.specs.Tokens.{Kinds}
+use Rattle.parse_stmt.specs.Chosen.{IsBlockFirst, led_in_stmt}
 use Rattle.parse_stmt.specs.declared.stops.Signature.{Signature}
 use denote.Ref.{Bor}
 
@@ -155,6 +156,10 @@ RhsReading r = Reading (rhs_is_formed r) (rhs_pieces r)
 
 abbrev pub StmtReading : Stmt → ℕ → List Token → List Token → Type 0
 StmtReading s = Reading (stmt_is_formed s) (stmt_pieces s)
+
+-- what stands in the statement is chosen, and the statement itself at most isn't
+abbrev pub IsChosenWithin : Stmt → Type 0
+IsChosenWithin s = All (λ p. IsBlockFirst p → p ≡ stmt_pieces s) (led_in_stmt s)
 
 abbrev pub IfReading : IfStmt → ℕ → List Token → List Token → Type 0
 IfReading s = Reading (if_is_formed s) (if_pieces s)
