@@ -1,26 +1,26 @@
 -- The whole answer: the tree, or the place where the file goes wrong.
-use Rattle.std.proofs.Common.{◌≡◌, ◌⊎◌, ℕ, ◌≤◌, true, List, [], ◌∷◌, length, Option, None, Some, Result, Ok, Err, inr, refl, sym, ap, ◌∙◌, subst, arith}
+use Rattle.std.proofs.Common.{◌≡◌, ◌⊎◌, ℕ, ◌≤◌, true, List, [], ◌∷◌, length, None, Result, Ok, Err, IfOk, inr, refl, sym, ◌∙◌, subst, arith}
 use Rattle.std.specs.List.{list_all}
 use Rattle.bal_base.specs.declared.fault.Fault.{Fault}
-use Rattle.bal_base.specs.declared.fault.FaultCode.TheVariants.{Syntax}
 use Rattle.bal_base.specs.declared.stop.Stop.{Stop}
 use Rattle.bal_base.specs.declared.stop.Stop.TheVariants.{Memory, Fault as FaultOf}
 use Rattle.bal_base.specs.declared.token.Token.{Token}
 use Rattle.bal_tree.specs.declared.def.FileTree.{FileTree}
 use Rattle.bal_tree.specs.DefPieces.{file_pieces}
-use Rattle.bal_tree.specs.DefRules.{def_is_formed}
+use Rattle.bal_tree.specs.DefRules.{def_is_formed, file_is_formed}
 use Rattle.bal_tree.specs.Reads.{Reads}
-use Rattle.bal_tree.specs.Spells.{Spells, first_place, kinds_of}
+use Rattle.bal_tree.specs.Spells.{Spells, kinds_of}
 use Rattle.bal_tree.proofs.Spelling.{spells-onto}
 use Rattle.parse_types.specs.Nesting.{first_too_deep}
 use Rattle.bal_base.specs.Stops.{IfFault}
-use Rattle.parse_types.specs.Starts.{refusal}
 use Rattle.parse_types.proofs.Parsing.{rest-place}
 use Rattle.parse_types.proofs.Readings.{length-kinds}
+use Rattle.parse_stmt.specs.Chosen.{IsChosen, IsSameFile}
 use Rattle.parse_stmt.specs.Reaches.{def, import}
-use Rattle.parse_stmt.specs.Starts.{BreaksAt, IsBroken, IsFileTooDeep, IsNotRefused, IsRefused, IsWrong, StartsDef, StartsImport, WholeOr, front_pieces}
+use Rattle.parse_stmt.specs.Starts.{BreaksAt, IsBroken, IsFileTooDeep, IsNotRefused, IsRefused, IsWrong, WholeOr, front_pieces}
 use Rattle.parse_stmt.proofs.FileLaw.{breaks-there, def-never, import-never, no-def-at-end, no-import-at-end, same-front}
 use Rattle.parse_stmt.proofs.Known.{Known}
+use Rattle.parse_stmt.proofs.OneTree.{chosen-one}
 use Rattle.parse_stmt.proofs.StopLaw.{one-wrong}
 
 -- the imports and definitions of a tree without its place
@@ -78,3 +78,15 @@ module _ (known : Known) (file : ℕ) (tokens rest : List Token) (tree : FileTre
   pub result-complete : (r : Result FileTree (Stop Fault)) → WholeOr tree file rest r → (other : FileTree) → Reads file tokens other → IsNotRefused r
   result-complete (Ok t) w other reads = tt
   result-complete (Err stop) w other reads = absurd (w.0 (nothing-left other reads))
+
+-- ---- the tree is the chosen one
+
+module _ (file : ℕ) (tokens rest : List Token) (tree : FileTree) (chosen : IsChosen tree) where
+  pub result-chosen : (r : Result FileTree (Stop Fault)) → WholeOr tree file rest r → IfOk r (λ t. IsChosen t)
+  result-chosen (Ok t) w = subst IsChosen (sym w.0) chosen
+  result-chosen (Err stop) w = tt
+
+  pub result-one : file_is_formed tree ≡ true → Spells file (file_pieces tree) tokens rest → (r : Result FileTree (Stop Fault)) → WholeOr tree file rest r → IfOk r (λ t. (u : FileTree) → Reads file tokens u → IsChosen u → IsSameFile t u)
+  result-one formed spells (Ok t) w = λ u reads h.
+      subst (λ x. IsSameFile x u) (sym w.0) (chosen-one file tokens tree u (formed, subst (λ ts. Spells file (file_pieces tree) tokens ts) w.1 spells) reads chosen h)
+  result-one formed spells (Err stop) w = tt

@@ -1,7 +1,7 @@
 //! Definitions.
 #![tactic(auto, using(parse_types::proofs::Readings::spelling))]
 
-ghost use Rattle.std.specs.Prelude.{◌≡◌, ◌≤◌, ◌&&◌, ◌||◌, not, true, false, map, length, IfOk};
+ghost use Rattle.std.specs.Prelude.{◌≡◌, ◌≤◌, ◌&&◌, ◌||◌, not, true, false, map, length, IfOk, ◌++◌};
 ghost use Rattle.std.specs.List.{list_all};
 ghost use Rattle.bal_tree.specs.ActionRules.{has_members};
 ghost use Rattle.bal_tree.specs.DefPieces.{body_pieces, worker_pieces};
@@ -14,6 +14,7 @@ ghost use Rattle.bal_tree.specs.StmtRules.{stmt_is_formed};
 ghost use Rattle.bal_tree.specs.TypePieces.{returning, type_pieces};
 ghost use Rattle.bal_tree.specs.TypeRules.{type_is_formed};
 ghost use Rattle.parse_types.specs.Starts.{Leaves, Reading};
+ghost use Rattle.parse_stmt.specs.Chosen.{AreChosen, led_in_body, led_in_def, led_in_stmts, led_in_worker, led_in_workers};
 ghost use Rattle.parse_stmt.specs.Reaches as spec;
 ghost use Rattle.parse_stmt.specs.Starts.{BehindReading, DefReading, WorkerReading, const_def_behind, function_def_behind, type_def_behind, variable_def_behind};
 
@@ -29,6 +30,7 @@ impl StmtReader {
     pub(crate) fn def(self, room: usize, tokens: &[Token]) -> Result<(Def, &[Token]), Stop<Missing>>
         ensures end { Leaves (spec.def room (kinds_of tokens.now)) result }
         ensures reads { IfOk result (λ r. DefReading r.0 self.file tokens.now r.1.now) }
+        ensures chosen { IfOk result (λ r. AreChosen (led_in_def r.0)) }
     {
         let at = place(self.file, tokens);
         let (public, rest) = key_if_there(tokens, Keyword::Public);
@@ -58,6 +60,7 @@ impl StmtReader {
     ) -> Result<(Def, &[Token]), Stop<Missing>>
         ensures end { Leaves (spec.function_or room (spec.begins_function (kinds_of tokens.now)) (kinds_of tokens.now)) result }
         ensures reads { IfOk result (λ r. BehindReading public at r.0 self.file tokens.now r.1.now) }
+        ensures chosen { IfOk result (λ r. AreChosen (led_in_def r.0)) }
     {
         if begins_function(self.file, tokens) {
             let (d, rest) = self.function_def(room, public, at, tokens)?;
@@ -184,6 +187,7 @@ impl StmtReader {
         ensures public { IfOk result (λ r. r.0.public ≡ public) }
         ensures at { IfOk result (λ r. r.0.at ≡ at) }
         ensures reads { IfOk result (λ r. Reading (function_is_formed r.0) (function_def_behind r.0) self.file tokens.now r.1.now) }
+        ensures chosen { IfOk result (λ r. AreChosen (led_in_body r.0.body)) }
     {
         let (isolated, rest) = key_if_there(tokens, Keyword::Isolated);
         let rest = key(rest, Keyword::Function)?;
@@ -226,6 +230,7 @@ impl StmtReader {
     fn body(self, room: usize, tokens: &[Token]) -> Result<(Body, &[Token]), Stop<Missing>>
         ensures end { Leaves (spec.body room (kinds_of tokens.now)) result }
         ensures reads { IfOk result (λ r. Reading (body_is_formed r.0) (body_pieces r.0) self.file tokens.now r.1.now) }
+        ensures chosen { IfOk result (λ r. AreChosen (led_in_body r.0)) }
     {
         if after_sign(tokens, Sign::OpenBrace).is_some() {
             return self.block_body(room, tokens);
@@ -237,6 +242,7 @@ impl StmtReader {
     fn expr_body(self, tokens: &[Token]) -> Result<(Body, &[Token]), Stop<Missing>>
         ensures end { Leaves (spec.expr_body (kinds_of tokens.now)) result }
         ensures reads { IfOk result (λ r. Reading (body_is_formed r.0) (body_pieces r.0) self.file tokens.now r.1.now) }
+        ensures chosen { IfOk result (λ r. AreChosen (led_in_body r.0)) }
     {
         let at = place(self.file, tokens);
         let rest = sign(tokens, Sign::FatArrow)?;
@@ -249,6 +255,7 @@ impl StmtReader {
     fn block_body(self, room: usize, tokens: &[Token]) -> Result<(Body, &[Token]), Stop<Missing>>
         ensures end { Leaves (spec.block_body room (kinds_of tokens.now)) result }
         ensures reads { IfOk result (λ r. Reading (body_is_formed r.0) (body_pieces r.0) self.file tokens.now r.1.now) }
+        ensures chosen { IfOk result (λ r. AreChosen (led_in_body r.0)) }
     {
         let at = place(self.file, tokens);
         let inside = sign(tokens, Sign::OpenBrace)?;
@@ -278,6 +285,7 @@ impl StmtReader {
         ensures formed { IfOk result (λ r. (list_all worker_is_formed r.0.0.items && list_all stmt_is_formed r.0.1.items && (has_members r.0.0.items || not (has_members r.0.1.items))) ≡ true) }
         ensures spells { IfOk result (λ r. Spells self.file (joined (map worker_pieces r.0.0.items) & joined (map stmt_pieces r.0.1.items)) tokens.now r.1.now) }
         ensures no_longer { IfOk result (λ r. length r.1.now ≤ length tokens.now) }
+        ensures chosen { IfOk result (λ r. AreChosen (led_in_workers r.0.0.items ++ led_in_stmts r.0.1.items)) }
     {
         if after_key(tokens, Keyword::Worker).is_none() {
             let workers = Vec::new(self.alloc);
@@ -297,6 +305,7 @@ impl StmtReader {
     ) -> Result<(Vec<Worker>, &[Token]), Stop<Missing>>
         ensures end { Leaves (spec.workers room (kinds_of tokens.now)) result }
         ensures reads { IfOk result (λ r. Reading (has_members r.0.items && list_all worker_is_formed r.0.items) (joined (map worker_pieces r.0.items)) self.file tokens.now r.1.now) }
+        ensures chosen { IfOk result (λ r. AreChosen (led_in_workers r.0.items)) }
     {
         let mut workers = Vec::new(self.alloc);
         let (first, mut rest) = self.worker(room, tokens)?;
@@ -312,6 +321,7 @@ impl StmtReader {
     fn worker(self, room: usize, tokens: &[Token]) -> Result<(Worker, &[Token]), Stop<Missing>>
         ensures end { Leaves (spec.worker room (kinds_of tokens.now)) result }
         ensures reads { IfOk result (λ r. WorkerReading r.0 self.file tokens.now r.1.now) }
+        ensures chosen { IfOk result (λ r. AreChosen (led_in_worker r.0)) }
     {
         let at = place(self.file, tokens);
         let rest = key(tokens, Keyword::Worker)?;

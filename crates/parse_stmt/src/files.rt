@@ -7,6 +7,7 @@ ghost use Rattle.bal_tree.specs.DefPieces.{def_pieces, file_pieces, import_piece
 ghost use Rattle.bal_tree.specs.DefRules.{def_is_formed, file_is_formed};
 ghost use Rattle.bal_tree.specs.Pieces.{joined};
 ghost use Rattle.bal_tree.specs.Spells.{Spells, kinds_of};
+ghost use Rattle.parse_stmt.specs.Chosen.{AreChosen, IsChosen, led_in_defs};
 ghost use Rattle.parse_stmt.specs.Reaches as spec;
 
 use crate::reader::StmtReader;
@@ -21,6 +22,7 @@ impl StmtReader {
         ensures no_import { IfOk result (λ r. r.0.defs.items ≡ [] → spec.import (kinds_of r.1.now) ≡ None) }
         ensures formed { IfOk result (λ r. file_is_formed r.0 ≡ true) }
         ensures spells { IfOk result (λ r. Spells self.file (file_pieces r.0) tokens.now r.1.now) }
+        ensures chosen { IfOk result (λ r. IsChosen r.0) }
     {
         let at = place(self.file, tokens);
         let (imports, behind) = self.imports(tokens)?;
@@ -47,6 +49,7 @@ impl StmtReader {
         ensures stops { IfOk result (λ r. spec.def room (kinds_of r.1.now) ≡ None) }
         ensures formed { IfOk result (λ r. list_all def_is_formed r.0.items ≡ true) }
         ensures spells { IfOk result (λ r. Spells self.file (joined (map def_pieces r.0.items)) tokens.now r.1.now) }
+        ensures chosen { IfOk result (λ r. AreChosen (led_in_defs r.0.items)) }
     {
         let mut defs = Vec::new(self.alloc);
         let mut rest = tokens;

@@ -16,7 +16,7 @@ ghost use Rattle.parse_types.specs.Starts.{Leaves, Reading};
 ghost use Rattle.parse_expr.specs.Starts.{ExprReading};
 ghost use Rattle.parse_stmt.specs.Shapes.{name_alone, other_alone, postfix_last, primary_last};
 ghost use Rattle.parse_stmt.specs.Reaches as spec;
-ghost use Rattle.parse_stmt.specs.Starts.{CheckedReading, RhsReading, StmtReading};
+ghost use Rattle.parse_stmt.specs.Starts.{CheckedReading, IsChosenWithin, RhsReading, StmtReading};
 
 use crate::actions::{begins_simple, postfix_of};
 use crate::ahead::{Mark, first_mark, semicolon};
@@ -92,6 +92,7 @@ impl StmtReader {
     fn assign(self, tokens: &[Token]) -> Result<(Stmt, &[Token]), Stop<Missing>>
         ensures end { Leaves (spec.assign (kinds_of tokens.now)) result }
         ensures reads { IfOk result (λ r. StmtReading r.0 self.file tokens.now r.1.now) }
+        ensures chosen { IfOk result (λ r. IsChosenWithin r.0) }
     {
         let at = place(self.file, tokens);
         let (target, rest) = self.target(tokens)?;
@@ -224,6 +225,7 @@ impl StmtReader {
     fn rhs_stmt(self, m: Mark, tokens: &[Token]) -> Result<(Stmt, &[Token]), Stop<Missing>>
         ensures end { Leaves (spec.rhs_stmt m (kinds_of tokens.now)) result }
         ensures reads { IfOk result (λ r. StmtReading r.0 self.file tokens.now r.1.now) }
+        ensures chosen { IfOk result (λ r. IsChosenWithin r.0) }
     {
         let at = place(self.file, tokens);
         let (rhs, rest) = self.rhs_alone(m, tokens)?;
@@ -235,6 +237,7 @@ impl StmtReader {
     fn led_by(self, m: Mark, tokens: &[Token]) -> Result<(Stmt, &[Token]), Stop<Missing>>
         ensures end { Leaves (spec.led_by m (kinds_of tokens.now)) result }
         ensures reads { IfOk result (λ r. StmtReading r.0 self.file tokens.now r.1.now) }
+        ensures chosen { IfOk result (λ r. IsChosenWithin r.0) }
     {
         match m {
             Mark::Declares => self.declared(tokens),
@@ -247,6 +250,7 @@ impl StmtReader {
     pub(crate) fn declared(self, tokens: &[Token]) -> Result<(Stmt, &[Token]), Stop<Missing>>
         ensures end { Leaves (spec.local (kinds_of tokens.now)) result }
         ensures reads { IfOk result (λ r. StmtReading r.0 self.file tokens.now r.1.now) }
+        ensures chosen { IfOk result (λ r. IsChosenWithin r.0) }
     {
         let at = place(self.file, tokens);
         let ((ty, name, value), rest) = self.local(tokens)?;
@@ -266,6 +270,7 @@ impl StmtReader {
     pub(crate) fn led(self, tokens: &[Token]) -> Result<(Stmt, &[Token]), Stop<Missing>>
         ensures end { Leaves (spec.led (kinds_of tokens.now)) result }
         ensures reads { IfOk result (λ r. StmtReading r.0 self.file tokens.now r.1.now) }
+        ensures chosen { IfOk result (λ r. IsChosenWithin r.0) }
     {
         let Some(end) = semicolon(tokens) else {
             return Err(Stop::Fault(Missing));

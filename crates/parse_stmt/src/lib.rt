@@ -26,6 +26,7 @@ ghost use Rattle.bal_tree.specs.declared.def.FileTree.{FileTree as FileTreeOf};
 ghost use Rattle.bal_tree.specs.Reads.{Reads};
 ghost use Rattle.bal_tree.specs.Spells.{kinds_of};
 ghost use Rattle.parse_types.specs.Nesting as nesting_spec;
+ghost use Rattle.parse_stmt.specs.Chosen.{IsChosen, IsSameFile};
 ghost use Rattle.bal_base.specs.Stops.{IfFault};
 ghost use Rattle.parse_stmt.specs.Starts.{IsBroken, IsFileTooDeep, IsNotRefused, IsRefused};
 
@@ -56,11 +57,15 @@ use std::alloc::Global;
 /// if neither the file nor the statements end with them; the fault keeps the count 1 then.
 pub fn parse_file(alloc: Global, file: u32, tokens: &[Token]) -> Result<FileTree, Stop<Fault>>
     ensures reads { IfOk result (λ t. Reads file tokens.now t) }
+    ensures chosen { IfOk result (λ t. IsChosen t) }
     ensures not_deep { IfOk result (λ t. nesting_spec.first_too_deep (kinds_of tokens.now) ≡ None) }
     ensures refused { IfFault result (λ f. IsFileTooDeep file tokens.now f ⊎ IsBroken file tokens.now f) }
 
     // A file that is that of a tree is not refused.
     ensures complete { (t : FileTreeOf) → Reads file tokens.now t → nesting_spec.first_too_deep (kinds_of tokens.now) ≡ None → IsNotRefused result }
+
+    // Each chosen tree of these tokens is written out as the one that is given.
+    ensures one { IfOk result (λ t. (u : FileTreeOf) → Reads file tokens.now u → IsChosen u → IsSameFile t u) }
 
     // A file that goes wrong somewhere is refused, and there alone.
     ensures exact { (f : FaultOf) → IsBroken file tokens.now f → IsRefused result f }

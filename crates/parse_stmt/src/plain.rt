@@ -9,7 +9,7 @@ ghost use Rattle.bal_tree.specs.StmtPieces.{foreach_head as foreach_pieces, rang
 ghost use Rattle.bal_tree.specs.StmtRules.{local_type_is_formed, range_is_formed};
 ghost use Rattle.parse_types.specs.Starts.{Leaves, Reading};
 ghost use Rattle.parse_stmt.specs.Reaches as spec;
-ghost use Rattle.parse_stmt.specs.Starts.{StmtReading};
+ghost use Rattle.parse_stmt.specs.Starts.{IsChosenWithin, StmtReading};
 
 use crate::names::word_here;
 use crate::reader::StmtReader;
@@ -26,6 +26,7 @@ impl StmtReader {
     pub(crate) fn ignore(self, tokens: &[Token]) -> Result<(Stmt, &[Token]), Stop<Missing>>
         ensures end { Leaves (spec.ignore (kinds_of tokens.now)) result }
         ensures reads { IfOk result (λ r. StmtReading r.0 self.file tokens.now r.1.now) }
+        ensures chosen { IfOk result (λ r. IsChosenWithin r.0) }
     {
         let at = place(self.file, tokens);
         let rest = sign(tokens, Sign::Underscore)?;
@@ -38,6 +39,7 @@ impl StmtReader {
     pub(crate) fn final_stmt(self, tokens: &[Token]) -> Result<(Stmt, &[Token]), Stop<Missing>>
         ensures end { Leaves (spec.final_stmt (kinds_of tokens.now)) result }
         ensures reads { IfOk result (λ r. StmtReading r.0 self.file tokens.now r.1.now) }
+        ensures chosen { IfOk result (λ r. IsChosenWithin r.0) }
     {
         let at = place(self.file, tokens);
         let rest = key(tokens, Keyword::Final)?;
@@ -58,6 +60,7 @@ impl StmtReader {
     pub(crate) fn return_stmt(self, tokens: &[Token]) -> Result<(Stmt, &[Token]), Stop<Missing>>
         ensures end { Leaves (spec.return_stmt (kinds_of tokens.now)) result }
         ensures reads { IfOk result (λ r. StmtReading r.0 self.file tokens.now r.1.now) }
+        ensures chosen { IfOk result (λ r. IsChosenWithin r.0) }
     {
         let at = place(self.file, tokens);
         let behind = key(tokens, Keyword::Return)?;
@@ -78,6 +81,7 @@ impl StmtReader {
     pub(crate) fn panic_stmt(self, tokens: &[Token]) -> Result<(Stmt, &[Token]), Stop<Missing>>
         ensures end { Leaves (spec.panic_stmt (kinds_of tokens.now)) result }
         ensures reads { IfOk result (λ r. StmtReading r.0 self.file tokens.now r.1.now) }
+        ensures chosen { IfOk result (λ r. IsChosenWithin r.0) }
     {
         let at = place(self.file, tokens);
         let rest = key(tokens, Keyword::Panic)?;
@@ -90,6 +94,7 @@ impl StmtReader {
     pub(crate) fn break_stmt(self, tokens: &[Token]) -> Result<(Stmt, &[Token]), Stop<Missing>>
         ensures end { Leaves (spec.break_stmt (kinds_of tokens.now)) result }
         ensures reads { IfOk result (λ r. StmtReading r.0 self.file tokens.now r.1.now) }
+        ensures chosen { IfOk result (λ r. IsChosenWithin r.0) }
     {
         let at = place(self.file, tokens);
         let rest = key(tokens, Keyword::Break)?;
@@ -101,6 +106,7 @@ impl StmtReader {
     pub(crate) fn continue_stmt(self, tokens: &[Token]) -> Result<(Stmt, &[Token]), Stop<Missing>>
         ensures end { Leaves (spec.continue_stmt (kinds_of tokens.now)) result }
         ensures reads { IfOk result (λ r. StmtReading r.0 self.file tokens.now r.1.now) }
+        ensures chosen { IfOk result (λ r. IsChosenWithin r.0) }
     {
         let at = place(self.file, tokens);
         let rest = key(tokens, Keyword::Continue)?;

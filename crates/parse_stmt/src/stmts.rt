@@ -10,8 +10,9 @@ ghost use Rattle.bal_tree.specs.Spells.{Spells, kinds_of};
 ghost use Rattle.bal_tree.specs.StmtPieces.{as_else, clause_pieces, else_pieces, pattern_pieces, stmt_pieces};
 ghost use Rattle.bal_tree.specs.StmtRules.{clause_is_formed, else_is_formed, stmt_is_formed};
 ghost use Rattle.parse_types.specs.Starts.{Leaves, Reading};
+ghost use Rattle.parse_stmt.specs.Chosen.{AreChosen, led_in_block, led_in_clause, led_in_clauses, led_in_else, led_in_else_if, led_in_if, led_in_stmts};
 ghost use Rattle.parse_stmt.specs.Reaches as spec;
-ghost use Rattle.parse_stmt.specs.Starts.{BlockReading, ClauseReading, IfReading, StmtReading, else_is_formed_if};
+ghost use Rattle.parse_stmt.specs.Starts.{BlockReading, ClauseReading, IfReading, IsChosenWithin, StmtReading, else_is_formed_if};
 
 use crate::ahead::semicolon;
 use crate::patterns::patterns;
@@ -31,6 +32,7 @@ impl StmtReader {
     ) -> Result<(Block, &[Token]), Stop<Missing>>
         ensures end { Leaves (spec.inside room false (kinds_of tokens.now)) result }
         ensures reads { IfOk result (λ r. BlockReading r.0 self.file tokens.now r.1.now) }
+        ensures chosen { IfOk result (λ r. AreChosen (led_in_block r.0)) }
     {
         if room == 0 {
             return Err(Stop::Fault(Missing));
@@ -43,6 +45,7 @@ impl StmtReader {
     fn inner_if(self, room: usize, tokens: &[Token]) -> Result<(IfStmt, &[Token]), Stop<Missing>>
         ensures end { Leaves (spec.inside room true (kinds_of tokens.now)) result }
         ensures reads { IfOk result (λ r. IfReading r.0 self.file tokens.now r.1.now) }
+        ensures chosen { IfOk result (λ r. AreChosen (led_in_if r.0)) }
     {
         if room == 0 {
             return Err(Stop::Fault(Missing));
@@ -55,6 +58,7 @@ impl StmtReader {
     fn block(self, room: usize, tokens: &[Token]) -> Result<(Block, &[Token]), Stop<Missing>>
         ensures end { Leaves (spec.block (spec.inside room) (kinds_of tokens.now)) result }
         ensures reads { IfOk result (λ r. BlockReading r.0 self.file tokens.now r.1.now) }
+        ensures chosen { IfOk result (λ r. AreChosen (led_in_block r.0)) }
     {
         let at = place(self.file, tokens);
         let inside = sign(tokens, Sign::OpenBrace)?;
@@ -75,6 +79,7 @@ impl StmtReader {
         ensures formed { IfOk result (λ r. list_all stmt_is_formed r.0.items ≡ true) }
         ensures spells { IfOk result (λ r. Spells self.file (joined (map stmt_pieces r.0.items)) tokens.now r.1.now) }
         ensures no_longer { IfOk result (λ r. length r.1.now ≤ length tokens.now) }
+        ensures chosen { IfOk result (λ r. AreChosen (led_in_stmts r.0.items)) }
     {
         let mut stmts = Vec::new(self.alloc);
         let mut rest = tokens;
@@ -89,6 +94,7 @@ impl StmtReader {
     fn stmt(self, room: usize, tokens: &[Token]) -> Result<(Stmt, &[Token]), Stop<Missing>>
         ensures end { Leaves (spec.stmt (spec.inside room) (kinds_of tokens.now)) result }
         ensures reads { IfOk result (λ r. StmtReading r.0 self.file tokens.now r.1.now) }
+        ensures chosen { IfOk result (λ r. IsChosenWithin r.0) }
     {
         let Some((first, rest)) = tokens.split_first() else {
             return Err(Stop::Fault(Missing));
@@ -114,6 +120,7 @@ impl StmtReader {
     ) -> Result<(Stmt, &[Token]), Stop<Missing>>
         ensures end { Leaves (spec.brace_stmt (spec.inside room) mapping (kinds_of tokens.now)) result }
         ensures reads { IfOk result (λ r. StmtReading r.0 self.file tokens.now r.1.now) }
+        ensures chosen { IfOk result (λ r. IsChosenWithin r.0) }
     {
         if mapping {
             if let Some(found) = optional(self.led(tokens))? {
@@ -134,6 +141,7 @@ impl StmtReader {
     ) -> Result<(Stmt, &[Token]), Stop<Missing>>
         ensures end { Leaves (spec.keyword_stmt (spec.inside room) k (kinds_of tokens.now)) result }
         ensures reads { IfOk result (λ r. StmtReading r.0 self.file tokens.now r.1.now) }
+        ensures chosen { IfOk result (λ r. IsChosenWithin r.0) }
     {
         match k {
             Keyword::If => {
@@ -158,6 +166,7 @@ impl StmtReader {
     fn if_stmt(self, room: usize, tokens: &[Token]) -> Result<(IfStmt, &[Token]), Stop<Missing>>
         ensures end { Leaves (spec.if_stmt (spec.inside room) (kinds_of tokens.now)) result }
         ensures reads { IfOk result (λ r. IfReading r.0 self.file tokens.now r.1.now) }
+        ensures chosen { IfOk result (λ r. AreChosen (led_in_if r.0)) }
     {
         let at = place(self.file, tokens);
         let rest = key(tokens, Keyword::If)?;
@@ -178,6 +187,7 @@ impl StmtReader {
         ensures formed { IfOk result (λ r. else_is_formed_if r.0 ≡ true) }
         ensures spells { IfOk result (λ r. Spells self.file (if_boxed (λ e. as_else (else_pieces e)) r.0) tokens.now r.1.now) }
         ensures no_longer { IfOk result (λ r. length r.1.now ≤ length tokens.now) }
+        ensures chosen { IfOk result (λ r. AreChosen (led_in_else_if r.0)) }
     {
         let Some(behind) = after_key(tokens, Keyword::Else) else {
             return Ok((None, tokens));
@@ -197,6 +207,7 @@ impl StmtReader {
     ) -> Result<(Box<Else>, &[Token]), Stop<Missing>>
         ensures end { Leaves (spec.else_behind (spec.inside room) (kinds_of tokens.now)) result }
         ensures reads { IfOk result (λ r. Reading (else_is_formed r.0.value) (else_pieces r.0.value) self.file tokens.now r.1.now) }
+        ensures chosen { IfOk result (λ r. AreChosen (led_in_else r.0.value)) }
     {
         if after_key(tokens, Keyword::If).is_some() {
             let (s, rest) = self.inner_if(room, tokens)?;
@@ -211,6 +222,7 @@ impl StmtReader {
     fn while_stmt(self, room: usize, tokens: &[Token]) -> Result<(Stmt, &[Token]), Stop<Missing>>
         ensures end { Leaves (spec.while_stmt (spec.inside room) (kinds_of tokens.now)) result }
         ensures reads { IfOk result (λ r. StmtReading r.0 self.file tokens.now r.1.now) }
+        ensures chosen { IfOk result (λ r. IsChosenWithin r.0) }
     {
         let at = place(self.file, tokens);
         let rest = key(tokens, Keyword::While)?;
@@ -231,6 +243,7 @@ impl StmtReader {
     fn foreach(self, room: usize, tokens: &[Token]) -> Result<(Stmt, &[Token]), Stop<Missing>>
         ensures end { Leaves (spec.foreach (spec.inside room) (kinds_of tokens.now)) result }
         ensures reads { IfOk result (λ r. StmtReading r.0 self.file tokens.now r.1.now) }
+        ensures chosen { IfOk result (λ r. IsChosenWithin r.0) }
     {
         let at = place(self.file, tokens);
         let ((ty, name, from, range), rest) = self.foreach_head(tokens)?;
@@ -253,6 +266,7 @@ impl StmtReader {
     fn match_stmt(self, room: usize, tokens: &[Token]) -> Result<(Stmt, &[Token]), Stop<Missing>>
         ensures end { Leaves (spec.match_stmt (spec.inside room) (kinds_of tokens.now)) result }
         ensures reads { IfOk result (λ r. StmtReading r.0 self.file tokens.now r.1.now) }
+        ensures chosen { IfOk result (λ r. IsChosenWithin r.0) }
     {
         let at = place(self.file, tokens);
         let rest = key(tokens, Keyword::Match)?;
@@ -272,6 +286,7 @@ impl StmtReader {
     ) -> Result<(Vec<Clause>, &[Token]), Stop<Missing>>
         ensures end { Leaves (spec.clauses (spec.inside room) (kinds_of tokens.now)) result }
         ensures reads { IfOk result (λ r. Reading (has_members r.0.items && list_all clause_is_formed r.0.items) (joined (map clause_pieces r.0.items)) self.file tokens.now r.1.now) }
+        ensures chosen { IfOk result (λ r. AreChosen (led_in_clauses r.0.items)) }
     {
         let mut clauses = Vec::new(self.alloc);
         let (first, mut rest) = self.clause(room, tokens)?;
@@ -288,6 +303,7 @@ impl StmtReader {
     fn clause(self, room: usize, tokens: &[Token]) -> Result<(Clause, &[Token]), Stop<Missing>>
         ensures end { Leaves (spec.clause (spec.inside room) (kinds_of tokens.now)) result }
         ensures reads { IfOk result (λ r. ClauseReading r.0 self.file tokens.now r.1.now) }
+        ensures chosen { IfOk result (λ r. AreChosen (led_in_clause r.0)) }
     {
         let at = place(self.file, tokens);
         let (patterns, rest) = patterns(self.alloc, self.file, tokens)?;

@@ -1,5 +1,5 @@
 use Rattle.std.proofs.Common.{sym, ◌∙◌}
-use Rattle.parse_stmt.proofs.FileAnswers.{result-complete, result-exact, result-refused}
+use Rattle.parse_stmt.proofs.FileAnswers.{result-chosen, result-complete, result-exact, result-one, result-refused}
 use Rattle.parse_stmt.proofs.KnownAll.{known}
 use Rattle.parse_stmt.proofs.parse_file.Goals as goal
 
@@ -17,3 +17,11 @@ pub returns-clause-complete : goal.returns-clause-complete
 returns-clause-complete c =
     let made = c.in_ok-tree.ensures in
     λ other reads shallow. result-complete known c.args.file c.args.tokens.now c.in_ok-tree.rest.now c.in_ok-tree.tree made.formed made.spells made.no_def made.no_import c.whole.result c.whole.ensures other reads
+
+pub returns-clause-chosen : goal.returns-clause-chosen
+returns-clause-chosen c = result-chosen c.args.file c.args.tokens.now c.in_ok-tree.rest.now c.in_ok-tree.tree c.in_ok-tree.ensures.chosen c.whole.result c.whole.ensures
+
+pub returns-clause-one : goal.returns-clause-one
+returns-clause-one c =
+    let made = c.in_ok-tree.ensures in
+    result-one c.args.file c.args.tokens.now c.in_ok-tree.rest.now c.in_ok-tree.tree made.chosen made.formed made.spells c.whole.result c.whole.ensures

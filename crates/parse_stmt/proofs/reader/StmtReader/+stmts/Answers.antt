@@ -1,4 +1,4 @@
-use Rattle.std.proofs.Common.{◌≡◌, ◌≢◌, ◌++◌, ◌&&◌, true, false, map, length, refl, sym, ap, ◌∙◌, subst, arith}
+use Rattle.std.proofs.Common.{◌≡◌, [], ◌∷◌, ◌++◌, ◌&&◌, true, false, map, length, Some, refl, sym, ap, ◌∙◌, subst, arith}
 use Rattle.std.specs.List.{list_all}
 use Rattle.bal_base.specs.declared.token.Keyword.TheVariants.{Match as MatchKey}
 use Rattle.bal_base.specs.declared.token.Sign.TheVariants.{OpenBrace, CloseBrace}
@@ -10,13 +10,19 @@ use Rattle.bal_tree.specs.Spells.{Spells, kinds_of}
 use Rattle.bal_tree.specs.StmtPieces.{block_pieces, clause_pieces, foreach_head, if_pieces, stmt_pieces}
 use Rattle.bal_tree.specs.StmtRules.{block_is_formed, clause_is_formed, if_is_formed, local_type_is_formed, range_is_formed, stmt_is_formed}
 use Rattle.bal_tree.specs.declared.stmt.Stmt.TheVariants.{Foreach, Match}
+use Rattle.bal_tree.proofs.Spelling.{spells-onto}
+use Rattle.parse_types.specs.Loops.{◌>>=◌, many}
 use Rattle.parse_types.proofs.Commas.{spells-joined}
 use Rattle.parse_types.proofs.Holding.{leaves-missing, leaves-found}
 use Rattle.parse_types.proofs.Law.{both_pass}
 use Rattle.parse_types.proofs.Levels.{loop-more, loop-done}
 use Rattle.parse_types.proofs.Readings.{all-push, both-true, kinds-less, reads-as}
-use Rattle.parse_stmt.specs.Reaches.{clause, clauses, inside, stmt, stmts}
+use Rattle.parse_stmt.specs.Chosen.{AreChosen, led_in_clause, led_in_clauses, led_in_else, led_in_stmt, led_in_stmts}
+use Rattle.parse_stmt.specs.Reaches.{clause, clauses, inside, stmt}
+use Rattle.parse_stmt.proofs.ChosenMaking.{block-chosen, block-stmt-chosen, clause-chosen, else-block-chosen, else-if-chosen, foreach-chosen, if-chosen, if-stmt-chosen, match-chosen, more-chosen, none-chosen, while-chosen, whole-chosen}
+use Rattle.parse_stmt.proofs.ChosenReading.{own-chosen}
 use Rattle.parse_stmt.proofs.Going.{stmts-is}
+use Rattle.parse_stmt.proofs.KnownAll.{known}
 use Rattle.parse_stmt.proofs.Making.{block-made, block-made-formed, foreach-formed, foreach-pieces, match-formed, match-pieces}
 use Rattle.parse_stmt.proofs.StmtReadings.{has-one-more, inside-leaves, on-done, on-goes, shorter-of}
 use Rattle.parse_stmt.proofs.reader.StmtReader.+stmts.Goals as goal
@@ -43,10 +49,13 @@ stmts-loop-stmts-preserved t c =
     let ok = rw c.in-Some.is at c.in_ok-s.ensures in
     let found = leaves-found (step (kinds_of rest)) c.stmt.result (next, c.in-Some.after) ok c.stmt.ensures.end in
     let reads = rw ok at c.stmt.ensures.reads in
+    let within = rw ok at c.stmt.ensures.chosen in
+    let own = own-chosen known c.args.room (stmt_pieces next) (kinds_of after) (ap step (sym (spells-onto c.args.self.file (stmt_pieces next) rest after reads.spells)) ∙ found) in
     let items = c.in_ok-push.ensures.items in
     let inner = inside c.args.room in
     record {
       goes = stmts-is inner ks ∙ on-goes step ks (kinds_of rest) (kinds_of after) (sym (stmts-is inner ks) ∙ front.goes ∙ stmts-is inner (kinds_of rest)) found (kinds-less after rest reads.shorter) ∙ sym (stmts-is inner (kinds_of after));
+      chosen = subst (λ l. AreChosen (led_in_stmts l)) (sym items) (more-chosen led_in_stmt old next front.chosen (whole-chosen (stmt_pieces next) (led_in_stmt next) within own));
       formed = ap (list_all stmt_is_formed) items ∙ all-push stmt_is_formed old next front.formed reads.formed;
       spells = subst (λ l. Spells c.args.self.file (joined (map stmt_pieces l)) c.args.tokens.now after) (sym items) (spells-joined stmt_pieces c.args.self.file old next c.args.tokens.now rest after front.spells reads.spells);
       no_longer = omega (arith, reads.shorter, front.no_longer);
@@ -85,6 +94,24 @@ block-returns-clause-reads t c =
 
 -- ---- clauses
 
+pub clauses-loop-clauses-init : goal.clauses-loop-clauses-init
+clauses-loop-clauses-init t c =
+    let file = c.args.self.file in
+    let tokens = c.args.tokens.now in
+    let first = c.in_ok-first.first in
+    let rest = c.in_ok-first.rest.now in
+    let reads = c.in_ok-first.ensures.reads in
+    let none = c.new-clauses.ensures.items in
+    let items : c.push.new.self.items ≡ first ∷ [] = c.in_ok-push.ensures.items ∙ ap (λ l. l ++ first ∷ []) none in
+    record {
+      goes = ap (λ o. o >>= λ a. Some (many length (clause (inside c.args.room)) a)) c.in_ok-first.ensures.end;
+      some = ap has_members items;
+      chosen = subst (λ l. AreChosen (led_in_clauses l)) (sym items) (more-chosen led_in_clause [] first none-chosen c.in_ok-first.ensures.chosen);
+      formed = ap (list_all clause_is_formed) items ∙ all-push clause_is_formed [] first refl reads.formed;
+      spells = subst (λ l. Spells file (joined (map clause_pieces l)) tokens rest) (sym items) (spells-joined clause_pieces file [] first tokens tokens rest refl reads.spells);
+      shorter = reads.shorter;
+    }
+
 pub clauses-loop-clauses-preserved : goal.clauses-loop-clauses-preserved
 clauses-loop-clauses-preserved t c =
     let step = clause (inside c.args.room) in
@@ -100,6 +127,7 @@ clauses-loop-clauses-preserved t c =
     record {
       goes = loop-more length step (clauses (inside c.args.room) (kinds_of c.args.tokens.now)) (kinds_of rest) (kinds_of after) front.goes (sym found) (kinds-less after rest reads.shorter);
       some = ap has_members items ∙ has-one-more old next;
+      chosen = subst (λ l. AreChosen (led_in_clauses l)) (sym items) (more-chosen led_in_clause old next front.chosen (rw ok at c.clause-in-loop-clauses.ensures.chosen));
       formed = ap (list_all clause_is_formed) items ∙ all-push clause_is_formed old next front.formed reads.formed;
       spells = subst (λ l. Spells c.args.self.file (joined (map clause_pieces l)) c.args.tokens.now after) (sym items) (spells-joined clause_pieces c.args.self.file old next c.args.tokens.now rest after front.spells reads.spells);
       shorter = omega (arith, reads.shorter, front.shorter);
@@ -149,3 +177,39 @@ foreach-returns-clause-reads t c =
       spells = (tokens, (c.place-at.ensures, refl), (c.in_ok-ty.rest.now, h.spells, b.spells));
       shorter = omega (arith, h.shorter, b.shorter);
     }
+
+-- ---- what is chosen
+
+pub block-returns-clause-chosen : goal.block-returns-clause-chosen
+block-returns-clause-chosen t c = block-chosen c.new.result c.in_ok-stmts.stmts c.new.ensures.stmts c.in_ok-stmts.ensures.chosen
+
+pub if_stmt-returns-clause-chosen : goal.if_stmt-returns-clause-chosen
+if_stmt-returns-clause-chosen t c =
+    let made = c.new.ensures in
+    if-chosen c.new.result c.in_ok-then.then c.in_ok-otherwise.otherwise made.then made.otherwise c.in_ok-then.ensures.chosen c.in_ok-otherwise.ensures.chosen
+
+pub while_stmt-returns-clause-chosen : goal.while_stmt-returns-clause-chosen
+while_stmt-returns-clause-chosen t c = while-chosen c.in_ok-condition.condition c.in_ok-body.body c.place-at.result c.in_ok-body.ensures.chosen
+
+pub foreach-returns-clause-chosen : goal.foreach-returns-clause-chosen
+foreach-returns-clause-chosen t c =
+    let head = c.in_ok-ty in
+    foreach-chosen head.ty head.name head.from head.range c.in_ok-body.body c.place-at.result c.in_ok-body.ensures.chosen
+
+pub match_stmt-returns-clause-chosen : goal.match_stmt-returns-clause-chosen
+match_stmt-returns-clause-chosen t c = match-chosen c.in_ok-value.value c.in_ok-clauses.clauses c.place-at.result c.in_ok-clauses.ensures.chosen
+
+pub clause-returns-clause-chosen : goal.clause-returns-clause-chosen
+clause-returns-clause-chosen t c = clause-chosen c.new.result c.in_ok-body.body c.new.ensures.body c.in_ok-body.ensures.chosen
+
+pub brace_stmt-returns-clause-chosen : goal.brace_stmt-returns-clause-chosen
+brace_stmt-returns-clause-chosen t c = block-stmt-chosen c.in_ok-block.block c.in_ok-block.ensures.chosen
+
+pub keyword_stmt-returns-in_ok-s-in-If-clause-chosen : goal.keyword_stmt-returns-in_ok-s-in-If-clause-chosen
+keyword_stmt-returns-in_ok-s-in-If-clause-chosen t c = if-stmt-chosen c.in_ok-s-in-If.s c.in_ok-s-in-If.ensures.chosen
+
+pub else_behind-returns-then-is_some-clause-chosen : goal.else_behind-returns-then-is_some-clause-chosen
+else_behind-returns-then-is_some-clause-chosen t c = subst (λ e. AreChosen (led_in_else e)) (sym c.in_ok-new.ensures.ok) (else-if-chosen c.in_ok-s.s c.in_ok-s.ensures.chosen)
+
+pub else_behind-returns-clause-chosen : goal.else_behind-returns-clause-chosen
+else_behind-returns-clause-chosen t c = subst (λ e. AreChosen (led_in_else e)) (sym c.in_ok-new-2.ensures.ok) (else-block-chosen c.in_ok-b.b c.in_ok-b.ensures.chosen)

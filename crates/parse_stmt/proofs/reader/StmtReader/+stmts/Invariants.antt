@@ -1,4 +1,4 @@
-use Rattle.std.proofs.Common.{◌≡◌, ◌+◌, ◌*◌, ◌≤◌, ◌<◌, ◌&&◌, true, Some, map, length}
+use Rattle.std.proofs.Common.{◌≡◌, ◌+◌, ◌*◌, ◌≤◌, ◌<◌, true, Some, map, length}
 use Rattle.std.specs.List.{list_all}
 use Rattle.bal_tree.specs.ActionRules.{has_members}
 use Rattle.bal_tree.specs.Pieces.{joined}
@@ -6,6 +6,7 @@ use Rattle.bal_tree.specs.Spells.{Spells, kinds_of}
 use Rattle.bal_tree.specs.StmtPieces.{clause_pieces, stmt_pieces}
 use Rattle.bal_tree.specs.StmtRules.{clause_is_formed, stmt_is_formed}
 use Rattle.parse_types.specs.Loops.{many}
+use Rattle.parse_stmt.specs.Chosen.{AreChosen, led_in_clauses, led_in_stmts}
 use Rattle.parse_stmt.specs.Reaches.{clause, clauses, inside, stmts}
 use Rattle.parse_stmt.proofs.reader.StmtReader.+stmts.Given as goal
 
@@ -57,6 +58,7 @@ decreases-clause l = l.room * 16 + 2
 abbrev pub invariant-stmts-loop-stmts : goal.invariant-stmts-loop-stmts
 invariant-stmts-loop-stmts l = record {
   goes : stmts (inside l.room) (kinds_of l.fn.tokens) ≡ stmts (inside l.room) (kinds_of l.rest);
+  chosen : AreChosen (led_in_stmts l.stmts.items);
   formed : list_all stmt_is_formed l.stmts.items ≡ true;
   spells : Spells l.self.file (joined (map stmt_pieces l.stmts.items)) l.fn.tokens l.rest;
   no_longer : length l.rest ≤ length l.fn.tokens;
@@ -69,6 +71,7 @@ abbrev pub invariant-clauses-loop-clauses : goal.invariant-clauses-loop-clauses
 invariant-clauses-loop-clauses l = record {
   goes : clauses (inside l.room) (kinds_of l.fn.tokens) ≡ Some (many length (clause (inside l.room)) (kinds_of l.rest));
   some : has_members l.clauses.items ≡ true;
+  chosen : AreChosen (led_in_clauses l.clauses.items);
   formed : list_all clause_is_formed l.clauses.items ≡ true;
   spells : Spells l.self.file (joined (map clause_pieces l.clauses.items)) l.fn.tokens l.rest;
   shorter : length l.rest < length l.fn.tokens;

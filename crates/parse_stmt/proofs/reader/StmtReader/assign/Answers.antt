@@ -1,4 +1,4 @@
-use Rattle.std.proofs.Common.{◌≡◌, ◌&&◌, true, refl, arith}
+use Rattle.std.proofs.Common.{◌&&◌, true, refl, arith}
 use Rattle.bal_tree.specs.ActionRules.{rhs_is_formed}
 use Rattle.bal_tree.specs.Pieces.{starts, ◌&◌, sign}
 use Rattle.bal_tree.specs.StmtPieces.{stmt_pieces, assign_sign, ended, target_pieces}
@@ -6,6 +6,7 @@ use Rattle.bal_tree.specs.StmtRules.{stmt_is_formed, target_is_formed}
 use Rattle.bal_tree.specs.declared.stmt.Stmt.TheVariants.{Assign}
 use Rattle.parse_types.proofs.Readings.{both-true, reads-as}
 use Rattle.parse_stmt.proofs.Making.{assign-pieces, assign-formed}
+use Rattle.parse_stmt.proofs.ChosenMaking.{assign-chosen}
 use Rattle.parse_stmt.proofs.reader.StmtReader.assign.Goals as goal
 
 pub returns-clause-reads : goal.returns-clause-reads
@@ -25,3 +26,6 @@ returns-clause-reads c =
       spells = (tokens, (c.place-at.ensures, refl), (c.in_ok-target.rest.now, t.spells, (c.in_ok-op.rest.now, o.spells, v.spells)));
       shorter = omega (arith, t.shorter, o.shorter, v.shorter);
     }
+
+pub returns-clause-chosen : goal.returns-clause-chosen
+returns-clause-chosen c = assign-chosen c.in_ok-target.target c.in_ok-op.op c.in_ok-value.value c.place-at.result
