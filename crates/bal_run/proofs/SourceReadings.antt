@@ -18,6 +18,7 @@ use Rattle.parse_types.specs.Nesting.{first_too_deep}
 use Rattle.parse_types.specs.Starts.{refusal}
 use Rattle.bal_base.specs.declared.fault.FaultCode.TheVariants.{Depth, NoMain, NotBuilt}
 use Rattle.bal_tree.specs.Spells.{first_place}
+use Rattle.parse_stmt.specs.Chosen.{IsChosen}
 use Rattle.parse_stmt.specs.Starts.{IsBroken, IsFileTooDeep, IsNotRefused, IsRefused, IsWrong, begun_pieces, front_pieces}
 use Rattle.bal_run.specs.Source.{HasFault, HasNoTree, HasTokens, IsPlaced, IsText, LacksMain, NotText, NotTokens, ReadsAs, TooLong, fault_at, fault_of}
 use Rattle.bal_tree.specs.declared.def.Def.{Def}
@@ -130,23 +131,23 @@ module _ (text : List ℕ) (t : IsText text) where
     parsed-placed f spans (inr b) = wrong-placed b.1.0 f (behind-pieces text 0 (front_pieces b.1.1.imports b.1.1.defs) tokens b.1.0 b.1.1.spells (are-tokens spans)) b.1.2
 
     pub parses :
-        (r : Result FileTree (Stop FaultOf)) → AreSpans text 0 tokens → IfOk r (Reads 0 tokens)
+        (r : Result FileTree (Stop FaultOf)) → AreSpans text 0 tokens → IfOk r (Reads 0 tokens) → IfOk r (λ tree. IsChosen tree)
         → IfOk r (λ tree. first_too_deep (kinds_of tokens) ≡ None)
         → IfFault r (λ f. IsFileTooDeep 0 tokens f ⊎ IsBroken 0 tokens f)
         → ((f : FaultOf) → IsBroken 0 tokens f → IsRefused r f)
         → ((tree : FileTree) → Reads 0 tokens tree → first_too_deep (kinds_of tokens) ≡ None → IsNotRefused r)
         → IsTreeReading text r
-    parses (Ok tree) spans reads none refused exact complete =
+    parses (Ok tree) spans reads chosen none refused exact complete =
         record {
-          reads = record { tokens = tokens; are = (t, are); shallow = none; reads = reads };
+          reads = record { tokens = tokens; are = (t, are); shallow = none; reads = reads; chosen = chosen };
           fault = tt;
           placed = tt;
           fault_due = λ g due. ⊎_elim (λ d. deep-or-not g d none) (λ b. exact g b) (due-here g due);
           tree_due = λ other h. tt;
         }
-    parses (Err Memory) spans reads none refused exact complete =
+    parses (Err Memory) spans reads chosen none refused exact complete =
         record { reads = tt; fault = tt; placed = tt; fault_due = λ g due. tt; tree_due = λ other h. tt }
-    parses (Err (Fault f)) spans reads none refused exact complete =
+    parses (Err (Fault f)) spans reads chosen none refused exact complete =
         record {
           reads = tt;
           fault = parsed-fault f refused;
@@ -157,7 +158,7 @@ module _ (text : List ℕ) (t : IsText text) where
 
 -- ---- and then as a program
 
--- two trees of a text are trees of the same tokens
+-- two chosen trees of a text are trees of the same tokens
 same-kinds : (text : List ℕ) (t u : FileTree) → ReadsAs text t → ReadsAs text u → OneReading t u
 same-kinds text t u h k =
     one-reading h.tokens t u h.reads (subst (λ l. Reads 0 l u) (lexes-same k.are.1 h.are.1) k.reads)

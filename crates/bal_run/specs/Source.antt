@@ -15,6 +15,7 @@ use Rattle.bal_tree.specs.declared.def.FileTree.{FileTree}
 use Rattle.bal_tree.specs.Reads.{Reads}
 use Rattle.bal_tree.specs.Spells.{kinds_of}
 use Rattle.parse_types.specs.Nesting.{first_too_deep}
+use Rattle.parse_stmt.specs.Chosen.{IsChosen}
 use Rattle.parse_stmt.specs.Starts.{IsBroken, IsFileTooDeep}
 use Rattle.bal_run.specs.Sums.{HasMain, IsSumProgram}
 
@@ -28,14 +29,15 @@ IsText bytes = (length bytes ≤ MOST_FILE_BYTES) × IsUtf8 bytes
 abbrev pub HasTokens : List ℕ → List Token → Type 0
 HasTokens bytes tokens = IsText bytes × Lexes (chars bytes) tokens
 
--- the file reads: no token is too deep, and this is a tree of its tokens
+-- the file reads: no token is too deep, and this is the chosen tree of its tokens
 pub record ReadsAs (bytes : List ℕ) (tree : FileTree) : Type 0 where
   pub tokens : List Token
   pub are : HasTokens bytes tokens
   pub shallow : first_too_deep (kinds_of tokens) ≡ None
   pub reads : Reads 0 tokens tree
+  pub chosen : IsChosen tree
 
--- the file reads, and this is so of a tree of it
+-- the file reads, and this is so of its tree
 abbrev pub ReadsWith : List ℕ → (FileTree → Type 0) → Type 0
 ReadsWith bytes P = (tree : FileTree) × ReadsAs bytes tree × P tree
 

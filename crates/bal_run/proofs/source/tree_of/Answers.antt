@@ -10,4 +10,4 @@ returns c =
     let lexed = c.in_ok-tokens.ensures in
     let parsed = c.parse_file.ensures in
     parses text c.requires c.as_slice.result.now (subst (Lexes (chars text)) same lexed.tokens) c.parse_file.result
-    (subst (AreSpans text 0) same lexed.spans) parsed.reads parsed.not_deep parsed.refused parsed.exact parsed.complete
+    (subst (AreSpans text 0) same lexed.spans) parsed.reads parsed.chosen parsed.not_deep parsed.refused parsed.exact parsed.complete
