@@ -5,7 +5,8 @@ use Rattle.flow_narrowing.specs.declared.flow.Variable.{Variable}
 use Rattle.flow_narrowing.specs.declared.changes.Change.{Change}
 
 abbrev pub with_narrowed : Variable → Option Shared → Variable
-with_narrowed v t = record { name = v.name; declared = v.declared; narrowed = t; assigned = v.assigned }
+with_narrowed v t =
+    record { name = v.name; slot = v.slot; declared = v.declared; narrowed = t; fixed = v.fixed; assigned = v.assigned; captured = v.captured }
 
 -- the variables, where the one of the slot has this narrowed type
 abbrev pub put : List Variable → ℕ → Option Shared → List Variable

@@ -60,14 +60,21 @@ NarrowedTo env First v w u = AreSame v.narrowed u
 NarrowedTo env Second v w u = AreSame w.narrowed u
 NarrowedTo env Both v w u = UnionOf env v w v.narrowed w.narrowed u
 
+-- the same variable, whatever its narrowed type
+pub record IsSameVariable (v u : Variable) : Type 0 where
+  pub name : u.name ≡ v.name
+  pub slot : u.slot ≡ v.slot
+  pub declared : u.declared.value ≡ v.declared.value
+  pub fixed : u.fixed ≡ v.fixed
+  pub assigned : u.assigned ≡ v.assigned
+  pub captured : u.captured ≡ v.captured
+
 -- what is known of one variable, of which v and w are known in the two ways
 pub record IsJoined (env : List AtomDef) (which : Joins) (v w u : Variable) : Type 0 where
-  pub name : u.name ≡ v.name
-  pub declared : u.declared.value ≡ v.declared.value
+  pub same : IsSameVariable v u
   pub narrowed : NarrowedTo env which v w u.narrowed
-  pub assigned : u.assigned ≡ (v.assigned || w.assigned)
 
--- so many variables are joined, slot by slot
+-- so many variables are joined, one by one
 pub record AreJoined (env : List AtomDef) (which : Joins) (count : ℕ) (vs ws us : List Variable) : Type 0 where
   pub length : length us ≡ count
   pub each : (i : ℕ) (v w : Variable) → i < count → slice_get vs i ≡ Some v → slice_get ws i ≡ Some w → IsSomeAnd (slice_get us i) (IsJoined env which v w)

@@ -11,19 +11,26 @@ use std::rc::Rc;
 use type_model::{Choice, ChoiceList, SemType, Ty, Types};
 use typed_tree::SharedTy;
 
-/// A variable of a unit, as it is known at a place.
+/// A variable that is seen at a place, as it is known there: a parameter, a captured variable, a local one or that of a
+/// loop.
 #[derive(Drop)]
 pub struct Variable {
     pub name: Name,
+    /// Its slot in the unit. Slots that constructs take for themselves lie between those of variables.
+    pub slot: u32,
     /// The type that it was declared with.
     pub declared: SharedTy,
     /// The type that it has at the place, unless that is the declared one.
     pub narrowed: Option<SharedTy>,
+    /// Whether it can't be assigned: it is final, a parameter, or that of a loop.
+    pub fixed: bool,
     /// Whether it is assigned after its declaration.
     pub assigned: bool,
+    /// Whether it is a copy of a variable around the unit.
+    pub captured: bool,
 }
 
-/// Variables in the order of their slots.
+/// Variables in the order of their declarations.
 pub type VariableList = Row<Variable>;
 
 /// The variables that are visible at a place, and whether the place is reached.
@@ -132,9 +139,12 @@ fn joined<T: Types>(
     let declared = v.declared.clone()?;
     Ok(Variable {
         name: v.name.share(),
+        slot: v.slot,
         declared,
         narrowed,
-        assigned: v.assigned || w.assigned,
+        fixed: v.fixed,
+        assigned: v.assigned,
+        captured: v.captured,
     })
 }
 
