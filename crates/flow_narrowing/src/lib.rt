@@ -7,8 +7,8 @@
 //!
 //! - [`narrow_true`], [`narrow_false`]: the types where a test holds and where it doesn't.
 //! - [`Flow`], [`Variable`]: what is known at a place, and [`Flow::join`] where two ways meet (`specs/Flows.antt`).
-//! - [`Flows`], [`Change`], [`End`]: the variables of a body that is walked, with a log of changes
-//!   (`specs/Changes.antt`); [`ways_leave_no_trace`]: its laws.
+//! - [`Flows`]: the variables of a body that is walked, with a log of changes, [`Change`], from the [`Mark`] where a way
+//!   begins to its [`End`] (`specs/Changes.antt`); [`ways_leave_no_trace`]: the laws of logs.
 #![tactic(auto)]
 
 mod changes;
@@ -17,6 +17,6 @@ mod judging;
 mod kind;
 mod narrowed;
 
-pub use changes::{Change, End, Flows, ways_leave_no_trace};
+pub use changes::{Change, End, Flows, Mark, ways_leave_no_trace};
 pub use flow::{Flow, Variable, VariableList};
 pub use narrowed::{narrow_false, narrow_true};

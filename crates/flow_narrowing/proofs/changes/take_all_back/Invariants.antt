@@ -1,4 +1,4 @@
-use Rattle.std.proofs.Common.{◌≡◌, ◌≤◌, ◌+◌, ◌-◌, length}
+use Rattle.std.proofs.Common.{◌≤◌, ◌-◌}
 use Rattle.flow_narrowing.proofs.Undoing.{IsTaking}
 use Rattle.flow_narrowing.proofs.changes.take_all_back.Given as goal
 
