@@ -1,6 +1,5 @@
 -- What narrowing gives has the values that it should: those that passed the test, and those that failed it.
-use Rattle.std.proofs.Common.{IfOk, Result, Ok, Err, ◌≡◌, ◌⊎◌, ◌↔◌, ℕ, List, Bool, true, false, All, Option, Some, None, IfSome, IsSomeAnd, slice_get, ⊎_elim, inl, inr, refl, sym, subst, ap, ◌∙◌}
-use Rattle.std.specs.Prelude.{IsTrue, IsFalse}
+use Rattle.std.proofs.Common.{IfOk, Result, Ok, Err, ◌≡◌, ◌⊎◌, ℕ, List, Bool, true, false, All, Option, Some, None, IfSome, IsSomeAnd, slice_get, ⊎_elim, inl, inr, refl, sym, subst, ap, ◌∙◌}
 use Rattle.std.proofs.lemmas.List.Elements.{All-get_or}
 use Rattle.std.proofs.lemmas.Option.{get_or_from_slice_get, slice_get_within}
 use Rattle.bal_base.specs.declared.shape.Shape.{Shape, Nil as NilShape, Bool as BoolShape, Int as IntShape, Str as StrShape, List', Mapping', Error', Function as FunctionShape, Future'}
@@ -15,8 +14,8 @@ use Rattle.type_model.specs.Membership.{Fits, In}
 use Rattle.type_model.proofs.SameShapes.{In-same}
 use Rattle.value_model.specs.declared.value.Value.{Value}
 use Rattle.value_model.specs.declared.value.Value.TheVariants.{Nil, Bool as Truth, Int, Str, Struct, Error, Function, Future}
-use Rattle.value_model.specs.Heap.{Heap, Structure}
-use Rattle.value_model.specs.Stands.{OwnTypes, Belongs, HasShape, IsUnmarked, Stands, StructureStands}
+use Rattle.value_model.specs.Heap.{Heap}
+use Rattle.value_model.specs.Stands.{OwnTypes, HasShape, IsUnmarked, Stands, StructureStands}
 use Rattle.value_model.proofs.OneShape.{one}
 use Rattle.flow_narrowing.specs.Belonging.{AreMade, AtomIs, EachBelongs, Fails, IsOfFunctions, IsOfFutures, IsOfStructures, Passes}
 use Rattle.flow_narrowing.specs.Narrowed.{LiesIn, MayFail, Part, Plain, Lists, Mappings, Functions, Futures, WhereFalse, WhereTrue, part_of}

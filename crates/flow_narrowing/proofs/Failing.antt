@@ -1,6 +1,6 @@
 -- Which shapes may belong to values that failed a test, from what was judged of each kind.
-use Rattle.std.proofs.Common.{IfOk, Result, Ok, Err, ◌∙◌, ◌≡◌, ◌⊎◌, ◌↔◌, ℕ, List, Bool, true, false, Option, Some, None, ⊎_elim, inl, inr, refl, sym, subst}
-use Rattle.std.specs.Prelude.{IsTrue, IsFalse}
+use Rattle.std.proofs.Common.{IfOk, Result, Ok, Err, ◌∙◌, ◌≡◌, ◌⊎◌, ◌↔◌, List, Bool, true, false, Some, None, ⊎_elim, inl, inr, refl, sym, subst}
+use Rattle.std.specs.Prelude.{IsTrue}
 use Rattle.bal_base.specs.declared.shape.Shape.{Shape, Nil, Bool as BoolShape, Int, Str, List', Mapping', Error', Function, Future'}
 use Rattle.bal_base.specs.Valid.{IsValid}
 use Rattle.bal_base.specs.declared.stop.Memory.{Memory as NoMemory}
@@ -10,11 +10,11 @@ use Rattle.type_model.specs.declared.answers.TypeLimit.{TypeLimit}
 use Rattle.type_model.specs.declared.answers.Answer.{Answer}
 use Rattle.type_model.specs.declared.answers.Answer.TheVariants.{Yes, No}
 use Rattle.type_model.specs.declared.atoms.AtomDef.{AtomDef}
-use Rattle.type_model.specs.declared.basic.BasicSet.TheVariants.{ListAll, MappingAll, FunctionAll, FutureAll, Readonly}
+use Rattle.type_model.specs.declared.basic.BasicSet.TheVariants.{ListAll, MappingAll, FunctionAll, FutureAll}
 use Rattle.type_model.specs.declared.basic.SemType.{SemType, Basic, And'}
 use Rattle.type_model.specs.declared.basic.Ty.{Ty}
 use Rattle.type_model.specs.Basic.{InBasic}
-use Rattle.type_model.specs.Inclusion.{AnswersSub, HaveSameShapes, Sub}
+use Rattle.type_model.specs.Inclusion.{AnswersSub, HaveSameShapes}
 use Rattle.type_model.specs.Membership.{In}
 use Rattle.type_model.specs.SameType.{IsSameType}
 use Rattle.type_model.proofs.SameTypes.{In-same}
@@ -22,7 +22,7 @@ use Rattle.flow_narrowing.specs.declared.kind.Kind.{Kind}
 use Rattle.flow_narrowing.specs.declared.kind.Kind.TheVariants as kind
 use Rattle.flow_narrowing.specs.Asked.{IsBoth, IsNot, IsOpenPart, IsOpenSet, open_part, all_of}
 use Rattle.flow_narrowing.specs.Judged.{IsFailing, IsJudged, Settles, kind_of}
-use Rattle.flow_narrowing.specs.Narrowed.{LiesIn, MayFail, Part, Plain, Lists, Mappings, Functions, Futures, WhereFalse, WhereTrue, part_of}
+use Rattle.flow_narrowing.specs.Narrowed.{LiesIn, Part, Lists, Mappings, Functions, Futures, WhereFalse, WhereTrue, part_of}
 use Rattle.flow_narrowing.proofs.Written.{both-in, in-unmarked, not-in, unmarked-in}
 
 -- ---- the open part of a kind is what the question asks about

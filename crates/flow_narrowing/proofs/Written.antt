@@ -1,12 +1,10 @@
 -- What types that are written from others have.
-use Rattle.std.proofs.Common.{◌≡◌, ◌⊎◌, ◌↔◌, ℕ, List, Bool, true, false, Option, Some, None, ⊎_elim, inl, inr, refl, sym, subst}
-use Rattle.std.specs.Prelude.{IsTrue, IsFalse}
-use Rattle.bal_base.specs.declared.shape.Shape.{Shape, Nil, Bool as BoolShape, Int, Str, List', Mapping', Error', Function, Future'}
-use Rattle.bal_base.specs.Valid.{IsValid}
+use Rattle.std.proofs.Common.{◌⊎◌, ◌↔◌, ℕ, List, ⊎_elim, inl, inr, sym, subst}
+use Rattle.bal_base.specs.declared.shape.Shape.{Shape}
 use Rattle.type_model.specs.declared.atoms.AtomDef.{AtomDef}
 use Rattle.type_model.specs.declared.basic.BasicSet.{BasicSet}
 use Rattle.type_model.specs.declared.basic.BasicSet.TheVariants.{ListAll, MappingAll, FunctionAll, FutureAll, Readonly}
-use Rattle.type_model.specs.declared.basic.SemType.{SemType, Basic, Atom, Or', And', Not'}
+use Rattle.type_model.specs.declared.basic.SemType.{SemType, Basic, Or', And', Not'}
 use Rattle.type_model.specs.Basic.{InBasic}
 use Rattle.type_model.specs.Defined.{NamesBelow}
 use Rattle.type_model.specs.Membership.{In}
@@ -14,9 +12,7 @@ use Rattle.type_model.specs.SameType.{IsSameType}
 use Rattle.type_model.proofs.SameTypes.{In-same, NamesBelow-same}
 use Rattle.flow_narrowing.specs.declared.kind.Kind.{Kind}
 use Rattle.flow_narrowing.specs.declared.kind.Kind.TheVariants as kind
-use Rattle.flow_narrowing.specs.Asked.{IsBoth, IsEither, IsNot, IsOpenPart, IsOpenSet, IsUnmarkedSet, open_part, all_of}
-use Rattle.flow_narrowing.specs.Judged.{kind_of}
-use Rattle.flow_narrowing.specs.Narrowed.{part_of}
+use Rattle.flow_narrowing.specs.Asked.{IsBoth, IsEither, IsNot, IsOpenPart, IsOpenSet, IsUnmarkedSet}
 
 -- ---- the shapes of both, and those that aren't in one
 

@@ -1,10 +1,10 @@
 -- The questions that narrowing asks: of each kind of values that stand for many shapes, whether this part of S lies in T.
-use Rattle.std.specs.Prelude.{List, false, ⊤}
+use Rattle.std.specs.Prelude.{List, false}
 use Rattle.type_model.specs.declared.answers.TypeLimit.{TypeLimit}
 use Rattle.type_model.specs.declared.atoms.AtomDef.{AtomDef}
 use Rattle.type_model.specs.declared.basic.BasicSet.{BasicSet}
 use Rattle.type_model.specs.declared.basic.BasicSet.TheVariants.{ListAll, MappingAll, FunctionAll, FutureAll, Readonly}
-use Rattle.type_model.specs.declared.basic.SemType.{SemType, Basic, Atom, Or', And', Not'}
+use Rattle.type_model.specs.declared.basic.SemType.{SemType, Basic, Or', And', Not'}
 use Rattle.type_model.specs.Calls.{Asked, Without}
 use Rattle.type_model.specs.SameType.{IsSameType}
 use Rattle.flow_narrowing.specs.declared.kind.Kind.{Kind}

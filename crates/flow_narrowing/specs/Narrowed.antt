@@ -1,5 +1,5 @@
 -- What a test leaves of the type of a variable: of S, where it is tested for T.
-use Rattle.std.specs.Prelude.{◌≡◌, ◌⊎◌, List, Bool, true, false}
+use Rattle.std.specs.Prelude.{◌≡◌, List, Bool, true, false}
 use Rattle.bal_base.specs.declared.shape.Shape.{Shape, Nil, Bool as BoolShape, Int, Str, List', Mapping', Error', Function, Future'}
 use Rattle.bal_base.specs.Valid.{IsValid}
 use Rattle.type_model.specs.declared.atoms.AtomDef.{AtomDef}

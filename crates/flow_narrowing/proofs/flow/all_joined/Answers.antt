@@ -1,4 +1,4 @@
-use Rattle.std.proofs.Common.{◌≡◌, ◌++◌, ◌∷◌, ◌+◌, ◌<◌, [], length, rules, refl, arith}
+use Rattle.std.proofs.Common.{◌≡◌, ◌++◌, ◌∷◌, ◌<◌, [], length, rules, refl, arith}
 use Rattle.std.proofs.lemmas.Option.{slice_get_read}
 use Rattle.flow_narrowing.proofs.Joining.{one-joined}
 use Rattle.flow_narrowing.proofs.flow.all_joined.Goals as goal
