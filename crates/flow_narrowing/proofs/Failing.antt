@@ -20,9 +20,10 @@ use Rattle.type_model.specs.SameType.{IsSameType}
 use Rattle.type_model.proofs.SameTypes.{In-same}
 use Rattle.flow_narrowing.specs.declared.kind.Kind.{Kind}
 use Rattle.flow_narrowing.specs.declared.kind.Kind.TheVariants as kind
+use Rattle.descriptors.specs.Described.{HasMeaning}
 use Rattle.flow_narrowing.specs.Asked.{IsBoth, IsNot, IsOpenPart, IsOpenSet, open_part, all_of}
 use Rattle.flow_narrowing.specs.Judged.{IsFailing, IsJudged, Settles, kind_of}
-use Rattle.flow_narrowing.specs.Narrowed.{LiesIn, Part, Lists, Mappings, Functions, Futures, WhereFalse, WhereTrue, part_of}
+use Rattle.flow_narrowing.specs.Narrowed.{LiesIn, Part, Lists, Mappings, Functions, Futures, WhereFalse, part_of}
 use Rattle.flow_narrowing.proofs.Written.{both-in, in-unmarked, not-in, unmarked-in}
 
 -- ---- the open part of a kind is what the question asks about
@@ -195,33 +196,35 @@ failing-from m0 m1 m2 m3 s t a b c d (Err stop) e1 e2 e3 negated lists mappings 
 
 -- ---- the types that are given
 
-module _ (env : List AtomDef) (s t : Ty) (u c : SemType) where
-  pub where-true : IsBoth (IsSameType s.sem) (IsSameType t.sem) u → HaveSameShapes env c u → WhereTrue env s t (record { sem = c; lists = t.lists; maps = t.maps })
-  where-true is same = record {
-    shapes = λ x valid. then (same x valid) (both-in env x s.sem t.sem u is);
-    lists = refl;
-    maps = refl;
-  }
-
-  pub where-false : (f : SemType) → IsFailing env s.sem t.sem f → IsBoth (IsSameType s.sem) (IsSameType f) u → HaveSameShapes env c u
-      → WhereFalse env s t (record { sem = c; lists = s.lists; maps = s.maps })
-  where-false f failing is same = record {
-    shapes = λ x valid. (
-      λ h. let both = (then (same x valid) (both-in env x s.sem f u is)).0 h in (both.0, (failing x valid both.0).0 both.1),
-      λ h. (then (same x valid) (both-in env x s.sem f u is)).1 (h.0, (failing x valid h.0).1 h.1),
-    );
+module _ (env : List AtomDef) (s t u c : SemType) (choices : Ty) where
+  both-written : IsBoth (IsSameType s) (IsSameType t) u → HaveSameShapes env c u
+      → HasMeaning (λ x. In env x s × In env x t) choices.lists choices.maps env (record { sem = c; lists = choices.lists; maps = choices.maps })
+  both-written is same = record {
+    shapes = λ x valid. then (same x valid) (both-in env x s t u is);
     lists = refl;
     maps = refl;
   }
 
 -- ---- what the calls give
 
-pub gives-true : (m : List AtomDef) (s t : Ty) (u c : SemType) (r : Result Ty NoMemory) → IsBoth (IsSameType s.sem) (IsSameType t.sem) u → HaveSameShapes m c u
-    → IfOk r (λ v. v ≡ record { sem = c; lists = t.lists; maps = t.maps }) → IfOk r (WhereTrue m s t)
-gives-true m s t u c (Ok v) is same e = subst (WhereTrue m s t) (sym e) (where-true m s t u c is same)
-gives-true m s t u c (Err stop) is same e = tt
+pub gives-both : (m : List AtomDef) (s t u c : SemType) (choices : Ty) (r : Result Ty NoMemory) → IsBoth (IsSameType s) (IsSameType t) u → HaveSameShapes m c u
+    → IfOk r (λ v. v ≡ record { sem = c; lists = choices.lists; maps = choices.maps })
+    → IfOk r (HasMeaning (λ x. In m x s × In m x t) choices.lists choices.maps m)
+gives-both m s t u c choices (Ok v) is same e = subst (HasMeaning (λ x. In m x s × In m x t) choices.lists choices.maps m) (sym e) (both-written m s t u c choices is same)
+gives-both m s t u c choices (Err stop) is same e = tt
 
-pub gives-false : (m m1 : List AtomDef) (s t v : Ty) (f u c : SemType) → m1 ≡ m → IsFailing m s.sem t.sem f → IsBoth (IsSameType s.sem) (IsSameType f) u
-    → HaveSameShapes m1 c u → v ≡ record { sem = c; lists = s.lists; maps = s.maps } → WhereFalse m s t v
-gives-false m m1 s t v f u c at failing is same e =
-    subst (WhereFalse m s t) (sym e) (where-false m s t u c f failing is (subst (λ n. HaveSameShapes n c u) at same))
+where-false : (m : List AtomDef) (s t v : Ty) (f : SemType) → IsFailing m s.sem t.sem f → HasMeaning (λ x. In m x s.sem × In m x f) s.lists s.maps m v
+    → WhereFalse m s t v
+where-false m s t v f failing is = record {
+  shapes = λ x valid. (
+    λ h. let both = (is.shapes x valid).0 h in (both.0, (failing x valid both.0).0 both.1),
+    λ h. (is.shapes x valid).1 (h.0, (failing x valid h.0).1 h.1),
+  );
+  lists = is.lists;
+  maps = is.maps;
+}
+
+pub gives-false : (m m1 : List AtomDef) (s t v : Ty) (f : SemType) → m1 ≡ m → IsFailing m s.sem t.sem f
+    → HasMeaning (λ x. In m1 x s.sem × In m1 x f) s.lists s.maps m1 v → WhereFalse m s t v
+gives-false m m1 s t v f at failing is =
+    where-false m s t v f failing (subst (λ n. HasMeaning (λ x. In n x s.sem × In n x f) s.lists s.maps n v) at is)

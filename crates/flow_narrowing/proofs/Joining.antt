@@ -1,8 +1,9 @@
--- Variables that are joined, slot by slot.
-use Rattle.std.proofs.Common.{◌≡◌, ◌<◌, ◌+◌, ℕ, zero, suc, List, [], ◌∷◌, ◌++◌, Option, Some, IsSomeAnd, length, slice_get, ⊎_elim, refl, sym, subst, ap, ◌∙◌, arith}
+-- Variables that are joined, one by one.
+use Rattle.std.proofs.Common.{◌≡◌, ◌<◌, ◌+◌, ℕ, zero, suc, List, [], ◌∷◌, ◌++◌, Option, Some, IsSomeAnd, Result, Ok, Err, IfOk, length, slice_get, ⊎_elim, refl, sym, subst, ap, ◌∙◌, arith}
 use Rattle.std.proofs.lemmas.Bool.{cases_lt}
 use Rattle.std.proofs.lemmas.List.{length_push}
 use Rattle.std.proofs.lemmas.List.Elements.{All-push}
+use Rattle.bal_base.specs.declared.stop.Memory.{Memory as NoMemory}
 use Rattle.type_model.specs.declared.atoms.AtomDef.{AtomDef}
 use Rattle.type_model.specs.declared.basic.SemType.{SemType}
 use Rattle.type_model.specs.declared.basic.Ty.{Ty}
@@ -58,7 +59,7 @@ module _ (env : List AtomDef) (which : Joins) (vs ws : List Variable) where
 
 -- ---- the union of two types
 
-pub union-is : (m : List AtomDef) (s t : Ty) (u c : SemType) (r : Ty) → IsEither (IsSameType s.sem) (IsSameType t.sem) u → HaveSameShapes m c u
+union-is : (m : List AtomDef) (s t : Ty) (u c : SemType) (r : Ty) → IsEither (IsSameType s.sem) (IsSameType t.sem) u → HaveSameShapes m c u
     → r ≡ record { sem = c; lists = with_choices s.lists t.lists; maps = with_choices s.maps t.maps } → IsUnion s t m r
 union-is m s t u c r is same e = subst (IsUnion s t m) (sym e) (record {
   shapes = λ x valid. then (same x valid) (either-in m x s.sem t.sem u is);
@@ -66,12 +67,22 @@ union-is m s t u c r is same e = subst (IsUnion s t m) (sym e) (record {
   maps = refl;
 })
 
-pub union-below : (n : ℕ) (s t : Ty) (c : SemType) (r : Ty) → NamesBelow n c → TyBelow n s → TyBelow n t
+union-below : (n : ℕ) (s t : Ty) (c : SemType) (r : Ty) → NamesBelow n c → TyBelow n s → TyBelow n t
     → r ≡ record { sem = c; lists = with_choices s.lists t.lists; maps = with_choices s.maps t.maps } → TyBelow n r
 union-below n s t c r below h k e =
     subst (TyBelow n) (sym e) (below, with_choices-below n s.lists t.lists h.1 k.1, with_choices-below n s.maps t.maps h.2 k.2)
 
--- ---- a loop over slots, over atoms that stay
+pub unions-are : (m : List AtomDef) (s t : Ty) (u c : SemType) (r : Result Ty NoMemory) → IsEither (IsSameType s.sem) (IsSameType t.sem) u → HaveSameShapes m c u
+    → IfOk r (λ v. v ≡ record { sem = c; lists = with_choices s.lists t.lists; maps = with_choices s.maps t.maps }) → IfOk r (IsUnion s t m)
+unions-are m s t u c (Ok v) is same e = union-is m s t u c v is same e
+unions-are m s t u c (Err stop) is same e = tt
+
+pub unions-below : (n : ℕ) (s t : Ty) (c : SemType) (r : Result Ty NoMemory) → NamesBelow n c → TyBelow n s → TyBelow n t
+    → IfOk r (λ v. v ≡ record { sem = c; lists = with_choices s.lists t.lists; maps = with_choices s.maps t.maps }) → IfOk r (TyBelow n)
+unions-below n s t c (Ok v) below h k e = union-below n s t c v below h k e
+unions-below n s t c (Err stop) below h k e = tt
+
+-- ---- a loop over variables, over atoms that stay
 
 pub one-joined : (env env2 env3 : List AtomDef) (which : Joins) (vs ws us more : List Variable) (i : ℕ) (v w u : Variable) → env2 ≡ env → env3 ≡ env2
     → VariablesBelow (length env) us → AreJoined env which i vs ws us → VariableBelow (length env2) u → IsJoined env2 which v w u

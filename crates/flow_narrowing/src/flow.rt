@@ -4,7 +4,7 @@ ghost use Rattle.descriptors.specs.Described.{IsUnion, is_chosen as is_chosen_in
 ghost use Rattle.type_model.specs.Defined.{TyBelow};
 ghost use Rattle.flow_narrowing.specs.Flows.{AreJoined, AreSame, IfShared, IsJoin, IsJoined, NarrowedTo, UnionOf, VariableBelow, VariablesBelow, joins as joins_of, now as now_of};
 
-use crate::judging::either;
+use crate::combined::either;
 use bal_base::{Memory, Name, Row};
 use std::alloc::Global;
 use std::rc::Rc;
@@ -201,7 +201,7 @@ fn union_of<T: Types>(
     }
 }
 
-/// The union of two types, written anew, with the choices of both.
+/// The union of two types, to be shared.
 fn union<T: Types>(alloc: Global, types: &mut T, s: &Ty, t: &Ty) -> Result<SharedTy, Memory>
     requires first { TyBelow (length (T.atoms types.old)) s.now }
     requires second { TyBelow (length (T.atoms types.old)) t.now }
@@ -209,10 +209,20 @@ fn union<T: Types>(alloc: Global, types: &mut T, s: &Ty, t: &Ty) -> Result<Share
     ensures defined { IfOk result (λ u. TyBelow (length (T.atoms types.old)) u.value) }
     ensures union { IfOk result (λ u. IsUnion s.now t.now (T.atoms types.old) u.value) }
 {
+    Ok(Rc::new(alloc, written_union(alloc, types, s, t)?)?)
+}
+
+/// The union of two types, written anew, with the choices of both.
+fn written_union<T: Types>(alloc: Global, types: &mut T, s: &Ty, t: &Ty) -> Result<Ty, Memory>
+    requires first { TyBelow (length (T.atoms types.old)) s.now }
+    requires second { TyBelow (length (T.atoms types.old)) t.now }
+    ensures atoms { T.atoms types.new ≡ T.atoms types.old }
+    ensures defined { IfOk result (TyBelow (length (T.atoms types.old))) }
+    ensures union { IfOk result (IsUnion s.now t.now (T.atoms types.old)) }
+{
     let shapes = either(alloc, &s.sem, &t.sem)?;
     let sem = types.compact(alloc, &shapes)?;
-    let both = with_choices_of_both(alloc, sem, s, t)?;
-    Ok(Rc::new(alloc, both)?)
+    with_choices_of_both(alloc, sem, s, t)
 }
 
 /// The type with these shapes and the choices of both others.

@@ -1,55 +1,16 @@
 //! Which shapes may belong to values that failed a test, kind by kind.
-ghost use Rattle.std.specs.Prelude.{◌≡◌, ◌⊎◌, ◌↔◌, IfOk, ℕ, List};
+ghost use Rattle.std.specs.Prelude.{◌≡◌, IfOk};
 ghost use Rattle.bal_base.specs.Stops.{IfFault};
-ghost use Rattle.bal_base.specs.declared.shape.Shape.{Shape};
 ghost use Rattle.checks.specs.Questions.{IsYes};
-ghost use Rattle.type_model.specs.Basic.{InBasic};
-ghost use Rattle.type_model.specs.Defined.{IsDefined, NamesBelow};
-ghost use Rattle.type_model.specs.Membership.{In};
-ghost use Rattle.type_model.specs.SameType.{IsSameType};
-ghost use Rattle.type_model.specs.declared.atoms.AtomDef.{AtomDef as Atom};
-ghost use Rattle.flow_narrowing.specs.Asked.{IsBoth, IsEither, IsNot, NarrowsBeyond, all_of};
+ghost use Rattle.type_model.specs.Defined.{IsDefined};
+ghost use Rattle.flow_narrowing.specs.Asked.{NarrowsBeyond};
 ghost use Rattle.flow_narrowing.specs.Judged.{IsFailing, IsJudged, Settles};
 
+use crate::combined::{not, with_all};
 use crate::kind::Kind;
-use bal_base::{Memory, Stop};
+use bal_base::Stop;
 use std::alloc::Global;
-use type_model::{Answer, BasicSet, SemType, TypeLimit, Types};
-
-/// The shapes of both types.
-pub(crate) fn both(alloc: Global, s: &SemType, t: &SemType) -> Result<SemType, Memory>
-    ensures { IfOk result (IsBoth (IsSameType s.now) (IsSameType t.now)) }
-{
-    let s = Box::new(alloc, s.copy(alloc)?)?;
-    let t = Box::new(alloc, t.copy(alloc)?)?;
-    Ok(SemType::And(s, t))
-}
-
-/// The shapes of one of the two types or of both.
-pub(crate) fn either(alloc: Global, s: &SemType, t: &SemType) -> Result<SemType, Memory>
-    ensures { IfOk result (IsEither (IsSameType s.now) (IsSameType t.now)) }
-{
-    let s = Box::new(alloc, s.copy(alloc)?)?;
-    let t = Box::new(alloc, t.copy(alloc)?)?;
-    Ok(SemType::Or(s, t))
-}
-
-/// The shapes that aren't in the type.
-fn not(alloc: Global, t: &SemType) -> Result<SemType, Memory>
-    ensures { IfOk result (IsNot (IsSameType t.now)) }
-{
-    Ok(SemType::Not(Box::new(alloc, t.copy(alloc)?)?))
-}
-
-/// The shapes of the type, and all of the set.
-fn with_all(alloc: Global, t: SemType, set: BasicSet) -> Result<SemType, Memory>
-    ensures shapes { IfOk result (λ u. (env : List Atom) (x : Shape) → In env x u ↔ (In env x t ⊎ InBasic x set)) }
-    ensures defined { IfOk result (λ u. (n : ℕ) → NamesBelow n t → NamesBelow n u) }
-{
-    let t = Box::new(alloc, t)?;
-    let set = Box::new(alloc, SemType::Basic(set))?;
-    Ok(SemType::Or(t, set))
-}
+use type_model::{Answer, SemType, TypeLimit, Types};
 
 /// Whether the answer is yes; the shape of a no is given up.
 fn is_yes(answer: Answer) -> bool

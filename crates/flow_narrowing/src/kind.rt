@@ -2,6 +2,7 @@
 ghost use Rattle.std.specs.Prelude.{◌≡◌, IfOk};
 ghost use Rattle.flow_narrowing.specs.Asked.{IsOpenPart, IsOpenSet, IsUnmarkedSet, all_of as set_of};
 
+use crate::combined::copied;
 use bal_base::Memory;
 use std::alloc::Global;
 use type_model::{BasicSet, SemType};
@@ -44,7 +45,7 @@ impl Kind {
     pub(crate) fn open_part(self, alloc: Global, s: &SemType) -> Result<SemType, Memory>
         ensures { IfOk result (IsOpenPart self s.now) }
     {
-        let s = Box::new(alloc, s.copy(alloc)?)?;
+        let s = copied(alloc, s)?;
         let open = Box::new(alloc, self.open(alloc)?)?;
         Ok(SemType::And(s, open))
     }

@@ -12,6 +12,7 @@
 #![tactic(auto)]
 
 mod changes;
+mod combined;
 mod flow;
 mod judging;
 mod kind;

@@ -1,12 +1,15 @@
 //! What a test leaves of a type.
 ghost use Rattle.std.specs.Prelude.{◌≡◌, IfOk, length};
 ghost use Rattle.bal_base.specs.Stops.{IfFault};
-ghost use Rattle.type_model.specs.Defined.{TyBelow};
+ghost use Rattle.descriptors.specs.Described.{HasMeaning};
+ghost use Rattle.type_model.specs.Defined.{IsDefined, TyBelow};
+ghost use Rattle.type_model.specs.Membership.{In};
 ghost use Rattle.flow_narrowing.specs.Asked.{NarrowsBeyond};
 ghost use Rattle.flow_narrowing.specs.Belonging.{EachBelongs, Fails, Passes};
 ghost use Rattle.flow_narrowing.specs.Narrowed.{WhereFalse, WhereTrue};
 
-use crate::judging::{both, failing};
+use crate::combined::both;
+use crate::judging::failing;
 use bal_base::{Memory, Stop};
 use descriptors::copy_choices;
 use std::alloc::Global;
@@ -22,9 +25,7 @@ pub fn narrow_true<T: Types>(alloc: Global, types: &mut T, s: &Ty, t: &Ty) -> Re
     ensures is { IfOk result (WhereTrue (T.atoms types.old) s.now t.now) }
     ensures belongs { IfOk result (EachBelongs (T.atoms types.old) (Passes s.now t.now)) }
 {
-    let shapes = both(alloc, &s.sem, &t.sem)?;
-    let sem = types.compact(alloc, &shapes)?;
-    with_choices_of(alloc, sem, t)
+    written_of_both(alloc, types, &s.sem, &t.sem, t)
 }
 
 /// The type of a variable of type `s` where a test for `t` doesn't hold: the shapes of `s` for which a value may stand
@@ -48,9 +49,27 @@ pub fn narrow_false<T: Types>(
     ensures limit { IfFault result (NarrowsBeyond T.passes (T.atoms types.old) s.now.sem t.now.sem) }
 {
     let failed = failing(alloc, types, &s.sem, &t.sem)?;
-    let shapes = both(alloc, &s.sem, &failed)?;
+    Ok(written_of_both(alloc, types, &s.sem, &failed, s)?)
+}
+
+/// The type with the shapes of both, written anew, and the choices of a third one.
+fn written_of_both<T: Types>(
+    alloc: Global,
+    types: &mut T,
+    s: &SemType,
+    t: &SemType,
+    choices: &Ty,
+) -> Result<Ty, Memory>
+    requires left { IsDefined (T.atoms types.old) s.now }
+    requires right { IsDefined (T.atoms types.old) t.now }
+    requires choices { TyBelow (length (T.atoms types.old)) choices.now }
+    ensures atoms { T.atoms types.new ≡ T.atoms types.old }
+    ensures defined { IfOk result (TyBelow (length (T.atoms types.old))) }
+    ensures both { IfOk result (HasMeaning (λ x. In (T.atoms types.old) x s.now × In (T.atoms types.old) x t.now) choices.now.lists choices.now.maps (T.atoms types.old)) }
+{
+    let shapes = both(alloc, s, t)?;
     let sem = types.compact(alloc, &shapes)?;
-    Ok(with_choices_of(alloc, sem, s)?)
+    with_choices_of(alloc, sem, choices)
 }
 
 /// The type with these shapes and the choices of another one.
