@@ -123,7 +123,7 @@ length-put [] index t = refl
 length-put (v ∷ vs) zero t = refl
 length-put (v ∷ vs) (suc index) t = ap suc (length-put vs index t)
 
-length-undone : (cs : List Change) (vs : List Variable) → length (undone cs vs) ≡ length vs
+pub length-undone : (cs : List Change) (vs : List Variable) → length (undone cs vs) ≡ length vs
 length-undone [] vs = refl
 length-undone (c ∷ cs) vs = length-put (undone cs vs) c.index c.was ∙ length-undone cs vs
 

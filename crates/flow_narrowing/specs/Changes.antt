@@ -1,5 +1,6 @@
 -- Changes of what is known of variables: they are logged, undone where a way is left, and made again where it is entered anew.
-use Rattle.std.specs.Prelude.{◌≡◌, ◌≤◌, ◌++◌, ℕ, zero, suc, List, [], ◌∷◌, Option, None, drop, length, take}
+use Rattle.std.specs.Prelude.{◌≡◌, ◌≤◌, ◌++◌, ◌==◌, if◌then◌else◌, Bool, ℕ, zero, suc, List, [], ◌∷◌, Option, None, drop, length, take}
+use Rattle.std.specs.List.{list_any}
 use Rattle.typed_tree.specs.SharedTypes.{Shared}
 use Rattle.flow_narrowing.specs.declared.flow.Variable.{Variable}
 use Rattle.flow_narrowing.specs.declared.changes.Change.{Change}
@@ -24,6 +25,15 @@ narrowed_at (v ∷ vs) (suc index) = narrowed_at vs index
 abbrev pub undone : List Change → List Variable → List Variable
 undone [] vs = vs
 undone (c ∷ cs) vs = put (undone cs vs) c.index c.was
+
+-- what the changes give the variable at the index, the first one of it, or else t
+abbrev pub told : List Change → ℕ → Option Shared → Option Shared
+told [] index t = t
+told (c ∷ cs) index t = if c.index == index then c.was else told cs index t
+
+-- whether one of the changes is of the variable at the index
+abbrev pub is_told : List Change → ℕ → Bool
+is_told cs index = list_any (λ c. c.index == index) cs
 
 -- Of the way that began where the log and the variables were these, the log has all that became of the variables: it has more at its
 -- end, which takes that back. Behind them stand those that were declared in the way.

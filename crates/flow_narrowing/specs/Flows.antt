@@ -48,17 +48,17 @@ AreSame (Some s) (Some t) = t.value ≡ s.value
 AreSame None (Some t) = ⊥
 AreSame (Some s) None = ⊥
 
--- a variable that has its declared type in both ways keeps it; else it has the union of its types, with the choices of the first
--- and then those of the second, each atom once
-abbrev pub UnionOf : List AtomDef → Variable → Variable → Option Shared → Option Shared → Option Shared → Type 0
-UnionOf env v w None None u = u ≡ None
-UnionOf env v w (Some s) t u = IsSomeAnd u (λ x. IsUnion (now v) (now w) env x.value)
-UnionOf env v w None (Some t) u = IsSomeAnd u (λ x. IsUnion (now v) (now w) env x.value)
+-- a variable of the types s and t in the two ways, narrowed or not: the declared type in both ways stays; else it has the union, with the
+-- choices of the first and then those of the second, each atom once
+abbrev pub UnionOf : List AtomDef → Ty → Ty → Option Shared → Option Shared → Option Shared → Type 0
+UnionOf env s t None None u = u ≡ None
+UnionOf env s t (Some first) second u = IsSomeAnd u (λ x. IsUnion s t env x.value)
+UnionOf env s t None (Some second) u = IsSomeAnd u (λ x. IsUnion s t env x.value)
 
 abbrev pub NarrowedTo : List AtomDef → Joins → Variable → Variable → Option Shared → Type 0
 NarrowedTo env First v w u = AreSame v.narrowed u
 NarrowedTo env Second v w u = AreSame w.narrowed u
-NarrowedTo env Both v w u = UnionOf env v w v.narrowed w.narrowed u
+NarrowedTo env Both v w u = UnionOf env (now v) (now w) v.narrowed w.narrowed u
 
 -- the same variable, whatever its narrowed type
 pub record IsSameVariable (v u : Variable) : Type 0 where

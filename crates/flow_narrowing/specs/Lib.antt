@@ -3,4 +3,5 @@ pub mod Belonging
 pub mod Changes
 pub mod Flows
 pub mod Judged
+pub mod Meetings
 pub mod Narrowed

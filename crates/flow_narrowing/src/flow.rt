@@ -2,7 +2,7 @@
 ghost use Rattle.std.specs.Prelude.{◌≡◌, IfOk, length};
 ghost use Rattle.descriptors.specs.Described.{IsUnion, is_chosen as is_chosen_in, with_choices as joined_choices};
 ghost use Rattle.type_model.specs.Defined.{TyBelow};
-ghost use Rattle.flow_narrowing.specs.Flows.{AreJoined, AreSame, IfShared, IsJoin, IsJoined, NarrowedTo, UnionOf, VariableBelow, VariablesBelow, joins as joins_of, now as now_of};
+ghost use Rattle.flow_narrowing.specs.Flows.{AreJoined, AreSame, IfShared, IsJoin, IsJoined, NarrowedTo, UnionOf, VariableBelow, VariablesBelow, joins as joins_of, now as now_of, or_declared as or_declared_of};
 
 use crate::combined::either;
 use bal_base::{Memory, Name, Row};
@@ -45,10 +45,17 @@ impl Variable {
     pub fn now(&self) -> &Ty
         ensures { result.now ≡ now_of self.now }
     {
-        match &self.narrowed {
-            Some(t) => t.as_ref(),
-            None => self.declared.as_ref(),
-        }
+        or_declared(&self.narrowed, &self.declared)
+    }
+}
+
+/// The narrowed type, or else the declared one.
+pub(crate) fn or_declared<'a>(narrowed: &'a Option<SharedTy>, declared: &'a SharedTy) -> &'a Ty
+    ensures { result.now ≡ or_declared_of narrowed.now declared.now }
+{
+    match narrowed {
+        Some(t) => t.as_ref(),
+        None => declared.as_ref(),
     }
 }
 
@@ -78,14 +85,14 @@ impl Flow {
 
 /// Which of two ways are joined.
 #[derive(Clone, Copy)]
-enum Joins {
+pub(crate) enum Joins {
     First,
     Second,
     Both,
 }
 
 /// Those that go on, or both where neither does.
-fn ways_that_count(first: bool, second: bool) -> Joins
+pub(crate) fn ways_that_count(first: bool, second: bool) -> Joins
     ensures { result ≡ joins_of first second }
 {
     match first {
@@ -165,7 +172,7 @@ fn narrowed_to<T: Types>(
     match which {
         Joins::First => shared(&v.narrowed),
         Joins::Second => shared(&w.narrowed),
-        Joins::Both => union_of(alloc, types, v, w),
+        Joins::Both => union_of(alloc, types, v.now(), w.now(), &v.narrowed, &w.narrowed),
     }
 }
 
@@ -180,24 +187,26 @@ fn shared(t: &Option<SharedTy>) -> Result<Option<SharedTy>, Memory>
 }
 
 /// The union of the two types of a variable, unless it has its declared type both times.
-fn union_of<T: Types>(
+pub(crate) fn union_of<T: Types>(
     alloc: Global,
     types: &mut T,
-    v: &Variable,
-    w: &Variable,
+    s: &Ty,
+    t: &Ty,
+    first: &Option<SharedTy>,
+    second: &Option<SharedTy>,
 ) -> Result<Option<SharedTy>, Memory>
-    requires first { VariableBelow (length (T.atoms types.old)) v.now }
-    requires second { VariableBelow (length (T.atoms types.old)) w.now }
+    requires first { TyBelow (length (T.atoms types.old)) s.now }
+    requires second { TyBelow (length (T.atoms types.old)) t.now }
     ensures atoms { T.atoms types.new ≡ T.atoms types.old }
     ensures defined { IfOk result (IfShared (TyBelow (length (T.atoms types.old)))) }
-    ensures union { IfOk result (UnionOf (T.atoms types.old) v.now w.now v.now.narrowed w.now.narrowed) }
+    ensures union { IfOk result (UnionOf (T.atoms types.old) s.now t.now first.now second.now) }
 {
-    match &v.narrowed {
-        None => match &w.narrowed {
+    match first {
+        None => match second {
             None => Ok(None),
-            Some(_) => Ok(Some(union(alloc, types, v.now(), w.now())?)),
+            Some(_) => Ok(Some(union(alloc, types, s, t)?)),
         },
-        Some(_) => Ok(Some(union(alloc, types, v.now(), w.now())?)),
+        Some(_) => Ok(Some(union(alloc, types, s, t)?)),
     }
 }
 

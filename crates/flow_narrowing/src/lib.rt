@@ -8,7 +8,8 @@
 //! - [`narrow_true`], [`narrow_false`]: the types where a test holds and where it doesn't.
 //! - [`Flow`], [`Variable`]: what is known at a place, and [`Flow::join`] where two ways meet (`specs/Flows.antt`).
 //! - [`Flows`]: the variables of a body that is walked, with a log of changes, [`Change`], from the [`Mark`] where a way
-//!   begins to its [`End`] (`specs/Changes.antt`); [`ways_leave_no_trace`]: the laws of logs.
+//!   begins to its [`End`] (`specs/Changes.antt`), and [`Flows::join`] where two ends meet (`specs/Meetings.antt`);
+//!   [`ways_leave_no_trace`]: the laws of logs.
 #![tactic(auto)]
 
 mod changes;
@@ -16,6 +17,7 @@ mod combined;
 mod flow;
 mod judging;
 mod kind;
+mod meeting;
 mod narrowed;
 
 pub use changes::{Change, End, Flows, Mark, ways_leave_no_trace};
