@@ -1,5 +1,5 @@
--- The names without a prefix that statements use: as values or calls, as what is assigned to, or in an action. In the order of
--- the text, each as often as it stands there.
+-- The names without a prefix that statements use: as values or calls, as what is assigned to, in a pattern, or in an action. In the
+-- order of the text, each as often as it stands there.
 use Rattle.std.specs.Prelude.{List, map}
 use Rattle.bal_base.specs.declared.text.Name.{Name}
 use Rattle.bal_tree.specs.declared.action.Rhs.{Rhs}
@@ -12,6 +12,8 @@ use Rattle.bal_tree.specs.declared.stmt.Stmt.{Stmt}
 use Rattle.bal_tree.specs.declared.stmt.Block.{Block}
 use Rattle.bal_tree.specs.declared.stmt.Clause.{Clause}
 use Rattle.bal_tree.specs.declared.stmt.IfStmt.{IfStmt}
+use Rattle.bal_tree.specs.declared.stmt.Pattern.{Pattern}
+use Rattle.bal_tree.specs.declared.stmt.Pattern.TheVariants.{Any, Value, Name as NamePattern}
 use Rattle.bal_tree.specs.StmtLayers.{ElseOf, StmtOf, BlockOf, ClauseOf, IfStmtOf, StmtSteps, of_else, of_stmt, of_block, of_clause, of_if_stmt}
 use Rattle.bal_tree.specs.declared.stmt.Target.{Target}
 use Rattle.bal_tree.specs.declared.stmt.Target.TheVariants.{Name as NameTarget, Index as IndexTarget, Field as FieldTarget}
@@ -45,6 +47,12 @@ used_in_target (FieldTarget base field at) = used_in_postfix base.value
 abbrev pub used_in_range : Range → Listed Name
 used_in_range r = used_in_expr r.end.value
 
+-- a name in a pattern is that of a constant, unless a local hides it
+abbrev pub used_in_pattern : Pattern → Listed Name
+used_in_pattern (Any at) = nothing
+used_in_pattern (Value v) = nothing
+used_in_pattern (NamePattern n) = local_name n
+
 abbrev pub stmt_step : StmtOf (Listed Name) → Listed Name
 stmt_step (layer.Local is_final type name value at) = used_in_rhs value
 stmt_step (layer.Assign target op value at) = used_in_target target & used_in_rhs value
@@ -70,9 +78,8 @@ if_step s = used_in_expr s.condition.value & s.then & if_boxed as_it_is s.otherw
 abbrev pub block_step : BlockOf (Listed Name) → Listed Name
 block_step b = joined b.stmts.items
 
--- a name in a pattern is that of a constant
 abbrev pub clause_step : ClauseOf (Listed Name) → Listed Name
-clause_step c = c.body
+clause_step c = joined (map used_in_pattern c.patterns.items) & c.body
 
 abbrev pub using_names : StmtSteps (Listed Name)
 using_names = record { else = else_step; stmt = stmt_step; block = block_step; clause = clause_step; if_stmt = if_step }

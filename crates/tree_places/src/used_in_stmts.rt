@@ -5,13 +5,14 @@ ghost use Rattle.std.specs.Prelude.{◌≡◌, IfOk, OnOk, map};
 ghost use Rattle.typed_tree.specs.Listed.{if_there, joined, members as members_of, run};
 ghost use Rattle.tree_places.specs.Gathered.{gather};
 ghost use Rattle.tree_places.specs.UsedInExprs.{local_name};
-ghost use Rattle.tree_places.specs.UsedInStmts.{used_in_action, used_in_block, used_in_clause, used_in_else, used_in_if, used_in_member_of_wait, used_in_range, used_in_rhs, used_in_stmt, used_in_stmts, used_in_target};
+ghost use Rattle.tree_places.specs.UsedInStmts.{used_in_action, used_in_block, used_in_clause, used_in_else, used_in_if, used_in_member_of_wait, used_in_pattern, used_in_range, used_in_rhs, used_in_stmt, used_in_stmts, used_in_target};
 
 use crate::gathered::gather_local;
 use crate::used_in_exprs::{call, expr, postfix};
 use bal_base::{Memory, Name, NameList};
 use bal_tree::{
-    Action, Block, Clause, Else, IfStmt, QualifiedName, Range, Rhs, Stmt, Target, WaitMember,
+    Action, Block, Clause, Else, IfStmt, Pattern, QualifiedName, Range, Rhs, Stmt, Target,
+    WaitMember,
 };
 use std::alloc::Global;
 
@@ -93,6 +94,24 @@ fn range_if(names: &mut Vec<Name>, r: &Option<Range>) -> Result<(), Memory>
         Some(r) => expr(names, &r.end),
         None => Ok(()),
     }
+}
+
+fn pattern(names: &mut Vec<Name>, p: &Pattern) -> Result<(), Memory>
+    ensures { OnOk result (names.new.items ≡ run gather (used_in_pattern p.now) names.old.items) }
+{
+    match p {
+        Pattern::Any { .. } | Pattern::Value(_) => Ok(()),
+        Pattern::Name(n) => gather_local(names, n),
+    }
+}
+
+fn patterns(names: &mut Vec<Name>, ps: &[Pattern]) -> Result<(), Memory>
+    ensures { OnOk result (names.new.items ≡ run gather (joined (map used_in_pattern ps.now)) names.old.items) }
+{
+    for p in ps {
+        pattern(names, p)?;
+    }
+    Ok(())
 }
 
 #[cycle(stmts)]
@@ -197,5 +216,6 @@ fn clauses(names: &mut Vec<Name>, cs: &[Clause]) -> Result<(), Memory>
 fn clause(names: &mut Vec<Name>, c: &Clause) -> Result<(), Memory>
     ensures { OnOk result (names.new.items ≡ run gather (used_in_clause c.now) names.old.items) }
 {
+    patterns(names, &c.patterns)?;
     block(names, &c.body)
 }
