@@ -1,6 +1,9 @@
+pub mod Ascii
+pub mod Behind
 pub mod Boxes
 pub mod Counting
 pub mod Fields
+pub mod Joining
 pub mod Lending
 pub mod Owners
 pub mod Steps

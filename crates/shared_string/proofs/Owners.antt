@@ -15,16 +15,13 @@ use types.RcWeak.{part, rest, cut}
 use denote.Steps.{nothing}
 use denote.Struct.Lending.{Lends, Lends-lies, Lends-first}
 use denote.RawPtr.{Ptr, lies_at, ◌+ₚ◌}
-use Rattle.std.proofs.alloc.Global.TheLaws as global
-use Rattle.std.proofs.string.String.TheLaws as string
-use Rattle.std.specs.contracts.alloc.Global.{the_row as global_row}
-use Rattle.std.specs.contracts.impls.GlobalAllocator.TheImpl.{ghosts}
+use Rattle.shared_string.proofs.counted.Counted.TheLaws.{the_row_laws}
 use denote.Param.Laws.{Laws}
 use Rattle.shared_string.specs.Ownership.{Text, text_row, frees, most, Times, stage, holds, counts, loan, sees, key, counted, phase, shared, owner, owner_owns}
 use Rattle.shared_string.proofs.Counting.{holds_in}
 
 pub text_laws : Laws text_row
-text_laws = string.the_row_laws global_row ghosts global.the_row_laws
+text_laws = the_row_laws
 
 module _ (c : Ptr) (x : Text) {M : Type 1} {𝓤 : Ura M} (𝓛 : Logic 𝓤) where
   open 𝓛 use {H, A}

@@ -14,18 +14,15 @@ use denote.Sharing.{one, beside, some, held}
 use denote.Hidden.{kept}
 use denote.Struct.Lending.{lent_at}
 use denote.Struct.Members.{Member, raw_tys}
-use Rattle.std.specs.declared.alloc.Global.{Global}
-use Rattle.std.specs.declared.string.String.{String}
-use Rattle.std.specs.contracts.alloc.Global as global
-use Rattle.std.specs.contracts.impls.GlobalAllocator.TheImpl as heap
-use Rattle.std.specs.contracts.string.String as string
+use Rattle.shared_string.specs.contracts.counted.Counted.{the_row}
 use Rattle.shared_string.specs.Whole.{may_free}
 
+-- a text with its count, as its code points
 abbrev pub Text : Type 0
-Text = String Global
+Text = List ℕ
 
 abbrev pub text_row : RattleType
-text_row = string.the_row global.the_row heap.ghosts
+text_row = the_row
 
 -- the fields of `Shared`, as they lie in memory
 abbrev pub fields : List Member

@@ -2,6 +2,7 @@
 ghost use Rattle.std.specs.Prelude.{◌≡◌};
 ghost use Rattle.shared_string.specs.Whole.{whole_owns};
 
+use crate::counted::Counted;
 use std::alloc::Global;
 use std::marker::Model;
 
@@ -9,7 +10,7 @@ use std::marker::Model;
 #[derive(Drop)]
 pub(crate) struct Shared {
     pub(crate) owners: usize,
-    pub(crate) text: String,
+    pub(crate) text: Counted,
 }
 
 /// A block from a `Box`, with the value in it, to which nothing else points.

@@ -9,17 +9,16 @@
 //! The owner that makes the count full gives the last part away for good, to be shared out in ever
 //! smaller pieces to the owners that aren't counted. From then on the parts never come together, and
 //! a second lifetime, which ended at that moment, tells that the count stays full.
-ghost use Rattle.std.specs.Prelude.{◌≡◌, IfSome};
-ghost use Rattle.std.specs.declared.alloc.Global as heap;
-ghost use Rattle.std.specs.declared.string.String as string;
+ghost use Rattle.std.specs.Prelude.{◌≡◌, IfSome, List, ℕ};
 
 use crate::block::{Shared, Whole};
+use crate::counted::Counted;
 use std::marker::Model;
 
 /// One of the owners of a block.
 pub(crate) struct Owner {
     at: *mut Shared,
-    pub(crate) ghost text: { string.String heap.Global },
+    pub(crate) ghost text: { List ℕ },
 }
 
 impl Model for Owner {
@@ -40,7 +39,7 @@ impl Owner {
         Owner { at }
     }
 
-    pub(crate) fn text(&self) -> &String
+    pub(crate) fn text(&self) -> &Counted
         ensures { result.now ≡ self.now.text }
     {
         // SAFETY: while an owner is left, as `self` is, the text stays in its place, and nothing
