@@ -1,7 +1,7 @@
 //! Shared texts. A handle of a text can be handed out without memory and without failing.
 
-ghost use Rattle.std.specs.Prelude.{◌≡◌, ℕ, List, IfOk, Some, refl, chars, nat_eq, string_bytes, encode_utf8_all, true};
-ghost use Rattle.std.specs.Str.{all_scalars};
+ghost use Rattle.std.specs.Prelude.{◌≡◌, ◌≤◌, ◌↔◌, ◌++◌, ℕ, List, IfOk, IfSome, IsSome, IsTrue, Some, refl, chars, length, nat_eq, slice_get, slice_range, string_bytes, encode_utf8_all, true};
+ghost use Rattle.std.specs.Str.{IsAscii, all_scalars};
 ghost use Rattle.std.specs.Ordering.{nat_cmp};
 ghost use Rattle.std.specs.Hash as fed;
 ghost use mathlib.Core.Path.{ap};
@@ -38,7 +38,7 @@ impl Text {
         })
     }
 
-    /// The given text itself, which isn't copied. `Memory` says that there was none for the block of four
+    /// The given text itself, which isn't copied. `Memory` says that there was none for the block of five
     /// words in which the text's owners are counted, and then the text is dropped.
     pub fn from_string(alloc: Global, text: String) -> Result<Text, Memory>
         ensures { IfOk result (λ t. t ≡ chars (string_bytes text)) }
@@ -48,12 +48,52 @@ impl Text {
         })
     }
 
+    /// One text behind another, whose bytes are copied once.
+    pub fn join(alloc: Global, first: &Text, second: &Text) -> Result<Text, Memory>
+        ensures { IfOk result (λ both. both ≡ first.now ++ second.now) }
+    {
+        Ok(Text {
+            shared: SharedString::join(alloc, &first.shared, &second.shared)?,
+        })
+    }
+
     /// The text as it is read. Takes no memory.
     pub fn as_str(&self) -> &str
         ensures value { chars result.now ≡ self.now }
         ensures scalars { all_scalars self.now ≡ true }
     {
         self.text().as_str()
+    }
+
+    /// How many code points the text has. They were counted when it was made.
+    pub fn length(&self) -> usize
+        ensures { result ≡ length self.now }
+    {
+        self.shared.length()
+    }
+
+    /// Whether all code points are ASCII. Looks at none of them.
+    pub fn is_ascii(&self) -> bool
+        ensures { IsTrue result ↔ IsAscii self.now }
+    {
+        self.shared.is_ascii()
+    }
+
+    /// The code point at a place, if there is one. Where all are ASCII nothing is walked over, and else all that stand
+    /// in front of it.
+    pub fn char_at(&self, index: usize) -> Option<char>
+        ensures { result ≡ slice_get self.now index }
+    {
+        self.shared.char_at(index)
+    }
+
+    /// The code points from a place up to another one, if these are places in the text in this order. Where all are
+    /// ASCII nothing is walked over, and else all up to the second place. Takes no memory.
+    pub fn substring(&self, start: usize, end: usize) -> Option<&str>
+        ensures there { IsSome result ↔ ((start ≤ end) × (end ≤ length self.now)) }
+        ensures value { IfSome result (λ part. chars part.now ≡ slice_range self.now start end) }
+    {
+        self.shared.substring(start, end)
     }
 
     /// Another handle of the same text. Takes no memory.
