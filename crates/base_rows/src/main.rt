@@ -4,7 +4,7 @@
 //! The modules say which questions there are.
 //!
 //! - `row`: a row, from its first line to its last.
-//! - `texts`: texts, their owners, and places in texts.
+//! - `texts` and `points`: texts, their owners, places in texts, and code points by their places.
 //! - `inputs` and `drips`: lines of an input, and an input that comes byte by byte.
 //! - `outputs` and `narrow`: what is written to an output, and a stream that takes byte by byte.
 //! - `folders`: files of a folder in memory, and how many entries a folder may have (`entries`).
@@ -18,6 +18,7 @@ mod folders;
 mod inputs;
 mod narrow;
 mod outputs;
+mod points;
 mod real;
 mod row;
 mod texts;

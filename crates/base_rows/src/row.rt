@@ -5,8 +5,8 @@ use crate::folders::folder;
 use crate::inputs::input;
 use crate::outputs::output;
 use crate::real::real_row;
-use crate::texts;
 use crate::words::{Misread, Read, Words, refuse};
+use crate::{points, texts};
 use bal_base::Stop;
 use row_lines::{Judge, Row, Told};
 
@@ -70,6 +70,12 @@ fn answer(words: &mut Words<'_>) -> Read<String> {
         "owners" => texts::owners(words),
         "rounds" => texts::rounds(words),
         "size" => texts::size(words),
+        "join" => points::join(words),
+        "length" => points::length(words),
+        "point" => points::point(words),
+        "part" => points::part(words),
+        "long" => points::long(words),
+        "places" => points::places(words),
         "input" => input(words),
         "output" => output(words),
         "folder" => folder(words),
