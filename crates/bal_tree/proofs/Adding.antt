@@ -1,4 +1,4 @@
--- Adding the tokens of one part behind those of another, in a row and in a loop.
+-- Writing one part behind another, in a row and in a loop.
 use Rattle.std.proofs.Common.{◌≡◌, ℕ, zero, suc, ◌+◌, ◌<◌, List, [], ◌∷◌, ◌++◌, length, get_or, take, map, refl, sym, ap, ◌∙◌, append_assoc, arith, Bool, true, false, Option, None, Some}
 use Rattle.std.proofs.Math.Bool.{not}
 use Rattle.std.proofs.Math.Dec.{eqb, ltb, eqb-suc-zero}
@@ -9,11 +9,17 @@ use Rattle.bal_base.specs.declared.token.TokenKind.{TokenKind}
 use Rattle.bal_base.specs.declared.token.TokenKind.TheVariants.{Sign as SignKind}
 use Rattle.bal_base.specs.declared.token.Sign.{Sign}
 use Rattle.bal_base.specs.declared.token.Sign.TheVariants.{Comma}
-use Rattle.bal_tree.specs.Pieces.{Pieces, ◌&◌, sign_if, if_there, if_boxed, kinds, joined, behind, separated, Adds}
+use Rattle.bal_tree.specs.Pieces.{Pieces, ◌&◌, sign, sign_if, if_there, if_boxed, kinds, joined, behind, separated}
 use Rattle.bal_tree.specs.TypePieces.{with_last, with_last_boxed}
+use Rattle.bal_tree.specs.Writing.{Written, Writes, behind_all}
+use Rattle.bal_tree.proofs.Kept.{same-kinds}
 
-pub adds-both : (old mid new : List TokenKind) (p q : Pieces) → Adds old p mid → Adds mid q new → Adds old (p & q) new
-adds-both old mid new p q h k = k ∙ ap (λ ts. ts ++ kinds q) h ∙ append_assoc old (kinds p) (kinds q)
+writes-both : (old mid new : Written) (p q : Pieces) → Writes old p mid → Writes mid q new → Writes old (p & q) new
+writes-both old mid new p q h k = k ∙ ap (behind_all q) h
+
+-- what has the same tokens comes to the same
+writes-same : (old new : Written) (p q : Pieces) → Writes old p new → kinds q ≡ kinds p → Writes old q new
+writes-same old new p q h same = h ∙ sym (same-kinds q p old same)
 
 -- ---- one more part of a list
 
@@ -48,25 +54,27 @@ module _ {X : Type 0} (f : X → Pieces) where
   some_at_all [] = refl
   some_at_all (y ∷ ys) = sym (ap not (eqb-suc-zero (length ys)))
 
-  -- a step of a loop that adds the parts one behind the other
-  pub joined-more : (xs : List X) (i : ℕ) (x : X) (old mid new : List TokenKind) → i < length xs → x ≡ get_or xs i x → Adds old (joined (map f (take i xs))) mid → Adds mid (f x) new → Adds old (joined (map f (take (i + 1) xs))) new
+  -- a step of a loop that writes the parts one behind the other
+  pub joined-more : (xs : List X) (i : ℕ) (x : X) (old mid new : Written) → i < length xs → x ≡ get_or xs i x → Writes old (joined (map f (take i xs))) mid → Writes mid (f x) new → Writes old (joined (map f (take (i + 1) xs))) new
   joined-more xs i x old mid new lt is before next =
       let ps = map f (take i xs) in
-      adds-both old mid new (joined ps) (f x) before next ∙ ap (λ ks. old ++ ks) (sym (ap (λ parts. kinds (joined parts)) (map-more xs i x lt is) ∙ joined-push ps (f x)))
+      writes-same old new (joined ps & f x) (joined (map f (take (i + 1) xs))) (writes-both old mid new (joined ps) (f x) before next)
+      (ap (λ parts. kinds (joined parts)) (map-more xs i x lt is) ∙ joined-push ps (f x))
 
-  -- a step of a loop that adds each part behind a sign
-  pub behind-more : (s : Sign) (xs : List X) (i : ℕ) (x : X) (old mid new : List TokenKind) → i < length xs → x ≡ get_or xs i x → Adds old (behind s (map f (take i xs))) mid → new ≡ mid ++ SignKind s ∷ kinds (f x) → Adds old (behind s (map f (take (i + 1) xs))) new
+  -- a step of a loop that writes each part behind a sign
+  pub behind-more : (s : Sign) (xs : List X) (i : ℕ) (x : X) (old mid new : Written) → i < length xs → x ≡ get_or xs i x → Writes old (behind s (map f (take i xs))) mid → Writes mid (sign s & f x) new → Writes old (behind s (map f (take (i + 1) xs))) new
   behind-more s xs i x old mid new lt is before next =
       let ps = map f (take i xs) in
-      next ∙ ap (λ ts. ts ++ SignKind s ∷ kinds (f x)) before ∙ append_assoc old (kinds (behind s ps)) (SignKind s ∷ kinds (f x))
-      ∙ ap (λ ks. old ++ ks) (sym (ap (λ parts. kinds (behind s parts)) (map-more xs i x lt is) ∙ behind-push s ps (f x)))
+      writes-same old new (behind s ps & (sign s & f x)) (behind s (map f (take (i + 1) xs))) (writes-both old mid new (behind s ps) (sign s & f x) before next)
+      (ap (λ parts. kinds (behind s parts)) (map-more xs i x lt is) ∙ behind-push s ps (f x))
 
-  -- a step of a loop that adds the sign and each part, and no sign before the first
-  pub separated-more : (s : Sign) (xs : List X) (i : ℕ) (x : X) (a b c d : List TokenKind) → i < length xs → x ≡ get_or xs i x → Adds a (separated s (map f (take i xs))) b → Adds b (sign_if (ltb 0 i) s) c → Adds c (f x) d → Adds a (separated s (map f (take (i + 1) xs))) d
+  -- a step of a loop that writes the sign and each part, and no sign before the first
+  pub separated-more : (s : Sign) (xs : List X) (i : ℕ) (x : X) (a b c d : Written) → i < length xs → x ≡ get_or xs i x → Writes a (separated s (map f (take i xs))) b → Writes b (sign_if (ltb 0 i) s) c → Writes c (f x) d → Writes a (separated s (map f (take (i + 1) xs))) d
   separated-more s xs i x a b c d lt is before sign here =
       let ps = map f (take i xs) in
-      adds-both a b d (separated s ps) (sign_if (ltb 0 i) s & f x) before (adds-both b c d (sign_if (ltb 0 i) s) (f x) sign here)
-      ∙ ap (λ ks. a ++ ks) (sym (ap (λ parts. kinds (separated s parts)) (map-more xs i x lt is) ∙ separated-push s ps (f x) ∙ ap (λ some. kinds (separated s ps & sign_if some s & f x)) (some_before xs i lt)))
+      let both = sign_if (ltb 0 i) s & f x in
+      writes-same a d (separated s ps & both) (separated s (map f (take (i + 1) xs))) (writes-both a b d (separated s ps) both before (writes-both b c d (sign_if (ltb 0 i) s) (f x) sign here))
+      (ap (λ parts. kinds (separated s parts)) (map-more xs i x lt is) ∙ separated-push s ps (f x) ∙ ap (λ some. kinds (separated s ps & sign_if some s & f x)) (some_before xs i lt))
 
   -- ---- a list and what takes the rest behind it: the comma is there unless the list is empty
 
@@ -74,13 +82,23 @@ module _ {X : Type 0} (f : X → Pieces) where
   last_part g xs y =
       separated-push Comma (map f xs) (g y) ∙ ap (λ some. kinds (separated Comma (map f xs) & sign_if some Comma & g y)) (some_at_all xs)
 
-  pub with_last-kinds : {Y : Type 0} (g : Y → Pieces) (xs : List X) (rest : Option Y) → kinds (separated Comma (with_last g (map f xs) rest)) ≡ kinds (separated Comma (map f xs) & if_there (λ y. sign_if (not (eqb (length xs) 0)) Comma & g y) rest)
+  with_last-kinds : {Y : Type 0} (g : Y → Pieces) (xs : List X) (rest : Option Y) → kinds (separated Comma (with_last g (map f xs) rest)) ≡ kinds (separated Comma (map f xs) & if_there (λ y. sign_if (not (eqb (length xs) 0)) Comma & g y) rest)
   with_last-kinds g xs None = sym (append-nil (kinds (separated Comma (map f xs))))
   with_last-kinds g xs (Some y) = last_part g xs y
 
-  pub with_last_boxed-kinds : {Y : Type 0} (g : Y → Pieces) (xs : List X) (rest : Option (Box Y)) → kinds (separated Comma (with_last_boxed g (map f xs) rest)) ≡ kinds (separated Comma (map f xs) & if_boxed (λ y. sign_if (not (eqb (length xs) 0)) Comma & g y) rest)
+  with_last_boxed-kinds : {Y : Type 0} (g : Y → Pieces) (xs : List X) (rest : Option (Box Y)) → kinds (separated Comma (with_last_boxed g (map f xs) rest)) ≡ kinds (separated Comma (map f xs) & if_boxed (λ y. sign_if (not (eqb (length xs) 0)) Comma & g y) rest)
   with_last_boxed-kinds g xs None = sym (append-nil (kinds (separated Comma (map f xs))))
   with_last_boxed-kinds g xs (Some y) = last_part g xs y.value
 
--- what a function needs that adds several parts one behind the other
-pub ruleset adding = (append_assoc, append-nil, with_last-kinds, with_last_boxed-kinds)
+  pub behind_all-with_last : {Y : Type 0} (g : Y → Pieces) (xs : List X) (rest : Option Y) (w : Written)
+      → behind_all (separated Comma (with_last g (map f xs) rest)) w ≡ behind_all (separated Comma (map f xs) & if_there (λ y. sign_if (not (eqb (length xs) 0)) Comma & g y) rest) w
+  behind_all-with_last g xs rest w =
+      same-kinds (separated Comma (with_last g (map f xs) rest)) (separated Comma (map f xs) & if_there (λ y. sign_if (not (eqb (length xs) 0)) Comma & g y) rest) w (with_last-kinds g xs rest)
+
+  pub behind_all-with_last_boxed : {Y : Type 0} (g : Y → Pieces) (xs : List X) (rest : Option (Box Y)) (w : Written)
+      → behind_all (separated Comma (with_last_boxed g (map f xs) rest)) w ≡ behind_all (separated Comma (map f xs) & if_boxed (λ y. sign_if (not (eqb (length xs) 0)) Comma & g y) rest) w
+  behind_all-with_last_boxed g xs rest w =
+      same-kinds (separated Comma (with_last_boxed g (map f xs) rest)) (separated Comma (map f xs) & if_boxed (λ y. sign_if (not (eqb (length xs) 0)) Comma & g y) rest) w (with_last_boxed-kinds g xs rest)
+
+-- what a function needs that writes several parts one behind the other
+pub ruleset adding = (behind_all-with_last, behind_all-with_last_boxed)

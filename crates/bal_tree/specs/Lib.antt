@@ -20,3 +20,4 @@ pub mod TypeLayers
 pub mod TypeParts
 pub mod TypePieces
 pub mod TypeRules
+pub mod Writing

@@ -5,4 +5,4 @@ use Rattle.bal_tree.proofs.writing.actions.alternatives.Goals as goal
 
 pub loop-i-preserved : goal.loop-i-preserved
 loop-i-preserved c =
-    separated-more name_pieces Bar c.args.names.now c.loop-i.i c.index-names-i.result c.args.out.now.items c.loop-i.out.items c.sign_if.new.out.items c.name.new.out.items c.loop-i-test.true c.index-names-i.is c.loop-i.invariant c.in_ok-sign_if.ensures c.in_ok-name.ensures
+    separated-more name_pieces Bar c.args.names.now c.loop-i.i c.index-names-i.result c.args.out.now c.loop-i.out c.sign_if.new.out c.name.new.out c.loop-i-test.true c.index-names-i.is c.loop-i.invariant c.sign_if.ensures c.name.ensures

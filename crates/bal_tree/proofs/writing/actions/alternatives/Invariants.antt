@@ -1,8 +1,9 @@
 use Rattle.std.proofs.Common.{map, take}
 use Rattle.bal_base.specs.declared.token.Sign.TheVariants.{Bar}
-use Rattle.bal_tree.specs.Pieces.{Adds, separated}
+use Rattle.bal_tree.specs.Pieces.{separated}
+use Rattle.bal_tree.specs.Writing.{Writes}
 use Rattle.bal_tree.specs.NamePieces.{name_pieces}
 use Rattle.bal_tree.proofs.writing.actions.alternatives.Given as goal
 
 abbrev pub invariant-loop-i : goal.invariant-loop-i
-invariant-loop-i l = Adds l.initial.out.items (separated Bar (map name_pieces (take l.i l.names))) l.out.items
+invariant-loop-i l = Writes l.initial.out (separated Bar (map name_pieces (take l.i l.names))) l.out

@@ -5,4 +5,4 @@ use Rattle.bal_tree.proofs.writing.defs.defs.Goals as goal
 
 pub loop-d-preserved : goal.loop-d-preserved
 loop-d-preserved c =
-    joined-more def_pieces c.args.defs.now c.loop-d.d-index c.d-item.result c.args.out.now.items c.loop-d.out.items c.def.new.out.items (grind (arith, c.loop-d-test.true)) c.d-item.is c.loop-d.invariant c.in_ok-def.ensures
+    joined-more def_pieces c.args.defs.now c.loop-d.d-index c.d-item.result c.args.out.now c.loop-d.out c.def.new.out (grind (arith, c.loop-d-test.true)) c.d-item.is c.loop-d.invariant c.def.ensures

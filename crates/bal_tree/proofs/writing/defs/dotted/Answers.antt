@@ -6,4 +6,4 @@ use Rattle.bal_tree.proofs.writing.defs.dotted.Goals as goal
 
 pub loop-w-preserved : goal.loop-w-preserved
 loop-w-preserved c =
-    behind-more word_pieces Dot c.args.words.now c.loop-w.w-index c.w-item.result c.args.out.now.items c.loop-w.out.items c.next_word.new.out.items (grind (arith, c.loop-w-test.true)) c.w-item.is c.loop-w.invariant c.in_ok-next_word.ensures
+    behind-more word_pieces Dot c.args.words.now c.loop-w.w-index c.w-item.result c.args.out.now c.loop-w.out c.next_word.new.out (grind (arith, c.loop-w-test.true)) c.w-item.is c.loop-w.invariant c.next_word.ensures

@@ -5,8 +5,8 @@ use Rattle.bal_tree.proofs.writing.stmts.+stmt.Goals as goal
 
 pub stmts-loop-s-preserved : goal.stmts-loop-s-preserved
 stmts-loop-s-preserved t c =
-    joined-more stmt_pieces c.args.stmts.now c.loop-s.s-index c.s-item.result c.args.out.now.items c.loop-s.out.items c.stmt.new.out.items (grind (arith, c.loop-s-test.true)) c.s-item.is c.loop-s.invariant c.in_ok-stmt.ensures
+    joined-more stmt_pieces c.args.stmts.now c.loop-s.s-index c.s-item.result c.args.out.now c.loop-s.out c.stmt.new.out (grind (arith, c.loop-s-test.true)) c.s-item.is c.loop-s.invariant c.stmt.ensures
 
 pub each_clause-loop-c-preserved : goal.each_clause-loop-c-preserved
 each_clause-loop-c-preserved t c =
-    joined-more clause_pieces c.args.clauses.now c.loop-c.c-index c.c-item.result c.args.out.now.items c.loop-c.out.items c.clause.new.out.items (grind (arith, c.loop-c-test.true)) c.c-item.is c.loop-c.invariant c.in_ok-clause.ensures
+    joined-more clause_pieces c.args.clauses.now c.loop-c.c-index c.c-item.result c.args.out.now c.loop-c.out c.clause.new.out (grind (arith, c.loop-c-test.true)) c.c-item.is c.loop-c.invariant c.clause.ensures

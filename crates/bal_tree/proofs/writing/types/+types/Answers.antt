@@ -6,12 +6,12 @@ use Rattle.bal_tree.proofs.writing.types.+types.Goals as goal
 
 pub type_list-loop-i-preserved : goal.type_list-loop-i-preserved
 type_list-loop-i-preserved t c =
-    separated-more type_pieces Comma c.args.types.now c.loop-i.i c.index-types-i.result c.args.out.now.items c.loop-i.out.items c.sign_if.new.out.items c.type_tree.new.out.items c.loop-i-test.true c.index-types-i.is c.loop-i.invariant c.in_ok-sign_if.ensures c.in_ok-type_tree.ensures
+    separated-more type_pieces Comma c.args.types.now c.loop-i.i c.index-types-i.result c.args.out.now c.loop-i.out c.sign_if.new.out c.type_tree.new.out c.loop-i-test.true c.index-types-i.is c.loop-i.invariant c.sign_if.ensures c.type_tree.ensures
 
 pub param_type_list-loop-i-preserved : goal.param_type_list-loop-i-preserved
 param_type_list-loop-i-preserved t c =
-    separated-more param_type_pieces Comma c.args.params.now c.loop-i.i c.index-params-i.result c.args.out.now.items c.loop-i.out.items c.sign_if.new.out.items c.param_type.new.out.items c.loop-i-test.true c.index-params-i.is c.loop-i.invariant c.in_ok-sign_if.ensures c.in_ok-param_type.ensures
+    separated-more param_type_pieces Comma c.args.params.now c.loop-i.i c.index-params-i.result c.args.out.now c.loop-i.out c.sign_if.new.out c.param_type.new.out c.loop-i-test.true c.index-params-i.is c.loop-i.invariant c.sign_if.ensures c.param_type.ensures
 
 pub field_list-loop-f-preserved : goal.field_list-loop-f-preserved
 field_list-loop-f-preserved t c =
-    joined-more field_pieces c.args.fields.now c.loop-f.f-index c.f-item.result c.args.out.now.items c.loop-f.out.items c.field.new.out.items (grind (arith, c.loop-f-test.true)) c.f-item.is c.loop-f.invariant c.in_ok-field.ensures
+    joined-more field_pieces c.args.fields.now c.loop-f.f-index c.f-item.result c.args.out.now c.loop-f.out c.field.new.out (grind (arith, c.loop-f-test.true)) c.f-item.is c.loop-f.invariant c.field.ensures
