@@ -18,6 +18,7 @@ pub mod Meeting
 pub mod Merging
 pub mod NewNodes
 pub mod NodeTrees
+pub mod Nothing
 pub mod Numbering
 pub mod OneNumber
 pub mod Outside

@@ -13,7 +13,7 @@ use Rattle.type_diagrams.proofs.Canonical.{canonical}
 use Rattle.type_diagrams.proofs.CanonicalSets.{sets-same}
 use Rattle.type_diagrams.proofs.NodeTrees.{member_at, tree_of-injective, tree_of-ordered}
 
-diagram-same : (d e : Diagram) → d.simple ≡ e.simple → ((k : Kind) → root_of d k ≡ root_of e k) → d ≡ e
+pub diagram-same : (d e : Diagram) → d.simple ≡ e.simple → ((k : Kind) → root_of d k ≡ root_of e k) → d ≡ e
 diagram-same d e s r = λ i. record { simple = s i; list = r Lists i; mapping = r Mappings i; error = r Errors i; function = r Functions i; future = r Futures i }
 
 module _ (t : Table) (is : IsTable t) where

@@ -1,5 +1,5 @@
 -- What is said of the parts of the shapes of a path that has none.
-use Rattle.std.proofs.Common.{◌≡◌, inr, ℕ, List, Option, refl}
+use Rattle.std.proofs.Common.{inr, ℕ, List, Option}
 use Rattle.bal_base.specs.declared.shape.Shape.{Shape}
 use Rattle.type_model.specs.declared.basic.SemType.{Basic}
 use Rattle.type_model.specs.declared.basic.BasicSet.TheVariants.{Never}
@@ -7,7 +7,7 @@ use Rattle.type_model.specs.declared.atoms.AtomDef.{AtomDef}
 use Rattle.type_model.specs.declared.answers.Keys.{Keys}
 use Rattle.type_diagrams.specs.declared.kind.Kind.{Kind}
 use Rattle.type_diagrams.specs.declared.path.Path.{Path}
-use Rattle.type_diagrams.specs.Conditions.{AreOne, condition_of, nothing}
+use Rattle.type_diagrams.specs.Conditions.{condition_of, nothing}
 use Rattle.type_diagrams.specs.Projections.{AreParts}
 use Rattle.type_diagrams.specs.Tables.{Table, condition}
 use Rattle.type_diagrams.specs.Turns.{HasLower, IsShapeOn}

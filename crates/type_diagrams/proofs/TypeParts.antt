@@ -10,7 +10,7 @@ use Rattle.type_diagrams.specs.declared.simple.SimpleSet.{SimpleSet}
 use Rattle.type_diagrams.specs.Kinds.{IsSimple}
 use Rattle.type_diagrams.specs.Simple.{by_simple}
 use Rattle.type_diagrams.specs.Sets.{IsSetOf, set_of}
-use Rattle.type_diagrams.specs.Conditions.{Condition, has_simple, is_kind, is_def_of, kind_of_def, everything, basic_condition, atom_condition}
+use Rattle.type_diagrams.specs.Conditions.{Condition, has_simple, is_kind, is_def_of, kind_of_def, everything, nothing, basic_condition, atom_condition}
 use Rattle.type_diagrams.specs.Tables.{Table, root_of}
 use Rattle.type_diagrams.specs.Decisions.{IsNumber, value_of}
 use Rattle.type_diagrams.specs.Whole.{IsDiagramOver, HasParts, HasBasicRoots, IsLiteralIn}
@@ -20,7 +20,7 @@ pub parts-over : (t : Table) (d : Diagram) (c : Condition) → HasParts t d c �
 parts-over t d c parts = record { set = slice_get_within t.sets d.simple parts.set parts.set_is; roots = parts.roots }
 
 -- one answer for all simple shapes
-simple-all : (has : Bool) (x : Shape) → IsSimple x → by_simple has (λ b. has) (λ i. has) (λ t. has) x ≡ has
+pub simple-all : (has : Bool) (x : Shape) → IsSimple x → by_simple has (λ b. has) (λ i. has) (λ t. has) x ≡ has
 simple-all has Nil is = refl
 simple-all has (BoolShape b) is = refl
 simple-all has (Int i) is = refl
@@ -40,6 +40,15 @@ module _ (t : Table) (s : SimpleSet) (n : ℕ) (at : slice_get t.sets n ≡ Some
     roots = by_kinds (λ k. IsNumber t.nodes (root_of (record { simple = n; list = 1; mapping = 1; error = 1; function = 1; future = 1 }) k)) (omega arith) (omega arith) (omega arith) (omega arith) (omega arith);
     by_kind = λ k v. by_kinds (λ k. value_of t.nodes (root_of (record { simple = n; list = 1; mapping = 1; error = 1; function = 1; future = 1 }) k) v ≡ true) refl refl refl refl refl k;
   }
+
+  pub nothing-HasParts : (d : Diagram) → IsSetOf (by_simple false (λ b. false) (λ i. false) (λ u. false)) s → d ≡ record { simple = n; list = 0; mapping = 0; error = 0; function = 0; future = 0 } → HasParts t d nothing
+  nothing-HasParts d set is = subst (λ e. HasParts t e nothing) (sym is) (record {
+    set = set_of s;
+    set_is = at;
+    simple = λ x i v. set.same x v ∙ simple-all false x i;
+    roots = by_kinds (λ k. IsNumber t.nodes (root_of (record { simple = n; list = 0; mapping = 0; error = 0; function = 0; future = 0 }) k)) (omega arith) (omega arith) (omega arith) (omega arith) (omega arith);
+    by_kind = λ k v. by_kinds (λ k. value_of t.nodes (root_of (record { simple = n; list = 0; mapping = 0; error = 0; function = 0; future = 0 }) k) v ≡ false) refl refl refl refl refl k;
+  })
 
   pub basic-HasParts : (b : BasicSet) (d : Diagram) → IsSetOf (λ x. has_simple x b) s → HasBasicRoots t n b d → HasParts t d (basic_condition b)
   basic-HasParts b d set roots = record {

@@ -1,8 +1,8 @@
-//! Reading diagrams: their nodes, roots and paths, and their simple shapes.
-ghost use Rattle.std.specs.Prelude.{◌≡◌, ◌++◌, ℕ, Bool, List, IfOk, OnOk, map};
+//! Reading diagrams: their nodes, roots and paths, their simple shapes, and whether they have any.
+ghost use Rattle.std.specs.Prelude.{◌≡◌, ◌↔◌, ◌++◌, ℕ, Bool, List, IfOk, IsTrue, OnOk, map};
 ghost use Rattle.type_model.specs.declared.atoms.AtomDef.{AtomDef};
 ghost use Rattle.type_model.specs.Defined.{NamesBelow};
-ghost use Rattle.type_diagrams.specs.Conditions.{AreOne, condition_of};
+ghost use Rattle.type_diagrams.specs.Conditions.{AreOne, IsNothing, condition_of};
 ghost use Rattle.type_diagrams.specs.Paths.{paths_of, behind};
 ghost use Rattle.type_diagrams.specs.Tables.{AreNodes, IsDiagram, Leads, condition, tree_of};
 ghost use Rattle.type_diagrams.specs.Decisions.{IsNumber};
@@ -13,9 +13,10 @@ ghost use Rattle.type_diagrams.specs.Written.{simple_alone};
 
 use crate::diagrams::Diagrams;
 use crate::kind::Kind;
-use crate::node::Node;
+use crate::node::{Diagram, Node};
 use crate::nodes::{FALSE, TRUE};
 use crate::path::Path;
+use crate::simple::SimpleSet;
 use bal_base::{AtomList, Memory, Shape};
 use std::alloc::Global;
 use type_model::SemType;
@@ -39,6 +40,17 @@ impl Diagrams {
         ensures leads { (v : ℕ → Bool) → Leads self.now.nodes v result ((condition self.now a).by_kind kind v) }
     {
         self.diagram(a).root(kind)
+    }
+
+    /// Whether the diagram has no shape. Takes no memory.
+    pub fn is_nothing(&self, a: u32) -> bool
+        requires { IsDiagram self.now a }
+        ensures { IsTrue result ↔ IsNothing (condition self.now a) }
+    {
+        let diagram = self.diagram(a);
+        let none = SimpleSet::all(self.alloc, false);
+        diagram == Diagram::without_kinds(diagram.simple)
+            && self.sets.as_slice()[diagram.simple as usize] == none
     }
 
     /// The paths of a kind, in order: those on which the first literal holds before the others.

@@ -2,7 +2,7 @@
 ghost use Rattle.std.specs.Prelude.{◌≡◌, ◌<◌, ◌≤◌, ℕ, IfOk, OnOk, length};
 ghost use Rattle.type_model.specs.Defined.{IsDefined};
 ghost use Rattle.type_diagrams.specs.Kinds.{the_mark};
-ghost use Rattle.type_diagrams.specs.Conditions.{condition_of, basic_condition, atom_condition, everything, kind_of_def};
+ghost use Rattle.type_diagrams.specs.Conditions.{condition_of, basic_condition, atom_condition, everything, nothing, kind_of_def};
 ghost use Rattle.type_model.specs.Membership.{In};
 ghost use Rattle.type_diagrams.specs.Tables.{IsBelow, condition};
 ghost use Rattle.type_diagrams.specs.Whole.{Extends, Gives, HasOneNumberEach, IsMetWhere, IsLiteralIn, HasBasicRoots};
@@ -70,6 +70,16 @@ impl Diagrams {
             function: TRUE,
             future: TRUE,
         })
+    }
+
+    /// The diagram of no shape.
+    pub fn nothing(&mut self) -> Result<u32, Memory>
+        ensures extends { Extends 0 self.old self.new }
+        ensures one { OnOk result (HasOneNumberEach self.new) }
+        ensures condition { IfOk result (Gives self.new nothing) }
+    {
+        let simple = self.set_number(SimpleSet::all(self.alloc, false))?;
+        self.number(Diagram::without_kinds(simple))
     }
 
     fn of_basic(&mut self, basic: &BasicSet) -> Result<u32, Memory>
