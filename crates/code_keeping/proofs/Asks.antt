@@ -13,21 +13,22 @@ use Rattle.machine_model.specs.Keeping.{AskFits, EffectFits}
 use Rattle.machine_model.specs.Machine.{Ask, Frame, asks, captured_slots}
 use Rattle.machine_model.specs.Runs.{Running}
 use Rattle.stack_code.specs.declared.code.Code.{Code}
+use Rattle.stack_code.specs.declared.code.Unit.{Unit as CodeUnit}
 use Rattle.stack_code.specs.CodeMachine.{Standing, code_facts, codes, obeys, standing}
 use Rattle.stack_code.specs.Commands.{Do, command_at}
 use Rattle.stack_code.specs.Flow.{DoesTyped, tally_landing, tally_thrown}
 use Rattle.stack_code.specs.Frames.{TallyIs, TopFits}
 use Rattle.stack_code.specs.Good.{GoodCommon, code_invariant}
-use Rattle.stack_code.specs.Places.{surroundings, tally_at, traps_at}
+use Rattle.stack_code.specs.Places.{Station, surroundings, tally_at, traps_at}
 use Rattle.stack_code.specs.Values.{AllFit, Fits}
 use Rattle.stack_code.specs.WellTyped.{WellTyped}
-use Rattle.code_keeping.specs.Laws.{StrictOperationsKeep, TakesAll}
+use Rattle.code_keeping.specs.Laws.{AskComes, StrictOperationsCome, StrictOperationsKeep, TakesAll}
 use Rattle.code_keeping.specs.Rows.{EffectTyped, RowKeeps}
 use Rattle.code_keeping.proofs.Doing.{quietly-behind}
 use Rattle.code_keeping.proofs.Landing.{caught}
 use Rattle.code_keeping.proofs.Places.{IsAt, at-place, typed-by, typed-in}
 use Rattle.code_keeping.proofs.Staying.{for-none, tally-later, unit-later}
-use Rattle.code_keeping.proofs.Taking.{take-operands}
+use Rattle.code_keeping.proofs.Taking.{IsTaken, take-operands}
 
 module _ (code : Code) (fillers : ℕ → List Filler) (natives : Answers) (t : WellTyped code) (c : Common) (depth : ℕ) (good : GoodCommon code c Running) (f : Frame Standing) (fits : TopFits code c f) (at : IsAt code c f)
     (o : Operation) (ec : command_at code f.control.place ≡ Some (Do o)) (quiet : talk_of o ≡ NoTalk) (goes : ¬ (EndsFrame o)) where
@@ -46,7 +47,7 @@ module _ (code : Code) (fillers : ℕ → List Filler) (natives : Answers) (t : 
   landing : tally_landing (command_at code p) (tally_at code p) ≡ tally_at code p
   landing = ap (λ x. tally_landing x (tally_at code p)) ec ∙ ap (λ k. tally_thrown k (tally_at code p)) quiet
 
-  effect-fits : (args below : List Value) → l.stack ≡ reverse args ++ below → AllFit code c (reverse below) typed.rest → (effect : Effect) → EffectTyped code c typed.result effect →
+  pub effect-fits : (args below : List Value) → l.stack ≡ reverse args ++ below → AllFit code c (reverse below) typed.rest → (effect : Effect) → EffectTyped code c typed.result effect →
       EffectFits natives (codes fillers code) (code_invariant code) c depth f (standing (p + 1) f.control.traps (with_stack l below)) effect
   effect-fits args below is fit (Gives vs d) (better, keeps, later, given) =
       (better, keeps, (λ q apart. later q), quietly-behind code f at.u at.is at.station o ec typed goes quiet c d (later f.role) (reverse args) below vs is fit given fits.0)
@@ -73,11 +74,27 @@ module _ (code : Code) (fillers : ℕ → List Filler) (natives : Answers) (t : 
       (λ effect does. effect-fits taken.args taken.below taken.stack taken.others effect
       (row c typed.operands typed.result taken.args (record { unit = f.unit; role = f.role; depth = depth }) effect good typed.typed taken.fit does))
 
-  pub asks-well : TakesAll o → ((place : _) → RowKeeps code fillers natives place o) → Asks ((codes fillers code).look f.unit f.control)
+  pub asks-well : TakesAll o → ((u : CodeUnit) (station : Station) → RowKeeps code fillers natives (surroundings code u station) o) → Asks ((codes fillers code).look f.unit f.control)
   asks-well strict row =
       let captured = captured_slots (code_facts fillers code) f.unit in
-      subst (λ x. Asks (obeys captured f.control x)) (sym ec) (strict-fits captured (strict code (surroundings code at.u at.station) typed.operands typed.result typed.typed captured l) (row (surroundings code at.u at.station)))
+      subst (λ x. Asks (obeys captured f.control x)) (sym ec) (strict-fits captured (strict code (surroundings code at.u at.station) typed.operands typed.result typed.typed captured l) (row at.u at.station))
 
 pub strict-operations-keep : (natives : Answers) → StrictOperationsKeep natives
 strict-operations-keep natives fillers o quiet goes strict row code c depth f t good fits ec =
-    asks-well code fillers natives t c depth good f fits (at-place code c f fits.0) o ec quiet goes strict (λ place. row code place t)
+    asks-well code fillers natives t c depth good f fits (at-place code c f fits.0) o ec quiet goes strict (λ u station. row code u station t)
+
+-- and something comes
+pub strict-operations-come : (natives : Answers) → StrictOperationsCome natives
+strict-operations-come natives fillers o strict row code c depth f t good fits ec =
+    let at = at-place code c f fits.0 in
+    let typed = typed-by code at.u at.station f.control.place (Do o) ec (typed-in code t f.unit at.u at.is at.station at.stationed f.control.place at.here.0) in
+    by at typed (take-operands (Fits code c) o f.control.local typed.rest typed.operands (subst (λ ts. AllFit code c (reverse f.control.local.stack) ts) typed.stack fits.1))
+  where
+    captured : List ℕ
+    captured = captured_slots (code_facts fillers code) f.unit
+
+    by : (at : IsAt code c f) (typed : DoesTyped code at.u at.station f.control.place o) → IsTaken (Fits code c) o f.control.local typed.rest typed.operands → AskComes natives (code_facts fillers code) c depth f ((codes fillers code).look f.unit f.control)
+    by at typed taken =
+        subst (λ x. AskComes natives (code_facts fillers code) c depth f (obeys captured f.control x)) (sym ec)
+        (subst (λ a. AskComes natives (code_facts fillers code) c depth f (asks (standing (f.control.place + 1) f.control.traps) a)) (sym (strict code (surroundings code at.u at.station) typed.operands typed.result typed.typed captured f.control.local ∙ taken.is))
+        (row code at.u at.station t c typed.operands typed.result taken.args (record { unit = f.unit; role = f.role; depth = depth }) good typed.typed taken.fit))

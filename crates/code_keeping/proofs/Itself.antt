@@ -62,7 +62,7 @@ captures-some go l (s ∷ slots) vs next e = by (λ v h. captures-some go l slot
 -- ---- constants
 
 -- a constant is made, and stands for its own shape alone
-its-shape : (code : Code) (c : Common) (k : Constant) (x : Shape) → HasShape c.world.heap x (constant_value k) → x ≡ shape_of k
+pub its-shape : (code : Code) (c : Common) (k : Constant) (x : Shape) → HasShape c.world.heap x (constant_value k) → x ≡ shape_of k
 its-shape code c NilConstant NilShape e = refl
 its-shape code c (BoolConstant b) (BoolShape d) e = ap (λ z. BoolShape z) (let q : d ≡ b = cc in q)
 its-shape code c (IntConstant i) (IntShape j) e = ap (λ z. IntShape z) (let q : j ≡ i = cc in q)

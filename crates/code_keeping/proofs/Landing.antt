@@ -70,7 +70,7 @@ opened code first (suc fuel) (suc n) t ts le e = by (λ m x xs k h. opened code 
 
 -- ---- errors
 
-error-shape : (h : Heap) (env : _) (n : ℕ) (s : Shape) → HasShape h s (Error n) → In env s (Basic ErrorAll)
+pub error-shape : (h : Heap) (env : _) (n : ℕ) (s : Shape) → HasShape h s (Error n) → In env s (Basic ErrorAll)
 error-shape h env n NilShape e = absurd (let q : ⊥ = cc in q)
 error-shape h env n (BoolShape b) e = absurd (let q : ⊥ = cc in q)
 error-shape h env n (IntShape i) e = absurd (let q : ⊥ = cc in q)

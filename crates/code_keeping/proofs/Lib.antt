@@ -2,8 +2,10 @@ pub mod Asks
 pub mod Beginning
 pub mod Calling
 pub mod Changing
+pub mod Coming
 pub mod Constants
 pub mod Doing
+pub mod Done
 pub mod Entering
 pub mod Flushing
 pub mod Itself
@@ -12,9 +14,11 @@ pub mod Later
 pub mod Lists
 pub mod Making
 pub mod Moving
+pub mod OfKind
+pub mod Operands
+pub mod Panicking
 pub mod Places
 pub mod Receiving
-pub mod Reckoning
 pub mod Returning
 pub mod Sending
 pub mod Serving
@@ -24,5 +28,6 @@ pub mod Starting
 pub mod Staying
 pub mod Taking
 pub mod Talking
-pub mod Telling
 pub mod Trapped
+pub mod Valuing
+pub mod Varying

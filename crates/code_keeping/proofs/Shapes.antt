@@ -39,13 +39,13 @@ get-map f (x ∷ xs) (suc n) = get-map f xs n
 module _ (code : Code) (t : WellTyped code) where
   -- ---- a unit that can be called has its own atoms
 
-  own-atoms : (n : ℕ) (u : CodeUnit) → slice_get code.units n ≡ Some u → IsCallable code n → IsSomeAnd (slice_get code.atoms u.arrow) (IsArrowOf code u) × IsSomeAnd (slice_get code.atoms u.future) (IsFutureOf code u)
+  pub own-atoms : (n : ℕ) (u : CodeUnit) → slice_get code.units n ≡ Some u → IsCallable code n → IsSomeAnd (slice_get code.atoms u.arrow) (IsArrowOf code u) × IsSomeAnd (slice_get code.atoms u.future) (IsFutureOf code u)
   own-atoms n u e (known, worker, initialiser) = (t.fields.atoms n u e).1 worker initialiser
 
-  unit-of : (n : ℕ) → IsCallable code n → (u : CodeUnit) × (slice_get code.units n ≡ Some u)
+  pub unit-of : (n : ℕ) → IsCallable code n → (u : CodeUnit) × (slice_get code.units n ≡ Some u)
   unit-of n (known, worker, initialiser) = let (u, e, h) = some-there (λ u. IsInherent code u.arrow × IsInherent code u.future) (slice_get code.units n) known in (u, e)
 
-  types-of : (n : ℕ) (u : CodeUnit) → slice_get code.units n ≡ Some u → slice_get (code_types code).units n ≡ Some (u.arrow, u.future)
+  pub types-of : (n : ℕ) (u : CodeUnit) → slice_get code.units n ≡ Some u → slice_get (code_types code).units n ≡ Some (u.arrow, u.future)
   types-of n u e = get-map (λ u. (u.arrow, u.future)) code.units n ∙ ap (λ o. option_map (λ u. (u.arrow, u.future)) o) e
 
   arrow-shape : (u : CodeUnit) (d : AtomDef) → IsArrowOf code u d → ShapeFits code.atoms (FunctionShape true no-graph) d

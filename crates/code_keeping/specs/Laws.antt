@@ -1,5 +1,5 @@
 -- What steps of well-typed code keep, as laws.
-use Rattle.std.specs.Prelude.{◌≡◌, ◌⊎◌, ◌<◌, ◌+◌, ℕ, Bool, List, [], ◌∷◌, Option, Some, All, length, slice_get}
+use Rattle.std.specs.Prelude.{◌≡◌, ◌⊎◌, ◌<◌, ◌+◌, ℕ, Bool, List, [], ◌∷◌, Option, Some, All, IsTrue, length, slice_get, ⊤}
 use Rattle.bal_base.specs.declared.text.Text.{Text}
 use Rattle.bal_base.specs.Valid.{IsText}
 use Rattle.type_model.specs.declared.basic.SemType.{SemType}
@@ -7,35 +7,38 @@ use Rattle.operations.specs.declared.operation.Operation.{Operation}
 use Rattle.operations.specs.declared.operation.Operation.TheVariants as op
 use Rattle.operations.specs.Talk.{Talk, NoTalk, Receives, Sends, talk_of}
 use Rattle.operations.specs.Typing.{OpTyped}
-use Rattle.operations.specs.Rows.{Surroundings}
+use Rattle.operations.specs.Rows.{IsWithin, Surroundings}
 use Rattle.value_model.specs.declared.filler.Filler.{Filler}
 use Rattle.value_model.specs.declared.value.Value.{Value}
 use Rattle.value_model.specs.Heap.{IsClosed}
 use Rattle.value_model.specs.Meaning.{Answers}
 use Rattle.value_model.specs.Table.{Serves, TestTable, table_of}
 use Rattle.run_model.specs.Common.{Common, Role, End, Returned, Panicked}
+use Rattle.run_model.specs.Facts.{Facts}
 use Rattle.run_model.specs.Local.{Local, acts, takes}
 use Rattle.run_model.specs.Messages.{one_sent, with_received}
+use Rattle.run_model.specs.Performs.{Performs}
 use Rattle.run_model.specs.Strands.{channel_at, settled, with_channel, worker_end}
 use Rattle.machine_model.specs.Following.{EndsFrame}
 use Rattle.machine_model.specs.Keeping.{AreApart, AskFits, Caught, IsKept}
-use Rattle.machine_model.specs.Machine.{Frame, On, State, goes_to}
+use Rattle.machine_model.specs.Machine.{Ask, Does, Frame, On, State, Stuck, goes_to}
 use Rattle.machine_model.specs.Runs.{IsReached, Phase, Picking, Running, start}
 use Rattle.machine_model.specs.Strands.{StrandsHold}
 use Rattle.stack_code.specs.declared.code.Code.{Code}
 use Rattle.stack_code.specs.declared.code.Unit.{Unit as CodeUnit}
-use Rattle.stack_code.specs.CodeMachine.{Standing, codes}
+use Rattle.stack_code.specs.CodeMachine.{Standing, code_facts, codes}
 use Rattle.stack_code.specs.Commands.{Do, command_at}
 use Rattle.stack_code.specs.Flow.{tally_then}
 use Rattle.stack_code.specs.Frames.{AwaitsResult, TallyIs, TopFits}
 use Rattle.stack_code.specs.Activations.{FitsBehind, GoodActivations}
 use Rattle.stack_code.specs.Good.{Good, GoodCommon, IsLater, NearlyCommon, code_invariant}
 use Rattle.stack_code.specs.Messages.{IsLast}
-use Rattle.stack_code.specs.Places.{IsIn, IsStation, Station, stack_at, tally_at, traps_at}
+use Rattle.stack_code.specs.Places.{IsIn, IsStation, Station, stack_at, surroundings, tally_at, traps_at}
 use Rattle.stack_code.specs.Tables.{UnitAt}
 use Rattle.stack_code.specs.Values.{Fits, GoodHeap, IsMadeError, code_types}
 use Rattle.stack_code.specs.WellTyped.{WellTyped}
-use Rattle.code_keeping.specs.Rows.{RowKeeps}
+use Rattle.code_keeping.specs.Kinds.{Kind, kind_of, value_kind}
+use Rattle.code_keeping.specs.Rows.{Comes, RowComes, RowKeeps}
 
 -- ---- how a run begins
 
@@ -52,6 +55,14 @@ abbrev pub GoesOnByItself : Type 0
 GoesOnByItself =
     (code : Code) (fillers : ℕ → List Filler) (c : Common) (f : Frame Standing) (next : Standing) →
     WellTyped code → IsClosed c.world.heap → TopFits code c f → (codes fillers code).look f.unit f.control ≡ On next → TopFits code c (goes_to f next)
+
+-- ---- operands
+
+-- operands in types all of whose shapes are of some kinds are of one of these kinds
+abbrev pub OperandsAreOfKinds : Type 0
+OperandsAreOfKinds =
+    (code : Code) (c : Common) (v : Value) (s : SemType) (among : Kind → Bool) →
+    WellTyped code → GoodHeap code c → Fits code c v s → IsWithin code.atoms (λ x. IsTrue (among (kind_of x))) s → IsTrue (among (value_kind c.world.heap v))
 
 -- ---- what it asks for
 
@@ -71,19 +82,54 @@ TakesAll o =
 abbrev pub StrictOperationsKeep : Answers → Type 0
 StrictOperationsKeep natives =
     (fillers : ℕ → List Filler) (o : Operation) → talk_of o ≡ NoTalk → (¬ (EndsFrame o)) → TakesAll o →
-    ((code : Code) (place : Surroundings) → WellTyped code → RowKeeps code fillers natives place o) → AsksWell fillers natives o
+    ((code : Code) (u : CodeUnit) (station : Station) → WellTyped code → RowKeeps code fillers natives (surroundings code u station) o) → AsksWell fillers natives o
 
--- those that tell whether something is so do
-abbrev pub TestsKeep : Answers → Type 0
-TestsKeep natives =
-    (fillers : ℕ → List Filler) →
-    AsksWell fillers natives op.Not × AsksWell fillers natives op.Equal × AsksWell fillers natives op.Same × ((t : SemType) → AsksWell fillers natives (op.Test t))
+-- ---- that something comes
 
--- and those on ints, which give an int or panic
-abbrev pub IntsKeep : Answers → Type 0
-IntsKeep natives =
-    (fillers : ℕ → List Filler) →
-    AsksWell fillers natives op.Add × AsksWell fillers natives op.Subtract × AsksWell fillers natives op.Multiply × AsksWell fillers natives op.Divide
+-- it can't be that nothing comes of what is asked for
+abbrev pub AskComes : Answers → Facts → Common → ℕ → Frame Standing → Ask Standing → Type 0
+AskComes natives facts c depth f (On next) = ⊤
+AskComes natives facts c depth f (Does o vs k) = Comes (Performs facts natives o vs (record { unit = f.unit; role = f.role; depth = depth }) c)
+AskComes natives facts c depth f Stuck = ⊥
+
+abbrev pub AskedComes : (ℕ → List Filler) → Answers → Operation → Type 0
+AskedComes fillers natives o =
+    (code : Code) (c : Common) (depth : ℕ) (f : Frame Standing) →
+    WellTyped code → GoodCommon code c Running → TopFits code c f → command_at code f.control.place ≡ Some (Do o) →
+    AskComes natives (code_facts fillers code) c depth f ((codes fillers code).look f.unit f.control)
+
+abbrev pub StrictOperationsCome : Answers → Type 0
+StrictOperationsCome natives =
+    (fillers : ℕ → List Filler) (o : Operation) → TakesAll o →
+    ((code : Code) (u : CodeUnit) (station : Station) → WellTyped code → RowComes code fillers natives (surroundings code u station) o) → AskedComes fillers natives o
+
+-- ---- operations by families
+
+-- what a frame asks for with the operation fits, whatever comes, and something comes
+abbrev pub IsDone : (ℕ → List Filler) → Answers → Operation → Type 0
+IsDone fillers natives o = AsksWell fillers natives o × AskedComes fillers natives o
+
+-- those on ints and strings: they give one, or panic
+abbrev pub NumbersAndTextsAreDone : Answers → Type 0
+NumbersAndTextsAreDone natives =
+    (fillers : ℕ → List Filler) → let Done = IsDone fillers natives in
+    Done op.Add × Done op.Subtract × Done op.Multiply × Done op.Divide × Done op.Remainder × Done op.Negate × Done op.Concat × Done op.GetChar
+
+-- those that tell whether something is so, and casts
+abbrev pub TestsAreDone : Answers → Type 0
+TestsAreDone natives =
+    (fillers : ℕ → List Filler) → let Done = IsDone fillers natives in
+    Done op.Less × Done op.LessEqual × Done op.Not × Done op.Equal × Done op.Same × ((t : SemType) → Done (op.Test t) × Done (op.Cast t))
+
+-- ticks and module variables, and the load of a slot
+abbrev pub VariablesAreDone : Answers → Type 0
+VariablesAreDone natives =
+    (fillers : ℕ → List Filler) → let Done = IsDone fillers natives in
+    Done op.Tick × ((m : ℕ) → Done (op.LoadModule m) × Done (op.StoreModule m)) × ((slot : ℕ) → Done (op.Load slot))
+
+-- a panic: it is caught where a trap is open
+abbrev pub PanicsAreDone : Answers → Type 0
+PanicsAreDone natives = (fillers : ℕ → List Filler) → IsDone fillers natives op.Panic
 
 -- a call: the frame awaits the result, and the unit begins
 abbrev pub CallsKeep : Answers → Type 0

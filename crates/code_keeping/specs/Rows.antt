@@ -17,6 +17,10 @@ use Rattle.stack_code.specs.CodeMachine.{code_facts}
 use Rattle.stack_code.specs.Good.{GoodCommon, IsLater, NearlyCommon}
 use Rattle.stack_code.specs.Values.{AllFit, IsMadeError}
 
+-- it can't be that nothing comes of it
+abbrev pub Comes : {A : Type 0} → (A → Type 0) → Type 0
+Comes {A} Q = ((a : A) → ¬ (Q a)) → ⊥
+
 module _ (code : Code) where
   abbrev pub LaterForAll : Common → Common → Type 0
   LaterForAll c d = (q : Option Role) → IsLater q c d
@@ -38,3 +42,10 @@ module _ (code : Code) where
       (c : Common) (operands : List SemType) (result : Option SemType) (vs : List Value) (asker : Asker) (effect : Effect) →
       GoodCommon code c Running → OpTyped code.atoms place o operands result → AllFit code c vs operands →
       Performs (code_facts fillers code) natives o vs asker c effect → EffectTyped c result effect
+
+  -- from such operands it comes to something
+  abbrev pub RowComes : (ℕ → List Filler) → Answers → Surroundings → Operation → Type 0
+  RowComes fillers natives place o =
+      (c : Common) (operands : List SemType) (result : Option SemType) (vs : List Value) (asker : Asker) →
+      GoodCommon code c Running → OpTyped code.atoms place o operands result → AllFit code c vs operands →
+      Comes (Performs (code_facts fillers code) natives o vs asker c)

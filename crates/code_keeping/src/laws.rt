@@ -1,5 +1,5 @@
 //! Laws of steps. These calls do nothing: their clauses are laws.
-ghost use Rattle.code_keeping.specs.Laws.{AwaitedComes, CallsKeep, EndsKeep, FlushesKeep, GoesOnByItself, GoodHeapsAreServed, IntsKeep, MessagesKeep, NoTrappedReceive, NoTrappedSend, ReachedAreGood, ReturnsKeep, SendsKeep, SettlingKeeps, StartsWell, StrandsOfCodeHold, StrictOperationsKeep, TestsKeep};
+ghost use Rattle.code_keeping.specs.Laws.{AwaitedComes, CallsKeep, EndsKeep, FlushesKeep, GoesOnByItself, GoodHeapsAreServed, MessagesKeep, NoTrappedReceive, NoTrappedSend, NumbersAndTextsAreDone, OperandsAreOfKinds, PanicsAreDone, ReachedAreGood, ReturnsKeep, SendsKeep, SettlingKeeps, StartsWell, StrandsOfCodeHold, StrictOperationsCome, StrictOperationsKeep, TestsAreDone, VariablesAreDone};
 
 use run_model::Meaning;
 
@@ -13,13 +13,29 @@ pub fn goes_on_by_itself()
     ensures { GoesOnByItself }
 {}
 
+/// Operands in types all of whose shapes are of some kinds are of one of these kinds.
+pub fn operands_are_of_kinds()
+    ensures { OperandsAreOfKinds }
+{}
+
 /// What a frame asks for fits, whatever comes, where it asks for an operation that takes all its operands, as far as the
-/// operation keeps its row. A panic that is caught lands where its trap says. Negations, comparisons and
-/// tests keep theirs, and so do operations on ints, which may panic.
+/// operation keeps its row; a panic that is caught lands where its trap says. And something comes, where something comes of
+/// the row.
 pub fn strict_operations_keep<N: Meaning>()
     ensures rows { StrictOperationsKeep N.answers }
-    ensures tests { TestsKeep N.answers }
-    ensures ints { IntsKeep N.answers }
+    ensures comes { StrictOperationsCome N.answers }
+{}
+
+/// So it is with operations on ints, strings and booleans, comparisons, tests and casts.
+pub fn operations_on_values_are_done<N: Meaning>()
+    ensures numbers_and_texts { NumbersAndTextsAreDone N.answers }
+    ensures tests { TestsAreDone N.answers }
+{}
+
+/// And so with ticks, module variables, slots that are loaded, and panics.
+pub fn operations_of_frames_are_done<N: Meaning>()
+    ensures variables { VariablesAreDone N.answers }
+    ensures panics { PanicsAreDone N.answers }
 {}
 
 /// What a frame asks for fits at a call and at a return, also at the return of a worker.
