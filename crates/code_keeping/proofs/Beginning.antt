@@ -61,7 +61,7 @@ pick-list B (Some (Arrow args outcome alone)) h mapping arrow error future = abs
 pick-list B (Some (ErrorAtom t)) h mapping arrow error future = absurd (error t h)
 pick-list B (Some (FutureAtom t)) h mapping arrow error future = absurd (future t h)
 
-list-of : (env : List AtomDef) (a : ℕ) (P : List Ty → Option Ty → Type 0) → IsListAtom env a P → (fixed : List Ty) × (rest : Option Ty) × (slice_get env a ≡ Some (ListAtom fixed rest)) × P fixed rest
+pub list-of : (env : List AtomDef) (a : ℕ) (P : List Ty → Option Ty → Type 0) → IsListAtom env a P → (fixed : List Ty) × (rest : Option Ty) × (slice_get env a ≡ Some (ListAtom fixed rest)) × P fixed rest
 list-of env a P h = pick-list _ (slice_get env a) h (λ fields rest k. k) (λ args outcome alone k. k) (λ t k. k) (λ t k. k)
 
 -- ---- the heap before the first step

@@ -58,7 +58,7 @@ ends-with P (y ∷ xs) x (z ∷ zs) h =
     record { front = z ∷ e.front; last = e.last; is = ap (λ ys. z ∷ ys) e.is; below = (h.0, e.below); at = e.at }
 
 -- the unit whose signature a row speaks of
-signature-at : (code : Code) (unit : ℕ) (P : Signature → Type 0) → IsSomeAnd (slice_get (map signature_of code.units) unit) P → (g : CodeUnit) × (slice_get code.units unit ≡ Some g) × P (signature_of g)
+pub signature-at : (code : Code) (unit : ℕ) (P : Signature → Type 0) → IsSomeAnd (slice_get (map signature_of code.units) unit) P → (g : CodeUnit) × (slice_get code.units unit ≡ Some g) × P (signature_of g)
 signature-at code unit P h = by (slice_get code.units unit) refl (subst (λ o. IsSomeAnd o P) (get-map signature_of code.units unit) h)
   where
     by : (o : Option CodeUnit) → slice_get code.units unit ≡ o → IsSomeAnd (option_map signature_of o) P → (g : CodeUnit) × (slice_get code.units unit ≡ Some g) × P (signature_of g)
@@ -140,4 +140,4 @@ module _ (code : Code) (fillers : ℕ → List Filler) (natives : Answers) (t : 
       (called g eg row.0 row.1 taken.args taken.below taken.stack taken.fit taken.others)))
 
 pub calls-keep : (natives : Answers) → CallsKeep natives
-calls-keep natives fillers unit count code c depth f t good fits ec = asks-call code fillers natives t c depth good f fits (at-place code c f fits.0) unit count ec
+calls-keep natives fillers unit count code c t depth f good fits ec = asks-call code fillers natives t c depth good f fits (at-place code c f fits.0) unit count ec

@@ -36,16 +36,16 @@ abbrev pub AllCome : (code : Code) (c : Common) (result : Option SemType) → (E
 AllCome code c result Q = ((effect : Effect) → Q effect → EffectTyped code c result effect) × Comes Q
 
 -- what an operation owes, on operands that fit its row
-abbrev pub RowHolds : (code : Code) (fillers : ℕ → List Filler) (natives : Answers) → Surroundings → Operation → Type 0
-RowHolds code fillers natives place o =
-    (c : Common) (operands : List SemType) (result : Option SemType) (vs : List Value) (asker : Asker) → GoodCommon code c Running → OpTyped code.atoms place o operands result → AllFit code c vs operands →
+abbrev pub RowHolds : (code : Code) (fillers : ℕ → List Filler) (natives : Answers) → Common → Surroundings → Operation → Type 0
+RowHolds code fillers natives c place o =
+    (operands : List SemType) (result : Option SemType) (vs : List Value) (asker : Asker) → GoodCommon code c Running → OpTyped code.atoms place o operands result → AllFit code c vs operands →
     AllCome code c result (Performs (code_facts fillers code) natives o vs asker c)
 
-pub row-keeps : (code : Code) (fillers : ℕ → List Filler) (natives : Answers) (place : Surroundings) (o : Operation) → RowHolds code fillers natives place o → RowKeeps code fillers natives place o
-row-keeps code fillers natives place o row c operands result vs asker effect good typed fit does = (row c operands result vs asker good typed fit).0 effect does
+pub row-keeps : (code : Code) (fillers : ℕ → List Filler) (natives : Answers) (c : Common) (place : Surroundings) (o : Operation) → RowHolds code fillers natives c place o → RowKeeps code fillers natives c place o
+row-keeps code fillers natives c place o row operands result vs asker effect good typed fit does = (row operands result vs asker good typed fit).0 effect does
 
-pub row-comes : (code : Code) (fillers : ℕ → List Filler) (natives : Answers) (place : Surroundings) (o : Operation) → RowHolds code fillers natives place o → RowComes code fillers natives place o
-row-comes code fillers natives place o row c operands result vs asker good typed fit = (row c operands result vs asker good typed fit).1
+pub row-comes : (code : Code) (fillers : ℕ → List Filler) (natives : Answers) (c : Common) (place : Surroundings) (o : Operation) → RowHolds code fillers natives c place o → RowComes code fillers natives c place o
+row-comes code fillers natives c place o row operands result vs asker good typed fit = (row operands result vs asker good typed fit).1
 
 module _ (code : Code) (c : Common) (good : GoodCommon code c Running) (result : Option SemType) where
   abbrev pub IsTyped : Came → Type 0

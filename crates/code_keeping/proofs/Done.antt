@@ -9,13 +9,14 @@ use Rattle.operations.specs.Talk.{NoTalk, talk_of}
 use Rattle.operations.specs.Typing.{OpTyped}
 use Rattle.value_model.specs.declared.filler.Filler.{Filler}
 use Rattle.value_model.specs.Meaning.{Answers}
+use Rattle.run_model.specs.Common.{Common}
 use Rattle.run_model.specs.Local.{Local, acts, takes}
 use Rattle.machine_model.specs.Following.{EndsFrame}
 use Rattle.stack_code.specs.declared.code.Code.{Code}
 use Rattle.stack_code.specs.declared.code.Unit.{Unit as CodeUnit}
 use Rattle.stack_code.specs.Places.{Station, surroundings}
 use Rattle.stack_code.specs.WellTyped.{WellTyped}
-use Rattle.code_keeping.specs.Laws.{IsDone, NumbersAndTextsAreDone, TakesAll, TestsAreDone, VariablesAreDone}
+use Rattle.code_keeping.specs.Laws.{EachRow, IsDone, IsDoneAt, NumbersAndTextsAreDone, TakesAll, TestsAreDone, VariablesAreDone}
 use Rattle.code_keeping.proofs.Asks.{strict-operations-come, strict-operations-keep}
 use Rattle.code_keeping.proofs.Coming.{RowHolds, row-comes, row-keeps}
 use Rattle.code_keeping.proofs.Operands.{none-long, one-long, two-long}
@@ -36,11 +37,15 @@ takes-all n o is has code place operands result typed captured l =
 -- ---- an operation with a row
 
 module _ (natives : Answers) (fillers : ℕ → List Filler) where
-  pub row-done : (o : Operation) → talk_of o ≡ NoTalk → (¬ (EndsFrame o)) → TakesAll o → ((code : Code) (u : CodeUnit) (station : Station) → WellTyped code → RowHolds code fillers natives (surroundings code u station) o) → IsDone fillers natives o
-  row-done o quiet goes strict row = (
-    strict-operations-keep natives fillers o quiet goes strict (λ code u station t. row-keeps code fillers natives (surroundings code u station) o (row code u station t)),
-    strict-operations-come natives fillers o strict (λ code u station t. row-comes code fillers natives (surroundings code u station) o (row code u station t)),
+  -- that has operands as its rows say, where all is as its row needs it
+  pub row-done-at : (code : Code) (c : Common) → WellTyped code → (o : Operation) → talk_of o ≡ NoTalk → (¬ (EndsFrame o)) → TakesAll o → EachRow code o (λ place. RowHolds code fillers natives c place o) → IsDoneAt fillers natives code c o
+  row-done-at code c t o quiet goes strict row = (
+    strict-operations-keep natives fillers code c o t quiet goes strict (λ u station names. row-keeps code fillers natives c (surroundings code u station) o (row u station names)),
+    strict-operations-come natives fillers code c o t strict (λ u station names. row-comes code fillers natives c (surroundings code u station) o (row u station names)),
   )
+
+  row-done : (o : Operation) → talk_of o ≡ NoTalk → (¬ (EndsFrame o)) → TakesAll o → ((code : Code) (u : CodeUnit) (station : Station) → WellTyped code → (c : Common) → RowHolds code fillers natives c (surroundings code u station) o) → IsDone fillers natives o
+  row-done o quiet goes strict row code c t = row-done-at code c t o quiet goes strict (λ u station names. row code u station t c)
 
 pub numbers-and-texts-are-done : (natives : Answers) → NumbersAndTextsAreDone natives
 numbers-and-texts-are-done natives fillers = (

@@ -8,6 +8,7 @@ pub mod Doing
 pub mod Done
 pub mod Entering
 pub mod Flushing
+pub mod Growing
 pub mod Itself
 pub mod Landing
 pub mod Later

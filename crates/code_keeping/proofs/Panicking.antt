@@ -131,13 +131,13 @@ module _ (code : Code) (fillers : ℕ → List Filler) (natives : Answers) (t : 
         let (x, e) = slot-there l.slots at.u.slots slot _ at.here.1.0 load-typed.typed.1 in subst Looks (sym (look-is x e)) (loads x e)
 
 pub panics-are-done : (natives : Answers) → PanicsAreDone natives
-panics-are-done natives fillers = (
-  (λ code c depth f t good fits ec. (panics-done code fillers natives t c depth good f fits (at-place code c f fits.0) ec).0),
-  (λ code c depth f t good fits ec. (panics-done code fillers natives t c depth good f fits (at-place code c f fits.0) ec).1),
+panics-are-done natives fillers code c t = (
+  (λ depth f good fits ec. (panics-done code fillers natives t c depth good f fits (at-place code c f fits.0) ec).0),
+  (λ depth f good fits ec. (panics-done code fillers natives t c depth good f fits (at-place code c f fits.0) ec).1),
 )
 
 pub loads-are-done : (natives : Answers) (fillers : ℕ → List Filler) (slot : ℕ) → IsDone fillers natives (op.Load slot)
-loads-are-done natives fillers slot = (
-  (λ code c depth f t good fits ec. (load-done code fillers natives t c depth good f fits (at-place code c f fits.0) slot ec).0),
-  (λ code c depth f t good fits ec. (load-done code fillers natives t c depth good f fits (at-place code c f fits.0) slot ec).1),
+loads-are-done natives fillers slot code c t = (
+  (λ depth f good fits ec. (load-done code fillers natives t c depth good f fits (at-place code c f fits.0) slot ec).0),
+  (λ depth f good fits ec. (load-done code fillers natives t c depth good f fits (at-place code c f fits.0) slot ec).1),
 )

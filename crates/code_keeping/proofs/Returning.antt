@@ -220,4 +220,4 @@ module _ (code : Code) (fillers : ℕ → List Filler) (natives : Answers) (t : 
       single (a ∷ b ∷ os) h = absurd h
 
 pub returns-keep : (natives : Answers) → ReturnsKeep natives
-returns-keep natives fillers code c depth f t good fits ec = asks-return code fillers natives t c depth good f fits (at-place code c f fits.0) ec
+returns-keep natives fillers code c t depth f good fits ec = asks-return code fillers natives t c depth good f fits (at-place code c f fits.0) ec

@@ -19,7 +19,7 @@ use Rattle.code_keeping.proofs.Shapes.{get-map}
 pub all-to : {A : Type 0} (P Q : A → Type 0) → ((x : A) → P x → Q x) → (xs : List A) → All P xs → All Q xs
 all-to P Q f xs h k d l = f _ (h k d l)
 
-all-zipped : {A B : Type 0} (P : A → B → Type 0) (Q : A → Type 0) → ((x : A) (y : B) → P x y → Q x) → (xs : List A) (ys : List B) → AllZip P xs ys → All Q xs
+pub all-zipped : {A B : Type 0} (P : A → B → Type 0) (Q : A → Type 0) → ((x : A) (y : B) → P x y → Q x) → (xs : List A) (ys : List B) → AllZip P xs ys → All Q xs
 all-zipped P Q f [] ys h k d l = absurd (omega (arith, l))
 all-zipped P Q f (x ∷ xs) [] h k d l = absurd h
 all-zipped P Q f (x ∷ xs) (y ∷ ys) (h, more) zero d l = f x y h

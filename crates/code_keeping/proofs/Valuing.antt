@@ -131,7 +131,7 @@ module _ (code : Code) (c : Common) (good : GoodCommon code c Running) (result :
 
 module _ (fillers : ℕ → List Filler) (natives : Answers) (code : Code) (t : WellTyped code) (place : Surroundings) where
   abbrev Holds : Operation → Type 0
-  Holds o = RowHolds code fillers natives place o
+  Holds o = (c : Common) → RowHolds code fillers natives c place o
 
   module _ (c : Common) (good : GoodCommon code c Running) where
     abbrev kind : Value → Kind

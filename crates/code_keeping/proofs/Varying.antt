@@ -146,7 +146,7 @@ module _ (code : Code) (c : Common) where
 
 module _ (fillers : ℕ → List Filler) (natives : Answers) (code : Code) (t : WellTyped code) (u : CodeUnit) (station : Station) where
   abbrev Holds : Operation → Type 0
-  Holds o = RowHolds code fillers natives (surroundings code u station) o
+  Holds o = (c : Common) → RowHolds code fillers natives c (surroundings code u station) o
 
   pub tick : Holds op.Tick
   tick c operands result vs asker good (none, nothing) fit =

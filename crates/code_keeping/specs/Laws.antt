@@ -38,7 +38,7 @@ use Rattle.stack_code.specs.Tables.{UnitAt}
 use Rattle.stack_code.specs.Values.{Fits, GoodHeap, IsMadeError, code_types}
 use Rattle.stack_code.specs.WellTyped.{WellTyped}
 use Rattle.code_keeping.specs.Kinds.{Kind, kind_of, value_kind}
-use Rattle.code_keeping.specs.Rows.{Comes, RowComes, RowKeeps}
+use Rattle.code_keeping.specs.Rows.{Comes, NamesWell, RowComes, RowKeeps}
 
 -- ---- how a run begins
 
@@ -66,12 +66,16 @@ OperandsAreOfKinds =
 
 -- ---- what it asks for
 
--- what a frame of a code asks for fits, at a place with this operation, whatever comes
-abbrev pub AsksWell : (ℕ → List Filler) → Answers → Operation → Type 0
-AsksWell fillers natives o =
-    (code : Code) (c : Common) (depth : ℕ) (f : Frame Standing) →
-    WellTyped code → GoodCommon code c Running → TopFits code c f → command_at code f.control.place ≡ Some (Do o) →
+-- what a frame of the code asks for fits, at a place with this operation, whatever comes
+abbrev pub AsksWellAt : (ℕ → List Filler) → Answers → Code → Common → Operation → Type 0
+AsksWellAt fillers natives code c o =
+    (depth : ℕ) (f : Frame Standing) →
+    GoodCommon code c Running → TopFits code c f → command_at code f.control.place ≡ Some (Do o) →
     AskFits natives (codes fillers code) (code_invariant code) c depth f ((codes fillers code).look f.unit f.control)
+
+-- in each code
+abbrev pub AsksWell : (ℕ → List Filler) → Answers → Operation → Type 0
+AsksWell fillers natives o = (code : Code) (c : Common) → WellTyped code → AsksWellAt fillers natives code c o
 
 -- an operation that takes all its operands and says nothing to workers: a panic is caught where a trap is open
 abbrev pub TakesAll : Operation → Type 0
@@ -79,10 +83,14 @@ TakesAll o =
     (code : Code) (place : Surroundings) (operands : List SemType) (result : Option SemType) → OpTyped code.atoms place o operands result →
     (captured : List ℕ) (l : Local) → acts captured o l ≡ takes o l (length operands)
 
+-- each row of an operation, where it stands in a unit of the code
+abbrev pub EachRow : Code → Operation → (Surroundings → Type 0) → Type 0
+EachRow code o Row = (u : CodeUnit) (station : Station) → NamesWell code o → Row (surroundings code u station)
+
 abbrev pub StrictOperationsKeep : Answers → Type 0
 StrictOperationsKeep natives =
-    (fillers : ℕ → List Filler) (o : Operation) → talk_of o ≡ NoTalk → (¬ (EndsFrame o)) → TakesAll o →
-    ((code : Code) (u : CodeUnit) (station : Station) → WellTyped code → RowKeeps code fillers natives (surroundings code u station) o) → AsksWell fillers natives o
+    (fillers : ℕ → List Filler) (code : Code) (c : Common) (o : Operation) → WellTyped code → talk_of o ≡ NoTalk → (¬ (EndsFrame o)) → TakesAll o →
+    EachRow code o (λ place. RowKeeps code fillers natives c place o) → AsksWellAt fillers natives code c o
 
 -- ---- that something comes
 
@@ -92,22 +100,25 @@ AskComes natives facts c depth f (On next) = ⊤
 AskComes natives facts c depth f (Does o vs k) = Comes (Performs facts natives o vs (record { unit = f.unit; role = f.role; depth = depth }) c)
 AskComes natives facts c depth f Stuck = ⊥
 
-abbrev pub AskedComes : (ℕ → List Filler) → Answers → Operation → Type 0
-AskedComes fillers natives o =
-    (code : Code) (c : Common) (depth : ℕ) (f : Frame Standing) →
-    WellTyped code → GoodCommon code c Running → TopFits code c f → command_at code f.control.place ≡ Some (Do o) →
+abbrev pub AskedComes : (ℕ → List Filler) → Answers → Code → Common → Operation → Type 0
+AskedComes fillers natives code c o =
+    (depth : ℕ) (f : Frame Standing) →
+    GoodCommon code c Running → TopFits code c f → command_at code f.control.place ≡ Some (Do o) →
     AskComes natives (code_facts fillers code) c depth f ((codes fillers code).look f.unit f.control)
 
 abbrev pub StrictOperationsCome : Answers → Type 0
 StrictOperationsCome natives =
-    (fillers : ℕ → List Filler) (o : Operation) → TakesAll o →
-    ((code : Code) (u : CodeUnit) (station : Station) → WellTyped code → RowComes code fillers natives (surroundings code u station) o) → AskedComes fillers natives o
+    (fillers : ℕ → List Filler) (code : Code) (c : Common) (o : Operation) → WellTyped code → TakesAll o →
+    EachRow code o (λ place. RowComes code fillers natives c place o) → AskedComes fillers natives code c o
 
 -- ---- operations by families
 
 -- what a frame asks for with the operation fits, whatever comes, and something comes
+abbrev pub IsDoneAt : (ℕ → List Filler) → Answers → Code → Common → Operation → Type 0
+IsDoneAt fillers natives code c o = AsksWellAt fillers natives code c o × AskedComes fillers natives code c o
+
 abbrev pub IsDone : (ℕ → List Filler) → Answers → Operation → Type 0
-IsDone fillers natives o = AsksWell fillers natives o × AskedComes fillers natives o
+IsDone fillers natives o = (code : Code) (c : Common) → WellTyped code → IsDoneAt fillers natives code c o
 
 -- those on ints and strings: they give one, or panic
 abbrev pub NumbersAndTextsAreDone : Answers → Type 0

@@ -1,9 +1,10 @@
 -- What an operation owes that takes all its operands and gives or panics, whatever frame asks it.
-use Rattle.std.specs.Prelude.{ℕ, List, Option, option_to_list, ⊤}
+use Rattle.std.specs.Prelude.{ℕ, List, Option, All, option_to_list, ⊤}
 use Rattle.type_model.specs.declared.basic.SemType.{SemType}
 use Rattle.operations.specs.declared.operation.Operation.{Operation}
 use Rattle.operations.specs.Rows.{Surroundings}
 use Rattle.operations.specs.Typing.{OpTyped}
+use Rattle.operations.specs.Uses.{atoms_made, units_valued, use_of}
 use Rattle.value_model.specs.declared.filler.Filler.{Filler}
 use Rattle.value_model.specs.declared.value.Value.{Value}
 use Rattle.value_model.specs.Meaning.{Answers}
@@ -15,6 +16,7 @@ use Rattle.machine_model.specs.Runs.{Running}
 use Rattle.stack_code.specs.declared.code.Code.{Code}
 use Rattle.stack_code.specs.CodeMachine.{code_facts}
 use Rattle.stack_code.specs.Good.{GoodCommon, IsLater, NearlyCommon}
+use Rattle.stack_code.specs.Tables.{IsCallable, IsInherent, NamesUnits}
 use Rattle.stack_code.specs.Values.{AllFit, IsMadeError}
 
 -- it can't be that nothing comes of it
@@ -22,6 +24,13 @@ abbrev pub Comes : {A : Type 0} → (A → Type 0) → Type 0
 Comes {A} Q = ((a : A) → ¬ (Q a)) → ⊥
 
 module _ (code : Code) where
+  -- what the operation names beside types and slots: units that are called or started, atoms that structures are made with, and
+  -- units of which function values and futures are made
+  pub record NamesWell (o : Operation) : Type 0 where
+    pub units : NamesUnits code o
+    pub atoms : All (IsInherent code) (atoms_made (use_of o))
+    pub values : All (IsCallable code) (units_valued (use_of o))
+
   abbrev pub LaterForAll : Common → Common → Type 0
   LaterForAll c d = (q : Option Role) → IsLater q c d
 
@@ -37,15 +46,15 @@ module _ (code : Code) where
   EffectTyped c result (Beyond limit) = ⊤
 
   -- from operands in the row's types it comes to what is typed
-  abbrev pub RowKeeps : (ℕ → List Filler) → Answers → Surroundings → Operation → Type 0
-  RowKeeps fillers natives place o =
-      (c : Common) (operands : List SemType) (result : Option SemType) (vs : List Value) (asker : Asker) (effect : Effect) →
+  abbrev pub RowKeeps : (ℕ → List Filler) → Answers → Common → Surroundings → Operation → Type 0
+  RowKeeps fillers natives c place o =
+      (operands : List SemType) (result : Option SemType) (vs : List Value) (asker : Asker) (effect : Effect) →
       GoodCommon code c Running → OpTyped code.atoms place o operands result → AllFit code c vs operands →
       Performs (code_facts fillers code) natives o vs asker c effect → EffectTyped c result effect
 
   -- from such operands it comes to something
-  abbrev pub RowComes : (ℕ → List Filler) → Answers → Surroundings → Operation → Type 0
-  RowComes fillers natives place o =
-      (c : Common) (operands : List SemType) (result : Option SemType) (vs : List Value) (asker : Asker) →
+  abbrev pub RowComes : (ℕ → List Filler) → Answers → Common → Surroundings → Operation → Type 0
+  RowComes fillers natives c place o =
+      (operands : List SemType) (result : Option SemType) (vs : List Value) (asker : Asker) →
       GoodCommon code c Running → OpTyped code.atoms place o operands result → AllFit code c vs operands →
       Comes (Performs (code_facts fillers code) natives o vs asker c)
