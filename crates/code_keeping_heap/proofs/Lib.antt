@@ -1,0 +1,5 @@
+pub mod Done
+pub mod Listing
+pub mod Making
+pub mod Reading
+pub mod Shaping
