@@ -2,3 +2,4 @@ pub mod Counts
 pub mod Numberings
 pub mod Paired
 pub mod Plans
+pub mod Refusals

@@ -1,5 +1,8 @@
-//! Worked cases of the definitions. This call does nothing: its clauses are the cases.
+//! Worked cases of the definitions. These calls do nothing: their clauses are the cases.
 ghost use Rattle.worker_pairing.specs.Cases.{CountsOfFew, EventsOfTwo, FlushesNothing, InitialIsExempt, LeavesTheSecond, MarksOfCareful, NamesNone, PairsOfTwo, RanksOfTwo, RingHasNone, WaitsForItself};
+ghost use Rattle.worker_pairing.specs.FaultCases.{ConditionComesFirst, NamesItself, PairComesFirst, PairsByPeers, PeerComesFirst, ReceivesTooOften, ReturnsBeforeReceive, ReturnsBeforeSend, SendsInBranch, SendsNil, TooManyWorkers, WaitsInitially};
+
+use type_model::Types;
 
 /// What the definitions come to on small functions, as it was reasoned out by hand.
 pub fn definitions_come_to_cases()
@@ -14,4 +17,20 @@ pub fn definitions_come_to_cases()
     ensures ring_has_none { RingHasNone }
     ensures flushes_nothing { FlushesNothing }
     ensures waits_for_itself { WaitsForItself }
+{}
+
+/// Which fault comes first in small functions, at which place and with what it shows, as it was reasoned out by hand.
+pub fn faults_come_to_cases<T: Types>()
+    ensures too_many_workers { TooManyWorkers T.passes }
+    ensures names_itself { NamesItself T.passes }
+    ensures waits_initially { WaitsInitially T.passes }
+    ensures peer_comes_first { PeerComesFirst T.passes }
+    ensures sends_in_branch { SendsInBranch T.passes }
+    ensures condition_comes_first { ConditionComesFirst T.passes }
+    ensures receives_too_often { ReceivesTooOften T.passes }
+    ensures pairs_by_peers { PairsByPeers T.passes }
+    ensures pair_comes_first { PairComesFirst T.passes }
+    ensures returns_before_send { ReturnsBeforeSend T.passes }
+    ensures returns_before_receive { ReturnsBeforeReceive T.passes }
+    ensures sends_nil { SendsNil T.passes }
 {}
