@@ -70,6 +70,11 @@ abbrev pub wait_marks : List ℕ → Place → Listed Mark
 wait_marks [] at = nothing
 wait_marks (n ∷ ns) at = one (Says (Wait (n ∷ ns)) at false nil_type)
 
+-- an alternate wait for nothing at all is none of the language's, and is refused as one that may be left out
+abbrev pub alternate_marks : List (Option ℕ) → Place → Listed Mark
+alternate_marks [] at = one (Says (Wait []) at true nil_type)
+alternate_marks (name ∷ names) at = wait_marks (workers_in (name ∷ names)) at
+
 abbrev pub form_marks : StrictForm → (sent gets : SemType) → Place → Listed Mark
 form_marks (form.Literal c) sent gets at = nothing
 form_marks (form.Constant c) sent gets at = nothing
@@ -89,7 +94,7 @@ form_marks (form.Send peer) sent gets at = one (Says (Send peer) at false sent)
 form_marks (form.SyncSend peer) sent gets at = one (Says (Post peer) at false sent) & one (Says (Done peer) at false nil_type)
 form_marks (form.Receive peer) sent gets at = one (Says (Receive peer) at false gets)
 form_marks (form.Flush peer) sent gets at = one (Says (Flush peer) at false nil_type)
-form_marks (form.WaitAny names) sent gets at = wait_marks (workers_in names) at
+form_marks (form.WaitAny names) sent gets at = alternate_marks names at
 form_marks (form.WaitAll atom names) sent gets at = wait_marks (workers_in names) at
 
 -- a panic goes on behind the trap that guards a message, which so may be left out
@@ -155,7 +160,7 @@ stmt_step (stmt_layer.Update target op value at) = target_marks target & expr_ma
 stmt_step (stmt_layer.If condition first second at) =
     expr_marks condition.value & set_apart (joined first.items) & set_apart (joined second.items)
 stmt_step (stmt_layer.While condition body at) = set_apart (expr_marks condition.value & joined body.items)
-stmt_step (stmt_layer.Foreach slot source body at) = source_marks source & set_apart (joined body.items)
+stmt_step (stmt_layer.Foreach slot source body at) = set_apart (source_marks source & joined body.items)
 stmt_step (stmt_layer.Match own subject clauses at) = expr_marks subject.value & set_apart (joined clauses.items)
 stmt_step (stmt_layer.Return value at) = return_marks value at
 stmt_step (stmt_layer.Block stmts at) = set_apart (joined stmts.items)

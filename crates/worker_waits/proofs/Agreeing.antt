@@ -27,7 +27,7 @@ use Rattle.typed_tree.specs.SharedTypes.{sem_of}
 use Rattle.typed_tree.specs.StmtLayers.{of_typed_clause, of_typed_stmt}
 use Rattle.worker_pairing.specs.Events.{is_message}
 use Rattle.worker_pairing.specs.Marks.{Mark, Says, Early, Returns, With, expr_marks, exprs_marks, form_marks, guarded, if_checked, last_type, marked, marking, nil_type, set_apart, source_marks, stmts_marks, target_marks, typed_marks, wait_marks, expr_step as mark_step, stmt_step as mark_stmt, clause_step as mark_clause}
-use Rattle.worker_waits.specs.Agreement.{AreShown, all_good, kinds_in, names_one, no_messages, none_said}
+use Rattle.worker_waits.specs.Agreement.{AreShown, all_good, steps_in, names_one, no_messages, none_said}
 use Rattle.worker_waits.specs.Left.{Shown, all_shown, expr_shown, exprs_shown, form_shown, nothing_shown, one_shown, showing, source_shown, stmts_shown, target_shown, then_shown, wait_shown, within, guarded as guards, expr_step as show_step, stmt_step as show_stmt, clause_step as show_clause}
 
 -- ---- tests of two parts
@@ -59,14 +59,14 @@ apart-none (one (Returns type at)) h = refl
 apart-none (p & q) h =
     let g = both (none_said (set_apart p)) (none_said (set_apart q)) h in join (none_said p) (none_said q) (apart-none p g.0) (apart-none q g.1)
 
-apart-kinds : (p : Listed Mark) → none_said p ≡ true → kinds_in (set_apart p) ≡ []
+apart-kinds : (p : Listed Mark) → none_said p ≡ true → steps_in (set_apart p) ≡ []
 apart-kinds nothing h = refl
 apart-kinds (one (Says kind at inner type)) h = absurd (false≢true h)
 apart-kinds (one Early) h = refl
 apart-kinds (one (Returns type at)) h = refl
 apart-kinds (p & q) h =
     let g = both (none_said p) (none_said q) h in
-    ap (λ z. z ++ kinds_in (set_apart q)) (apart-kinds p g.0) ∙ apart-kinds q g.1
+    ap (λ z. z ++ steps_in (set_apart q)) (apart-kinds p g.0) ∙ apart-kinds q g.1
 
 none-calm : (p : Listed Mark) → none_said p ≡ true → no_messages p ≡ true
 none-calm nothing h = refl
@@ -109,12 +109,12 @@ guard-calm (one (Returns type at)) h = refl
 guard-calm (p & q) h =
     let g = both (no_messages (guarded p)) (no_messages (guarded q)) h in join (no_messages p) (no_messages q) (guard-calm p g.0) (guard-calm q g.1)
 
-guard-kinds : (p : Listed Mark) → kinds_in (guarded p) ≡ kinds_in p
+guard-kinds : (p : Listed Mark) → steps_in (guarded p) ≡ steps_in p
 guard-kinds nothing = refl
 guard-kinds (one (Says kind at inner type)) = refl
 guard-kinds (one Early) = refl
 guard-kinds (one (Returns type at)) = refl
-guard-kinds (p & q) = ap (λ z. z ++ kinds_in (guarded q)) (guard-kinds p) ∙ ap (λ z. kinds_in p ++ z) (guard-kinds q)
+guard-kinds (p & q) = ap (λ z. z ++ steps_in (guarded q)) (guard-kinds p) ∙ ap (λ z. steps_in p ++ z) (guard-kinds q)
 
 -- ---- parts put together
 
@@ -130,7 +130,7 @@ agree-then p q a b A B =
           let y = B.made g.1 in
           let x0 = x.0 in
           let y0 = y.0 in
-          (omega (arith, x0, y0), λ k. x.1 (b.own k) ∙ ap (λ z. kinds_in p ++ z) (y.1 k) ∙ sym (append_assoc (kinds_in p) (kinds_in q) k));
+          (omega (arith, x0, y0), λ k. x.1 (b.own k) ∙ ap (λ z. steps_in p ++ z) (y.1 k) ∙ sym (append_assoc (steps_in p) (steps_in q) k));
       silent = λ h.
           let g = both (none_said p) (none_said q) h in
           let x = A.silent g.0 in
@@ -148,12 +148,12 @@ agree-then p q a b A B =
     }
 
 -- what says nothing adds nothing
-agree-mute : (p q : Listed Mark) (a : Shown) → kinds_in q ≡ [] → AreShown p a → AreShown (p & q) a
+agree-mute : (p q : Listed Mark) (a : Shown) → steps_in q ≡ [] → AreShown p a → AreShown (p & q) a
 agree-mute p q a none A =
     record {
       made = λ h.
           let x = A.made (both (all_good p) (all_good q) h).0 in
-          (x.0, λ k. x.1 k ∙ ap (λ z. z ++ k) (sym (append-nil (kinds_in p)) ∙ ap (λ z. kinds_in p ++ z) (sym none)));
+          (x.0, λ k. x.1 k ∙ ap (λ z. z ++ k) (sym (append-nil (steps_in p)) ∙ ap (λ z. steps_in p ++ z) (sym none)));
       silent = λ h. A.silent (both (none_said p) (none_said q) h).0;
       calm = λ h. A.calm (both (no_messages p) (no_messages q) h).0;
     }
@@ -236,7 +236,9 @@ agree-form (form.Receive (Some w)) sent gets at = agree-one (Receive (Some w)) a
 agree-form (form.Receive None) sent gets at = agree-none (Receive None) at gets refl
 agree-form (form.Flush (Some w)) sent gets at = agree-one (Flush (Some w)) at nil_type
 agree-form (form.Flush None) sent gets at = agree-none (Flush None) at nil_type refl
-agree-form (form.WaitAny names) sent gets at = agree-wait (workers_in names) at
+agree-form (form.WaitAny []) sent gets at =
+    record { made = λ h. absurd (false≢true h); silent = λ h. absurd (false≢true h); calm = λ h. refl }
+agree-form (form.WaitAny (name ∷ names)) sent gets at = agree-wait (workers_in (name ∷ names)) at
 agree-form (form.WaitAll atom names) sent gets at = agree-wait (workers_in names) at
 
 agree-checked : (panics : Bool) (p : Listed Mark) (a : Shown) → AreShown p a → AreShown (p & if_checked panics) a
@@ -356,7 +358,8 @@ mutual
       (agree-then (expr_marks condition.value) (stmts_marks (shown shape body)) (expr_shown condition.value) (stmts_shown (shown shape body)) (expr-agrees condition.value) (block-agrees shape body (stmts-agree body))))
   stmt-agrees (Foreach' slot source shape body at) =
       by-two (fold_out-TypedStmt (Listed Mark) (Listed Mark) mark_stmt mark_clause (Foreach' slot source shape body at)) (fold_out-TypedStmt Shown Shown show_stmt show_clause (Foreach' slot source shape body at))
-      (agree-then (source_marks source) _ (source_shown source) _ (source-agrees source) (apart-block (shown shape body) (block-agrees shape body (stmts-agree body))))
+      (agree-apart (source_marks source & stmts_marks (shown shape body)) (then_shown (source_shown source) (stmts_shown (shown shape body)))
+      (agree-then (source_marks source) (stmts_marks (shown shape body)) (source_shown source) (stmts_shown (shown shape body)) (source-agrees source) (block-agrees shape body (stmts-agree body))))
   stmt-agrees (Match' own subject shape clauses at) =
       by-two (fold_out-TypedStmt (Listed Mark) (Listed Mark) mark_stmt mark_clause (Match' own subject shape clauses at)) (fold_out-TypedStmt Shown Shown show_stmt show_clause (Match' own subject shape clauses at))
       (subst (λ cs. AreShown (expr_marks subject.value & set_apart (joined (map clause_marks cs))) (then_shown (expr_shown subject.value) (within (all_shown (map clause_shows cs))))) (sym (clauses-shown shape clauses))

@@ -3,8 +3,7 @@ use Rattle.std.proofs.Common.{◌≡◌, ℕ, List, [], ◌∷◌, Option, Some,
 use denote.Hole.Carrier
 use Rattle.operations.specs.declared.operation.Operation.{Operation}
 use Rattle.value_model.specs.declared.value.Value.{Value}
-use Rattle.typed_tree.specs.declared.event.EventKind.{EventKind}
-use Rattle.typed_tree.specs.declared.expr.TypedExpr.{TypedExpr, Strict', Implied, Local as Variable, And', Or', Conditional', Elvis', Check', Trap', Function', Parens', out-TypedExpr, fold_out-TypedExpr, Row_of-TypedExpr, end_of-TypedExpr, more_of-TypedExpr, items-the_row-TypedExpr as exprs_in, items_shown-the_row-TypedExpr-0 as exprs-shown}
+use Rattle.typed_tree.specs.declared.expr.TypedExpr.{TypedExpr, Strict', Implied, Local as Variable, And', Or', Conditional', Elvis', Check', Trap', Function', Parens', out-TypedExpr, fold_out-TypedExpr}
 use Rattle.typed_tree.specs.declared.form.StrictForm.{StrictForm}
 use Rattle.typed_tree.specs.declared.form.StrictForm.TheVariants as form
 use Rattle.typed_tree.specs.declared.form.Callee.TheVariants as callee
@@ -13,15 +12,14 @@ use Rattle.typed_tree.specs.declared.form.Operator.TheVariants as operator
 use Rattle.typed_tree.specs.declared.form.Read.{Read}
 use Rattle.typed_tree.specs.declared.form.Read.TheVariants as read
 use Rattle.typed_tree.specs.declared.unit.Captured.{Captured}
-use Rattle.operations.specs.Talk.{workers_in}
 use Rattle.held_operations.specs.Constructs.{operations_of, operator_operations, read_operations, wait_operations}
 use Rattle.eval_model.specs.Expressions.{captures, eval, makes_function}
 use Rattle.eval_model.specs.Tasks.{Do, Task, dos, evals}
-use Rattle.worker_waits.specs.Left.{Shown, expr_shown, expr_step, exprs_shown, form_shown, nothing_shown, op_shown, ops_shown, tasks_shown, then_shown, wait_shown, within}
+use Rattle.worker_waits.specs.Left.{Shown, Step, alternate_shown, expr_shown, expr_step, exprs_shown, form_shown, nothing_shown, op_shown, ops_shown, tasks_shown, then_shown}
 
 -- the same events, and none are wrong where none were
 abbrev pub Shows : Shown → Shown → Type 0
-Shows new old = old.wrong ≡ 0 → (new.wrong ≡ 0) × ((k : List EventKind) → new.own k ≡ old.own k)
+Shows new old = old.wrong ≡ 0 → (new.wrong ≡ 0) × ((k : List Step) → new.own k ≡ old.own k)
 
 pub dos-show : (ops : List Operation) (ts : List Task) → Shows (tasks_shown (dos ops ts)) (then_shown (ops_shown ops) (tasks_shown ts))
 dos-show [] ts none = (omega (arith, none), λ k. refl)
@@ -64,14 +62,14 @@ read-shows read.Char none = (refl, λ k. refl)
 read-shows (read.Field name) none = (refl, λ k. refl)
 read-shows (read.OptionalField name) none = (refl, λ k. refl)
 
-wait-shows : (names : List (Option ℕ)) → Shows (ops_shown (wait_operations names)) (wait_shown (workers_in names))
-wait-shows [] none = (refl, λ k. refl)
+wait-shows : (names : List (Option ℕ)) → Shows (ops_shown (wait_operations names)) (alternate_shown names)
+wait-shows [] none = absurd (omega (arith, none))
 wait-shows (Some w ∷ []) none = (refl, λ k. refl)
 wait-shows (None ∷ []) none = (refl, λ k. refl)
 wait-shows (Some w ∷ x ∷ more) none = (refl, λ k. refl)
 wait-shows (None ∷ x ∷ more) none = (omega (arith, none), λ k. refl)
 
-form-shows : (f : StrictForm) (n : ℕ) → Shows (ops_shown (operations_of f n)) (form_shown f)
+pub form-shows : (f : StrictForm) (n : ℕ) → Shows (ops_shown (operations_of f n)) (form_shown f)
 form-shows (form.Literal c) n none = (refl, λ k. refl)
 form-shows (form.Constant c) n none = (refl, λ k. refl)
 form-shows (form.Variable m) n none = (refl, λ k. refl)
@@ -144,75 +142,3 @@ mutual
       (λ none. captures-show function.value.captured (Do (makes_function function.value) ∷ ts) (omega (arith, none)))
   eval-shows (Strict' f shape operands type at) vs ts =
       by-layer (Strict' f shape operands type at) vs ts (fold_out-TypedExpr Shown expr_step (Strict' f shape operands type at)) (strict-shows f _ _ ts)
-
--- ---- what shows no events leaves what follows as it is
-
-abbrev pub Fair : Shown → Type 0
-Fair s = s.size ≡ 0 → (k : List EventKind) → s.own k ≡ k
-
-pub fair-then : (a b : Shown) → Fair a → Fair b → Fair (then_shown a b)
-fair-then a b f g none k = ap (λ x. a.own x) (g (omega (arith, none)) k) ∙ f (omega (arith, none)) k
-
-pub fair-within : (a : Shown) → Fair (within a)
-fair-within a none k = refl
-
-fair-wait : (ns : List ℕ) → Fair (wait_shown ns)
-fair-wait [] none k = refl
-fair-wait (n ∷ ns) none k = absurd (omega (arith, none))
-
-fair-form : (f : StrictForm) → Fair (form_shown f)
-fair-form (form.Literal c) none k = refl
-fair-form (form.Constant c) none k = refl
-fair-form (form.Variable m) none k = refl
-fair-form (form.FunctionName unit) none k = refl
-fair-form (form.Operator o) none k = refl
-fair-form (form.Is t) none k = refl
-fair-form (form.Cast t) none k = refl
-fair-form (form.List atom immutable) none k = refl
-fair-form (form.Mapping atom immutable) none k = refl
-fair-form form.Error none k = refl
-fair-form (form.Read how) none k = refl
-fair-form (form.Call called) none k = refl
-fair-form (form.Library call atom cast) none k = refl
-fair-form (form.Start called) none k = refl
-fair-form (form.Send (Some w)) none k = absurd (omega (arith, none))
-fair-form (form.Send None) none k = refl
-fair-form (form.SyncSend (Some w)) none k = absurd (omega (arith, none))
-fair-form (form.SyncSend None) none k = refl
-fair-form (form.Receive (Some w)) none k = absurd (omega (arith, none))
-fair-form (form.Receive None) none k = refl
-fair-form (form.Flush (Some w)) none k = absurd (omega (arith, none))
-fair-form (form.Flush None) none k = refl
-fair-form (form.WaitAny names) none k = fair-wait (workers_in names) none k
-fair-form (form.WaitAll atom names) none k = fair-wait (workers_in names) none k
-
-pub fair-by : {a b : Shown} → a ≡ b → Fair b → Fair a
-fair-by e f = subst Fair (sym e) f
-
-pub nothing-fair : Fair nothing_shown
-nothing-fair none k = refl
-
-mutual
-  unfolding out-TypedExpr Carrier.out
-
-  pub expr-fair : (e : TypedExpr) → Fair (expr_shown e)
-  expr-fair (Implied value type at) = fair-by (fold_out-TypedExpr Shown expr_step (Implied value type at)) nothing-fair
-  expr-fair (Variable slot narrowed type at) = fair-by (fold_out-TypedExpr Shown expr_step (Variable slot narrowed type at)) nothing-fair
-  expr-fair (And' s left t right type at) = fair-by (fold_out-TypedExpr Shown expr_step (And' s left t right type at)) (fair-then (expr_shown left) (within (expr_shown right)) (expr-fair left) (fair-within (expr_shown right)))
-  expr-fair (Or' s left t right type at) = fair-by (fold_out-TypedExpr Shown expr_step (Or' s left t right type at)) (fair-then (expr_shown left) (within (expr_shown right)) (expr-fair left) (fair-within (expr_shown right)))
-  expr-fair (Conditional' s condition t middle u last type at) =
-      fair-by (fold_out-TypedExpr Shown expr_step (Conditional' s condition t middle u last type at))
-      (fair-then (expr_shown condition) (then_shown (within (expr_shown middle)) (within (expr_shown last))) (expr-fair condition) (λ none k. refl))
-  expr-fair (Elvis' own s left t right type at) = fair-by (fold_out-TypedExpr Shown expr_step (Elvis' own s left t right type at)) (fair-then (expr_shown left) (within (expr_shown right)) (expr-fair left) (fair-within (expr_shown right)))
-  expr-fair (Check' ends own s operand type at) = fair-by (fold_out-TypedExpr Shown expr_step (Check' ends own s operand type at)) (expr-fair operand)
-  expr-fair (Trap' s operand type at) = fair-by (fold_out-TypedExpr Shown expr_step (Trap' s operand type at)) (expr-fair operand)
-  expr-fair (Parens' s inner type at) = fair-by (fold_out-TypedExpr Shown expr_step (Parens' s inner type at)) (expr-fair inner)
-  expr-fair (Function' function s value type at) = fair-by (fold_out-TypedExpr Shown expr_step (Function' function s value type at)) nothing-fair
-  expr-fair (Strict' f shape operands type at) =
-      fair-by (fold_out-TypedExpr Shown expr_step (Strict' f shape operands type at))
-      (subst (λ es. Fair (then_shown (exprs_shown es) (form_shown f))) (sym (exprs-shown shape operands))
-      (fair-then (exprs_shown (exprs_in _ operands)) (form_shown f) (row-fair operands) (fair-form f)))
-
-  row-fair : {n : _} (row : Row_of-TypedExpr n) → Fair (exprs_shown (exprs_in _ row))
-  row-fair end_of-TypedExpr = nothing-fair
-  row-fair (more_of-TypedExpr e rest) = fair-then (expr_shown e) (exprs_shown (exprs_in _ rest)) (expr-fair e) (row-fair rest)

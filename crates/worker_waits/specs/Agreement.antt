@@ -5,19 +5,19 @@ use Rattle.typed_tree.specs.declared.event.EventKind.TheVariants.{Send, Post, Do
 use Rattle.typed_tree.specs.Listed.{Listed, nothing, one, ◌&◌}
 use Rattle.worker_pairing.specs.Events.{is_message}
 use Rattle.worker_pairing.specs.Marks.{Mark, Says, Early, Returns}
-use Rattle.worker_waits.specs.Left.{Shown}
+use Rattle.worker_waits.specs.Left.{Shown, Step, Makes}
 
 -- ---- of what is marked
 
-abbrev pub kind_in : Mark → List EventKind
-kind_in (Says kind at inner type) = kind ∷ []
-kind_in Early = []
-kind_in (Returns type at) = []
+abbrev pub step_in : Mark → List Step
+step_in (Says kind at inner type) = Makes kind ∷ []
+step_in Early = []
+step_in (Returns type at) = []
 
-abbrev pub kinds_in : Listed Mark → List EventKind
-kinds_in nothing = []
-kinds_in (one m) = kind_in m
-kinds_in (p & q) = kinds_in p ++ kinds_in q
+abbrev pub steps_in : Listed Mark → List Step
+steps_in nothing = []
+steps_in (one m) = step_in m
+steps_in (p & q) = steps_in p ++ steps_in q
 
 -- a test of each event
 abbrev pub mark_passes : (EventKind → Bool → Bool) → Mark → Bool
@@ -54,6 +54,6 @@ no_messages = marks_pass (λ kind inner. not (is_message kind))
 
 pub record AreShown (ms : Listed Mark) (s : Shown) : Type 0 where
   -- where all events are good the way through makes just these, in this order, and nothing is wrong
-  pub made : all_good ms ≡ true → (s.wrong ≡ 0) × ((k : List EventKind) → s.own k ≡ kinds_in ms ++ k)
+  pub made : all_good ms ≡ true → (s.wrong ≡ 0) × ((k : List Step) → s.own k ≡ steps_in ms ++ k)
   pub silent : none_said ms ≡ true → (s.size ≡ 0) × (s.wrong ≡ 0)
   pub calm : no_messages ms ≡ true → s.messages ≡ 0

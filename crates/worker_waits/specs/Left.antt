@@ -1,5 +1,5 @@
 -- The events of typed trees, and those that are left to be made where a frame has these tasks to do.
-use Rattle.std.specs.Prelude.{◌+◌, ℕ, List, [], ◌∷◌, Option, Some, None, if◌then◌else◌, map}
+use Rattle.std.specs.Prelude.{◌≡◌, ◌+◌, ℕ, List, [], ◌∷◌, Option, Some, None, if◌then◌else◌, map, ⊤}
 use Rattle.std.specs.Global.{Box}
 use Rattle.operations.specs.declared.operation.Operation.{Operation}
 use Rattle.operations.specs.declared.operation.Operation.TheVariants as op
@@ -21,13 +21,18 @@ use Rattle.eval_model.specs.Tasks.{Branch, Whole, These, Kept, Block, Round, Row
 use Rattle.operations.specs.Talk.{workers_in}
 use Rattle.worker_pairing.specs.Events.{is_message}
 
+-- what is made on the way: an event, or the start of the named workers
+pub data Step : Type 0 where
+  Makes : EventKind → Step
+  Begins : Step
+
 -- ---- of trees: what is made on the way through, before what is made behind it; how much that is; and how many events can't be
 -- paired, since they stand in parts that may be left out or done again, name no other worker, or are messages in a trap
 
 pub record Shown : Type 0 where
-  pub own : List EventKind → List EventKind
+  pub own : List Step → List Step
   pub size : ℕ
-  -- how many of these are messages, which a trap must not cut off
+  -- how many of these a trap must not cut off: messages, and the start of the named workers
   pub messages : ℕ
   pub wrong : ℕ
 
@@ -45,7 +50,13 @@ abbrev pub within : Shown → Shown
 within a = record { own = λ k. k; size = 0; messages = 0; wrong = a.size + a.wrong }
 
 abbrev pub one_shown : EventKind → Shown
-one_shown e = record { own = λ k. e ∷ k; size = 1; messages = if is_message e then 1 else 0; wrong = 0 }
+one_shown e = record { own = λ k. Makes e ∷ k; size = 1; messages = if is_message e then 1 else 0; wrong = 0 }
+
+abbrev pub begins_shown : Shown
+begins_shown = record { own = λ k. Begins ∷ k; size = 1; messages = 1; wrong = 0 }
+
+abbrev pub wrong_shown : Shown
+wrong_shown = record { own = λ k. k; size = 0; messages = 0; wrong = 1 }
 
 -- a panic goes on behind what a trap guards, where a flush or a wait may be left out, but no message
 abbrev pub guarded : Shown → Shown
@@ -53,12 +64,17 @@ guarded a = record { own = a.own; size = a.size; messages = a.messages; wrong = 
 
 abbrev pub by_peer : (ℕ → Shown) → Option ℕ → Shown
 by_peer show (Some w) = show w
-by_peer show None = record { own = λ k. k; size = 0; messages = 0; wrong = 1 }
+by_peer show None = wrong_shown
 
 -- a wait on no worker is no event
 abbrev pub wait_shown : List ℕ → Shown
 wait_shown [] = nothing_shown
 wait_shown (n ∷ ns) = one_shown (Wait (n ∷ ns))
+
+-- nor is there an alternate wait for nothing
+abbrev pub alternate_shown : List (Option ℕ) → Shown
+alternate_shown [] = wrong_shown
+alternate_shown (name ∷ names) = wait_shown (workers_in (name ∷ names))
 
 abbrev pub form_shown : StrictForm → Shown
 form_shown (form.Literal c) = nothing_shown
@@ -79,7 +95,7 @@ form_shown (form.Send peer) = by_peer (λ w. one_shown (Send (Some w))) peer
 form_shown (form.SyncSend peer) = by_peer (λ w. then_shown (one_shown (Post (Some w))) (one_shown (Done (Some w)))) peer
 form_shown (form.Receive peer) = by_peer (λ w. one_shown (Receive (Some w))) peer
 form_shown (form.Flush peer) = by_peer (λ w. one_shown (Flush (Some w))) peer
-form_shown (form.WaitAny names) = wait_shown (workers_in names)
+form_shown (form.WaitAny names) = alternate_shown names
 form_shown (form.WaitAll atom names) = wait_shown (workers_in names)
 
 abbrev pub op_shown : Operation → Shown
@@ -122,7 +138,7 @@ op_shown op.Return = nothing_shown
 op_shown op.Panic = nothing_shown
 op_shown (op.Start unit count) = nothing_shown
 op_shown (op.StartValue count) = nothing_shown
-op_shown op.Workers = nothing_shown
+op_shown op.Workers = begins_shown
 op_shown (op.Send w) = one_shown (Send (Some w))
 op_shown (op.Post w) = one_shown (Post (Some w))
 op_shown (op.Done w) = one_shown (Done (Some w))
@@ -130,7 +146,7 @@ op_shown (op.Receive w) = one_shown (Receive (Some w))
 op_shown (op.Flush w) = one_shown (Flush (Some w))
 op_shown (op.WaitWorker w) = one_shown (Wait (w ∷ []))
 op_shown op.WaitFuture = nothing_shown
-op_shown (op.WaitAny names) = wait_shown (workers_in names)
+op_shown (op.WaitAny names) = alternate_shown names
 op_shown (op.WaitAll atom names) = wait_shown (workers_in names)
 
 abbrev pub ops_shown : List Operation → Shown
@@ -176,7 +192,7 @@ stmt_step (stmt_layer.Update target op value at) = then_shown (target_shown targ
 stmt_step (stmt_layer.If condition first second at) =
     then_shown (expr_shown condition.value) (then_shown (within (all_shown first.items)) (within (all_shown second.items)))
 stmt_step (stmt_layer.While condition body at) = within (then_shown (expr_shown condition.value) (all_shown body.items))
-stmt_step (stmt_layer.Foreach slot source body at) = then_shown (source_shown source) (within (all_shown body.items))
+stmt_step (stmt_layer.Foreach slot source body at) = within (then_shown (source_shown source) (all_shown body.items))
 stmt_step (stmt_layer.Match own subject clauses at) = then_shown (expr_shown subject.value) (within (all_shown clauses.items))
 stmt_step (stmt_layer.Return value at) = if_value value
 stmt_step (stmt_layer.Block stmts at) = within (all_shown stmts.items)
@@ -222,3 +238,22 @@ task_shown (Guard vs) = nothing_shown
 abbrev pub tasks_shown : List Task → Shown
 tasks_shown [] = nothing_shown
 tasks_shown (t ∷ ts) = then_shown (task_shown t) (tasks_shown ts)
+
+-- In front of a loop's next turn nothing is shown, and in front of the end of what a trap guards nothing that must not be cut off: so
+-- neither a `break` nor a panic drops any of it. `n` is the size of what stands in front of these tasks, and `m` how much of it must not
+-- be cut off.
+abbrev pub AheadOf : (n m : ℕ) → List Task → Type 0
+AheadOf n m [] = ⊤
+AheadOf n m (Turn loop ∷ ts) = (n ≡ 0) × AheadOf n m ts
+AheadOf n m (Guard vs ∷ ts) = (m ≡ 0) × AheadOf n m ts
+AheadOf n m (Eval e ∷ ts) = AheadOf (n + (expr_shown e).size) (m + (expr_shown e).messages) ts
+AheadOf n m (Exec s ∷ ts) = AheadOf (n + (stmt_shown s).size) (m + (stmt_shown s).messages) ts
+AheadOf n m (Do o ∷ ts) = AheadOf (n + (op_shown o).size) (m + (op_shown o).messages) ts
+AheadOf n m (Get slot narrowed ∷ ts) = AheadOf n m ts
+AheadOf n m (Choose first second ∷ ts) = AheadOf n m ts
+
+-- just these steps are left to be made, none in a part that may be left out or done again
+pub record Lasts (ts : List Task) (steps : List Step) : Type 0 where
+  pub wrong : (tasks_shown ts).wrong ≡ 0
+  pub left : (tasks_shown ts).own [] ≡ steps
+  pub ahead : AheadOf 0 0 ts

@@ -1,5 +1,5 @@
 //! Laws of workers that wait. These calls do nothing: their clauses are laws.
-ghost use Rattle.worker_waits.specs.Laws.{EndsAll, EvalKeepsEvents, ExecKeepsEvents, MarksAreShown, RingsNever, SilenceShowsNothing};
+ghost use Rattle.worker_waits.specs.Laws.{BranchKeepsEvents, EndsAll, EvalKeepsEvents, ExecKeepsEvents, MarksAreShown, RingsNever, SilenceShowsNothing, TurnKeepsEvents};
 
 use machine_model::AnyMachine;
 
@@ -19,9 +19,12 @@ pub fn expressions_keep_events()
     ensures silent { SilenceShowsNothing }
 {}
 
-/// And so it does where statements are taken apart.
+/// And so it does where statements are taken apart, loops go on, and choices are made; a frame that leaves a loop outside of any
+/// has nothing left to do.
 pub fn statements_keep_events()
-    ensures { ExecKeepsEvents }
+    ensures statements { ExecKeepsEvents }
+    ensures choices { BranchKeepsEvents }
+    ensures turns { TurnKeepsEvents }
 {}
 
 /// The events that pairing sees in expressions and statements are just those that are made on the way through them.
