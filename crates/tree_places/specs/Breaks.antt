@@ -1,5 +1,5 @@
 -- Whether a `break` stands in statements that ends the loop around them: one in a loop within them ends that loop.
-use Rattle.std.specs.Prelude.{Bool, true, false, ◌||◌, List, Option, Some, None}
+use Rattle.std.specs.Prelude.{Bool, true, false, ◌||◌, Option, Some, None}
 use Rattle.std.specs.Global.{Box}
 use Rattle.std.specs.List.{list_any}
 use Rattle.bal_tree.specs.declared.stmt.Else.{Else}

@@ -1,6 +1,6 @@
--- Names that are gathered one behind another.
+-- Names with their places, gathered one behind another.
 use Rattle.std.specs.Prelude.{List, [], ◌∷◌, ◌++◌}
-use Rattle.bal_base.specs.declared.text.Name.{Name}
+use Rattle.bal_tree.specs.declared.name.Word.{Word}
 
-abbrev pub gather : Name → List Name → List Name
-gather name names = names ++ name ∷ []
+abbrev pub gather : Word → List Word → List Word
+gather word words = words ++ word ∷ []

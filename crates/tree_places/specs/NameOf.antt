@@ -1,15 +1,11 @@
 -- The name that an expression is, where it is one and nothing else: not in parentheses, and with no suffix.
-use Rattle.std.specs.Prelude.{Option, Some, None, Bool, true, false}
-use Rattle.bal_tree.specs.declared.name.Literal.{Literal}
-use Rattle.bal_tree.specs.declared.name.Literal.TheVariants as literal
+use Rattle.std.specs.Prelude.{Option, Some, None}
 use Rattle.bal_tree.specs.declared.name.QualifiedName.{QualifiedName}
-use Rattle.bal_tree.specs.declared.expr.Call.{Call}
 use Rattle.bal_tree.specs.declared.expr.Call.TheOpen as layer
 use Rattle.bal_tree.specs.declared.expr.Expr.{Expr}
-use Rattle.bal_tree.specs.declared.expr.Key.{Key}
 use Rattle.bal_tree.specs.declared.expr.Postfix.{Postfix}
 use Rattle.bal_tree.specs.declared.expr.Primary.{Primary}
-use Rattle.bal_tree.specs.ExprLayers.{CallOf, ExprOf, KeyOf, PostfixOf, PrimaryOf, DetailOf, MemberOf, ExprSteps, of_call, of_expr, of_key, of_postfix, of_primary}
+use Rattle.bal_tree.specs.ExprLayers.{CallOf, ExprOf, KeyOf, PostfixOf, PrimaryOf, DetailOf, MemberOf, ExprSteps, of_expr, of_postfix, of_primary}
 
 abbrev pub expr_step : ExprOf (Option QualifiedName) → Option QualifiedName
 expr_step (layer.Postfix e) = e

@@ -5,13 +5,9 @@ use Rattle.bal_tree.specs.declared.action.Rhs.TheVariants.{Expr as ExprRhs, Acti
 use Rattle.bal_tree.specs.declared.action.Action.{Action, Prefix', Start, WaitAny, WaitAll, Flush, Receive, Send, SyncSend}
 use Rattle.bal_tree.specs.declared.stmt.Target.{Target}
 use Rattle.bal_tree.specs.declared.stmt.Target.TheVariants.{Name as NameTarget, Index as IndexTarget, Field as FieldTarget}
-use Rattle.bal_tree.specs.declared.stmt.Else.{Else}
 use Rattle.bal_tree.specs.declared.stmt.Else.TheOpen as layer
 use Rattle.bal_tree.specs.declared.stmt.Stmt.{Stmt}
-use Rattle.bal_tree.specs.declared.stmt.Block.{Block}
-use Rattle.bal_tree.specs.declared.stmt.Clause.{Clause}
-use Rattle.bal_tree.specs.declared.stmt.IfStmt.{IfStmt}
-use Rattle.bal_tree.specs.StmtLayers.{ElseOf, StmtOf, BlockOf, ClauseOf, IfStmtOf, StmtSteps, of_else, of_stmt, of_block, of_clause, of_if_stmt}
+use Rattle.bal_tree.specs.StmtLayers.{ElseOf, StmtOf, StmtSteps, of_stmt}
 use Rattle.tree_places.specs.ExprPlaces.{place_of_expr}
 
 abbrev pub place_of_action : Action → Place

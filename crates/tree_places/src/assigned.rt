@@ -6,21 +6,21 @@ ghost use Rattle.typed_tree.specs.Listed.{joined, members as members_of, run};
 ghost use Rattle.tree_places.specs.Assigned.{assigned_in_block, assigned_in_clause, assigned_in_else, assigned_in_if, assigned_in_stmt, assigned_in_stmts, assigned_in_target};
 ghost use Rattle.tree_places.specs.Gathered.{gather};
 
-use crate::gathered::gather_local;
-use bal_base::{Memory, Name, NameList};
-use bal_tree::{Block, Clause, Else, IfStmt, Stmt, Target};
+use crate::gathered::{WordList, gather_local};
+use bal_base::Memory;
+use bal_tree::{Block, Clause, Else, IfStmt, Stmt, Target, Word};
 use std::alloc::Global;
 
-/// The names of the variables that the statements assign, in the order of the text, each as often as it is assigned.
-pub fn names_assigned(alloc: Global, ss: &[Stmt]) -> Result<NameList, Memory>
+/// The names of the variables that the statements assign, where they stand, in the order of the text, each as often as it is assigned.
+pub fn names_assigned(alloc: Global, ss: &[Stmt]) -> Result<WordList, Memory>
     ensures { IfOk result (λ names. names ≡ members_of (assigned_in_stmts ss.now)) }
 {
     let mut names = Vec::new(alloc);
     stmts(&mut names, ss)?;
-    Ok(NameList::of(names))
+    Ok(WordList::of(names))
 }
 
-fn target(names: &mut Vec<Name>, t: &Target) -> Result<(), Memory>
+fn target(names: &mut Vec<Word>, t: &Target) -> Result<(), Memory>
     ensures { OnOk result (names.new.items ≡ run gather (assigned_in_target t.now) names.old.items) }
 {
     match t {
@@ -30,7 +30,7 @@ fn target(names: &mut Vec<Name>, t: &Target) -> Result<(), Memory>
 }
 
 #[cycle(stmts)]
-fn stmts(names: &mut Vec<Name>, ss: &[Stmt]) -> Result<(), Memory>
+fn stmts(names: &mut Vec<Word>, ss: &[Stmt]) -> Result<(), Memory>
     ensures { OnOk result (names.new.items ≡ run gather (assigned_in_stmts ss.now) names.old.items) }
 {
     for s in ss {
@@ -40,14 +40,14 @@ fn stmts(names: &mut Vec<Name>, ss: &[Stmt]) -> Result<(), Memory>
 }
 
 #[cycle(stmts)]
-fn block(names: &mut Vec<Name>, b: &Block) -> Result<(), Memory>
+fn block(names: &mut Vec<Word>, b: &Block) -> Result<(), Memory>
     ensures { OnOk result (names.new.items ≡ run gather (assigned_in_block b.now) names.old.items) }
 {
     stmts(names, &b.stmts)
 }
 
 #[cycle(stmts)]
-fn stmt(names: &mut Vec<Name>, s: &Stmt) -> Result<(), Memory>
+fn stmt(names: &mut Vec<Word>, s: &Stmt) -> Result<(), Memory>
     ensures { OnOk result (names.new.items ≡ run gather (assigned_in_stmt s.now) names.old.items) }
 {
     match s {
@@ -63,7 +63,7 @@ fn stmt(names: &mut Vec<Name>, s: &Stmt) -> Result<(), Memory>
 }
 
 #[cycle(stmts)]
-fn if_stmt(names: &mut Vec<Name>, s: &IfStmt) -> Result<(), Memory>
+fn if_stmt(names: &mut Vec<Word>, s: &IfStmt) -> Result<(), Memory>
     ensures { OnOk result (names.new.items ≡ run gather (assigned_in_if s.now) names.old.items) }
 {
     block(names, &s.then)?;
@@ -74,7 +74,7 @@ fn if_stmt(names: &mut Vec<Name>, s: &IfStmt) -> Result<(), Memory>
 }
 
 #[cycle(stmts)]
-fn otherwise(names: &mut Vec<Name>, e: &Else) -> Result<(), Memory>
+fn otherwise(names: &mut Vec<Word>, e: &Else) -> Result<(), Memory>
     ensures { OnOk result (names.new.items ≡ run gather (assigned_in_else e.now) names.old.items) }
 {
     match e {
@@ -84,7 +84,7 @@ fn otherwise(names: &mut Vec<Name>, e: &Else) -> Result<(), Memory>
 }
 
 #[cycle(stmts)]
-fn clauses(names: &mut Vec<Name>, cs: &[Clause]) -> Result<(), Memory>
+fn clauses(names: &mut Vec<Word>, cs: &[Clause]) -> Result<(), Memory>
     ensures { OnOk result (names.new.items ≡ run gather (joined (map assigned_in_clause cs.now)) names.old.items) }
 {
     for c in cs {
@@ -94,7 +94,7 @@ fn clauses(names: &mut Vec<Name>, cs: &[Clause]) -> Result<(), Memory>
 }
 
 #[cycle(stmts)]
-fn clause(names: &mut Vec<Name>, c: &Clause) -> Result<(), Memory>
+fn clause(names: &mut Vec<Word>, c: &Clause) -> Result<(), Memory>
     ensures { OnOk result (names.new.items ≡ run gather (assigned_in_clause c.now) names.old.items) }
 {
     block(names, &c.body)

@@ -6,22 +6,22 @@ ghost use Rattle.typed_tree.specs.Listed.{joined, members as members_of, run};
 ghost use Rattle.tree_places.specs.Gathered.{gather};
 ghost use Rattle.tree_places.specs.UsedInExprs.{used_in_call, used_in_detail, used_in_expr, used_in_key, used_in_member, used_in_postfix, used_in_primary};
 
-use crate::gathered::gather_local;
-use bal_base::{Memory, Name, NameList};
-use bal_tree::{Call, Detail, Expr, Key, Member, Postfix, Primary};
+use crate::gathered::{WordList, gather_local};
+use bal_base::Memory;
+use bal_tree::{Call, Detail, Expr, Key, Member, Postfix, Primary, Word};
 use std::alloc::Global;
 
-/// The names without a prefix that the expression uses, in the order of the text, each as often as it stands there.
-pub fn names_in_expr(alloc: Global, e: &Expr) -> Result<NameList, Memory>
+/// The names without a prefix that the expression uses, with their places, in the order of the text, each as often as it stands there.
+pub fn names_in_expr(alloc: Global, e: &Expr) -> Result<WordList, Memory>
     ensures { IfOk result (λ names. names ≡ members_of (used_in_expr e.now)) }
 {
     let mut names = Vec::new(alloc);
     expr(&mut names, e)?;
-    Ok(NameList::of(names))
+    Ok(WordList::of(names))
 }
 
 #[cycle(exprs)]
-pub(crate) fn expr(names: &mut Vec<Name>, e: &Expr) -> Result<(), Memory>
+pub(crate) fn expr(names: &mut Vec<Word>, e: &Expr) -> Result<(), Memory>
     ensures { OnOk result (names.new.items ≡ run gather (used_in_expr e.now) names.old.items) }
 {
     match e {
@@ -47,7 +47,7 @@ pub(crate) fn expr(names: &mut Vec<Name>, e: &Expr) -> Result<(), Memory>
 }
 
 #[cycle(exprs)]
-pub(crate) fn postfix(names: &mut Vec<Name>, e: &Postfix) -> Result<(), Memory>
+pub(crate) fn postfix(names: &mut Vec<Word>, e: &Postfix) -> Result<(), Memory>
     ensures { OnOk result (names.new.items ≡ run gather (used_in_postfix e.now) names.old.items) }
 {
     match e {
@@ -62,7 +62,7 @@ pub(crate) fn postfix(names: &mut Vec<Name>, e: &Postfix) -> Result<(), Memory>
 }
 
 #[cycle(exprs)]
-pub(crate) fn call(names: &mut Vec<Name>, e: &Call) -> Result<(), Memory>
+pub(crate) fn call(names: &mut Vec<Word>, e: &Call) -> Result<(), Memory>
     ensures { OnOk result (names.new.items ≡ run gather (used_in_call e.now) names.old.items) }
 {
     match e {
@@ -78,7 +78,7 @@ pub(crate) fn call(names: &mut Vec<Name>, e: &Call) -> Result<(), Memory>
 }
 
 #[cycle(exprs)]
-fn primary(names: &mut Vec<Name>, e: &Primary) -> Result<(), Memory>
+fn primary(names: &mut Vec<Word>, e: &Primary) -> Result<(), Memory>
     ensures { OnOk result (names.new.items ≡ run gather (used_in_primary e.now) names.old.items) }
 {
     match e {
@@ -110,7 +110,7 @@ fn primary(names: &mut Vec<Name>, e: &Primary) -> Result<(), Memory>
 }
 
 #[cycle(exprs)]
-fn key(names: &mut Vec<Name>, k: &Key) -> Result<(), Memory>
+fn key(names: &mut Vec<Word>, k: &Key) -> Result<(), Memory>
     ensures { OnOk result (names.new.items ≡ run gather (used_in_key k.now) names.old.items) }
 {
     match k {
@@ -120,7 +120,7 @@ fn key(names: &mut Vec<Name>, k: &Key) -> Result<(), Memory>
 }
 
 #[cycle(exprs)]
-fn member(names: &mut Vec<Name>, m: &Member) -> Result<(), Memory>
+fn member(names: &mut Vec<Word>, m: &Member) -> Result<(), Memory>
     ensures { OnOk result (names.new.items ≡ run gather (used_in_member m.now) names.old.items) }
 {
     key(names, &m.key)?;
@@ -128,14 +128,14 @@ fn member(names: &mut Vec<Name>, m: &Member) -> Result<(), Memory>
 }
 
 #[cycle(exprs)]
-fn detail(names: &mut Vec<Name>, d: &Detail) -> Result<(), Memory>
+fn detail(names: &mut Vec<Word>, d: &Detail) -> Result<(), Memory>
     ensures { OnOk result (names.new.items ≡ run gather (used_in_detail d.now) names.old.items) }
 {
     expr(names, &d.value)
 }
 
 #[cycle(exprs)]
-fn exprs(names: &mut Vec<Name>, es: &[Expr]) -> Result<(), Memory>
+fn exprs(names: &mut Vec<Word>, es: &[Expr]) -> Result<(), Memory>
     ensures { OnOk result (names.new.items ≡ run gather (joined (map used_in_expr es.now)) names.old.items) }
 {
     for e in es {
@@ -145,7 +145,7 @@ fn exprs(names: &mut Vec<Name>, es: &[Expr]) -> Result<(), Memory>
 }
 
 #[cycle(exprs)]
-fn members(names: &mut Vec<Name>, ms: &[Member]) -> Result<(), Memory>
+fn members(names: &mut Vec<Word>, ms: &[Member]) -> Result<(), Memory>
     ensures { OnOk result (names.new.items ≡ run gather (joined (map used_in_member ms.now)) names.old.items) }
 {
     for m in ms {
@@ -155,7 +155,7 @@ fn members(names: &mut Vec<Name>, ms: &[Member]) -> Result<(), Memory>
 }
 
 #[cycle(exprs)]
-fn details(names: &mut Vec<Name>, ds: &[Detail]) -> Result<(), Memory>
+fn details(names: &mut Vec<Word>, ds: &[Detail]) -> Result<(), Memory>
     ensures { OnOk result (names.new.items ≡ run gather (joined (map used_in_detail ds.now)) names.old.items) }
 {
     for d in ds {

@@ -7,25 +7,25 @@ ghost use Rattle.tree_places.specs.Gathered.{gather};
 ghost use Rattle.tree_places.specs.UsedInExprs.{local_name};
 ghost use Rattle.tree_places.specs.UsedInStmts.{used_in_action, used_in_block, used_in_clause, used_in_else, used_in_if, used_in_member_of_wait, used_in_pattern, used_in_range, used_in_rhs, used_in_stmt, used_in_stmts, used_in_target};
 
-use crate::gathered::gather_local;
+use crate::gathered::{WordList, gather_local};
 use crate::used_in_exprs::{call, expr, postfix};
-use bal_base::{Memory, Name, NameList};
+use bal_base::Memory;
 use bal_tree::{
     Action, Block, Clause, Else, IfStmt, Pattern, QualifiedName, Range, Rhs, Stmt, Target,
-    WaitMember,
+    WaitMember, Word,
 };
 use std::alloc::Global;
 
-/// The names without a prefix that the statements use, in the order of the text, each as often as it stands there.
-pub fn names_in_stmts(alloc: Global, ss: &[Stmt]) -> Result<NameList, Memory>
+/// The names without a prefix that the statements use, with their places, in the order of the text, each as often as it stands there.
+pub fn names_in_stmts(alloc: Global, ss: &[Stmt]) -> Result<WordList, Memory>
     ensures { IfOk result (λ names. names ≡ members_of (used_in_stmts ss.now)) }
 {
     let mut names = Vec::new(alloc);
     stmts(&mut names, ss)?;
-    Ok(NameList::of(names))
+    Ok(WordList::of(names))
 }
 
-fn waited(names: &mut Vec<Name>, qs: &[QualifiedName]) -> Result<(), Memory>
+fn waited(names: &mut Vec<Word>, qs: &[QualifiedName]) -> Result<(), Memory>
     ensures { OnOk result (names.new.items ≡ run gather (joined (map local_name qs.now)) names.old.items) }
 {
     for q in qs {
@@ -34,7 +34,7 @@ fn waited(names: &mut Vec<Name>, qs: &[QualifiedName]) -> Result<(), Memory>
     Ok(())
 }
 
-fn waited_members(names: &mut Vec<Name>, ms: &[WaitMember]) -> Result<(), Memory>
+fn waited_members(names: &mut Vec<Word>, ms: &[WaitMember]) -> Result<(), Memory>
     ensures { OnOk result (names.new.items ≡ run gather (joined (map used_in_member_of_wait ms.now)) names.old.items) }
 {
     for m in ms {
@@ -43,7 +43,7 @@ fn waited_members(names: &mut Vec<Name>, ms: &[WaitMember]) -> Result<(), Memory
     Ok(())
 }
 
-fn action(names: &mut Vec<Name>, a: &Action) -> Result<(), Memory>
+fn action(names: &mut Vec<Word>, a: &Action) -> Result<(), Memory>
     ensures { OnOk result (names.new.items ≡ run gather (used_in_action a.now) names.old.items) }
 {
     match a {
@@ -56,7 +56,7 @@ fn action(names: &mut Vec<Name>, a: &Action) -> Result<(), Memory>
     }
 }
 
-fn rhs(names: &mut Vec<Name>, r: &Rhs) -> Result<(), Memory>
+fn rhs(names: &mut Vec<Word>, r: &Rhs) -> Result<(), Memory>
     ensures { OnOk result (names.new.items ≡ run gather (used_in_rhs r.now) names.old.items) }
 {
     match r {
@@ -65,7 +65,7 @@ fn rhs(names: &mut Vec<Name>, r: &Rhs) -> Result<(), Memory>
     }
 }
 
-fn rhs_if(names: &mut Vec<Name>, r: &Option<Rhs>) -> Result<(), Memory>
+fn rhs_if(names: &mut Vec<Word>, r: &Option<Rhs>) -> Result<(), Memory>
     ensures { OnOk result (names.new.items ≡ run gather (if_there used_in_rhs r.now) names.old.items) }
 {
     match r {
@@ -74,7 +74,7 @@ fn rhs_if(names: &mut Vec<Name>, r: &Option<Rhs>) -> Result<(), Memory>
     }
 }
 
-fn target(names: &mut Vec<Name>, t: &Target) -> Result<(), Memory>
+fn target(names: &mut Vec<Word>, t: &Target) -> Result<(), Memory>
     ensures { OnOk result (names.new.items ≡ run gather (used_in_target t.now) names.old.items) }
 {
     match t {
@@ -87,7 +87,7 @@ fn target(names: &mut Vec<Name>, t: &Target) -> Result<(), Memory>
     }
 }
 
-fn range_if(names: &mut Vec<Name>, r: &Option<Range>) -> Result<(), Memory>
+fn range_if(names: &mut Vec<Word>, r: &Option<Range>) -> Result<(), Memory>
     ensures { OnOk result (names.new.items ≡ run gather (if_there used_in_range r.now) names.old.items) }
 {
     match r {
@@ -96,7 +96,7 @@ fn range_if(names: &mut Vec<Name>, r: &Option<Range>) -> Result<(), Memory>
     }
 }
 
-fn pattern(names: &mut Vec<Name>, p: &Pattern) -> Result<(), Memory>
+fn pattern(names: &mut Vec<Word>, p: &Pattern) -> Result<(), Memory>
     ensures { OnOk result (names.new.items ≡ run gather (used_in_pattern p.now) names.old.items) }
 {
     match p {
@@ -105,7 +105,7 @@ fn pattern(names: &mut Vec<Name>, p: &Pattern) -> Result<(), Memory>
     }
 }
 
-fn patterns(names: &mut Vec<Name>, ps: &[Pattern]) -> Result<(), Memory>
+fn patterns(names: &mut Vec<Word>, ps: &[Pattern]) -> Result<(), Memory>
     ensures { OnOk result (names.new.items ≡ run gather (joined (map used_in_pattern ps.now)) names.old.items) }
 {
     for p in ps {
@@ -115,7 +115,7 @@ fn patterns(names: &mut Vec<Name>, ps: &[Pattern]) -> Result<(), Memory>
 }
 
 #[cycle(stmts)]
-fn stmts(names: &mut Vec<Name>, ss: &[Stmt]) -> Result<(), Memory>
+fn stmts(names: &mut Vec<Word>, ss: &[Stmt]) -> Result<(), Memory>
     ensures { OnOk result (names.new.items ≡ run gather (used_in_stmts ss.now) names.old.items) }
 {
     for s in ss {
@@ -125,14 +125,14 @@ fn stmts(names: &mut Vec<Name>, ss: &[Stmt]) -> Result<(), Memory>
 }
 
 #[cycle(stmts)]
-fn block(names: &mut Vec<Name>, b: &Block) -> Result<(), Memory>
+fn block(names: &mut Vec<Word>, b: &Block) -> Result<(), Memory>
     ensures { OnOk result (names.new.items ≡ run gather (used_in_block b.now) names.old.items) }
 {
     stmts(names, &b.stmts)
 }
 
 #[cycle(stmts)]
-fn stmt(names: &mut Vec<Name>, s: &Stmt) -> Result<(), Memory>
+fn stmt(names: &mut Vec<Word>, s: &Stmt) -> Result<(), Memory>
     ensures { OnOk result (names.new.items ≡ run gather (used_in_stmt s.now) names.old.items) }
 {
     match s {
@@ -181,7 +181,7 @@ fn stmt(names: &mut Vec<Name>, s: &Stmt) -> Result<(), Memory>
 }
 
 #[cycle(stmts)]
-fn if_stmt(names: &mut Vec<Name>, s: &IfStmt) -> Result<(), Memory>
+fn if_stmt(names: &mut Vec<Word>, s: &IfStmt) -> Result<(), Memory>
     ensures { OnOk result (names.new.items ≡ run gather (used_in_if s.now) names.old.items) }
 {
     expr(names, &s.condition)?;
@@ -193,7 +193,7 @@ fn if_stmt(names: &mut Vec<Name>, s: &IfStmt) -> Result<(), Memory>
 }
 
 #[cycle(stmts)]
-fn otherwise(names: &mut Vec<Name>, e: &Else) -> Result<(), Memory>
+fn otherwise(names: &mut Vec<Word>, e: &Else) -> Result<(), Memory>
     ensures { OnOk result (names.new.items ≡ run gather (used_in_else e.now) names.old.items) }
 {
     match e {
@@ -203,7 +203,7 @@ fn otherwise(names: &mut Vec<Name>, e: &Else) -> Result<(), Memory>
 }
 
 #[cycle(stmts)]
-fn clauses(names: &mut Vec<Name>, cs: &[Clause]) -> Result<(), Memory>
+fn clauses(names: &mut Vec<Word>, cs: &[Clause]) -> Result<(), Memory>
     ensures { OnOk result (names.new.items ≡ run gather (joined (map used_in_clause cs.now)) names.old.items) }
 {
     for c in cs {
@@ -213,7 +213,7 @@ fn clauses(names: &mut Vec<Name>, cs: &[Clause]) -> Result<(), Memory>
 }
 
 #[cycle(stmts)]
-fn clause(names: &mut Vec<Name>, c: &Clause) -> Result<(), Memory>
+fn clause(names: &mut Vec<Word>, c: &Clause) -> Result<(), Memory>
     ensures { OnOk result (names.new.items ≡ run gather (used_in_clause c.now) names.old.items) }
 {
     patterns(names, &c.patterns)?;
