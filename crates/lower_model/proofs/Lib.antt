@@ -1,0 +1,10 @@
+pub mod Allowed
+pub mod Bodies
+pub mod CodeWays
+pub mod Entered
+pub mod Guarded
+pub mod Landing
+pub mod SameOperations
+pub mod Simulation
+pub mod TaskWays
+pub mod Whole

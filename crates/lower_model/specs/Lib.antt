@@ -1,0 +1,4 @@
+pub mod Following
+pub mod Laws
+pub mod Lowered
+pub mod Whole

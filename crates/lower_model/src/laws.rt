@@ -1,0 +1,14 @@
+//! Laws of lowering. This call does nothing: its clauses are laws.
+ghost use Rattle.lower_model.specs.Laws.{LoweredFramesFollow};
+ghost use Rattle.lower_model.specs.Whole.{CodeDoesTheSame, SameIsAllowed};
+
+use run_model::Meaning;
+
+/// Code that is lowered from a package has an outcome exactly where the package has it, for all words that are texts, inputs,
+/// orders and ticks, where narrowed variables hold values of their narrower types. So what may come of it is what may come of
+/// the package, where its inherent atoms are those of the package. Each frame of the package is followed by one of the code.
+pub fn lowered_code_does_the_same<N: Meaning>()
+    ensures outcomes { CodeDoesTheSame N.answers }
+    ensures allowed { SameIsAllowed N.answers }
+    ensures frames { LoweredFramesFollow N.answers }
+{}
