@@ -4,7 +4,12 @@ pub mod CodeWays
 pub mod Entered
 pub mod Guarded
 pub mod Landing
+pub mod Laying
+pub mod Lowering
+pub mod LoweringStmts
 pub mod SameOperations
 pub mod Simulation
 pub mod TaskWays
+pub mod Trapping
+pub mod Units
 pub mod Whole

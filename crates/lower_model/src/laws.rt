@@ -1,5 +1,6 @@
-//! Laws of lowering. This call does nothing: its clauses are laws.
+//! Laws of lowering. These calls do nothing: their clauses are laws.
 ghost use Rattle.lower_model.specs.Laws.{LoweredFramesFollow};
+ghost use Rattle.lower_model.specs.Laying.{ExpressionsAreLaid, StatementsAreLaid, UnitsAreLaid};
 ghost use Rattle.lower_model.specs.Whole.{CodeDoesTheSame, SameIsAllowed};
 
 use run_model::Meaning;
@@ -11,4 +12,12 @@ pub fn lowered_code_does_the_same<N: Meaning>()
     ensures outcomes { CodeDoesTheSame N.answers }
     ensures allowed { SameIsAllowed N.answers }
     ensures frames { LoweredFramesFollow N.answers }
+{}
+
+/// What is added for an expression, a statement or a unit to code that is being made stands for it in each code that has all that
+/// was made.
+pub fn what_is_made_stands()
+    ensures expressions { ExpressionsAreLaid }
+    ensures statements { StatementsAreLaid }
+    ensures units { UnitsAreLaid }
 {}

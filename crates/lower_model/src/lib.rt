@@ -5,11 +5,14 @@
 //! - `Lowered`: which code stands for an expression, a statement and a unit: the ways through the tree are ways through the code.
 //! - `Whole`: that a code is lowered from a package, and that it then has the same outcomes.
 //! - `Following`: which frame of the code follows a frame of the package.
-//! - `Laws`.
+//! - `Making`: what each construct adds to code that is being made; `Laying`: that this stands for the construct.
+//! - `Cases`, worked cases; `Laws`.
 //!
-//! Beside them stands the law, [`lowered_code_does_the_same`].
+//! Beside them stand [`definitions_come_to_cases`] and the laws: [`lowered_code_does_the_same`] and [`what_is_made_stands`].
 #![tactic(auto)]
 
+mod cases;
 mod laws;
 
-pub use laws::lowered_code_does_the_same;
+pub use cases::definitions_come_to_cases;
+pub use laws::{lowered_code_does_the_same, what_is_made_stands};
