@@ -1,5 +1,12 @@
+pub mod Adding
 pub mod Done
+pub mod Entries
+pub mod Erring
+pub mod Keyed
 pub mod Listing
 pub mod Making
+pub mod Mapped
+pub mod Mapping
 pub mod Reading
 pub mod Shaping
+pub mod Sorting

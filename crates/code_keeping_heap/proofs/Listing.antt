@@ -47,53 +47,16 @@ use Rattle.code_keeping.proofs.Growing.{IsGrown, IsNewStructure, belongs-there, 
 use Rattle.code_keeping.proofs.Lists.{all-at, at-some, of-some, some-to, zip-to}
 use Rattle.code_keeping.proofs.Serving.{all-to, all-zipped}
 use Rattle.code_keeping.proofs.Staying.{stays-same}
-use Rattle.code_keeping_heap.proofs.Making.{one-there}
+use Rattle.code_keeping_heap.proofs.Adding.{IsFine, IsSmall, added, at-last, grows, number, short, structure-typed, world-then}
 use Rattle.code_keeping_heap.proofs.Shaping.{IsShown, all-frozen, all-shown, list-in, list-of, list-stands, list-valid, zip-long, zip-second}
-
--- what is made last takes its own cells
-greatest-last : (ss : List Structure) (s : Structure) (before : ℕ) → s.greatest ≤ fold (λ a x. a + (x.greatest + 1)) before (ss ++ s ∷ [])
-greatest-last [] s before = omega arith
-greatest-last (x ∷ ss) s before = greatest-last ss s (before + (x.greatest + 1))
-
-pub grows-by-one : (h : Heap) (s : Structure) → Grows h (record { structures = h.structures ++ s ∷ []; errors = h.errors; functions = h.functions })
-grows-by-one h s =
-    record {
-      structures = λ n x e. at-some (Stays x) (slice_get (h.structures ++ s ∷ []) n) x (get-front h.structures (s ∷ []) n x e) (stays-same x);
-      errors = ([], sym (append-nil h.errors));
-      functions = ([], sym (append-nil h.functions));
-    }
-
--- what an immutable structure has is immutable
-readonly : (h : Heap) (n : ℕ) (x : Shape) → HasShape h x (Struct n) → IsReadonly x
-readonly h n (List' mark _ items) k = k.0
-readonly h n (Mapping' mark _ fields) k = k.0
-readonly h n NilShape k = tt
-readonly h n (BoolShape b) k = tt
-readonly h n (IntShape i) k = tt
-readonly h n (StrShape s) k = tt
-readonly h n (Error' _ detail) k = absurd k
-readonly h n (FunctionShape isolated graph) k = absurd k
-readonly h n (Future' _ results) k = absurd k
 
 module _ (code : Code) (t : WellTyped code) (c : Common) (good : GoodCommon code c Running) (atom : ℕ) (immutable : Bool) (operands : List SemType) (vs : List Value) (fit : AllFit code c vs operands) (known : IsInherent code atom)
     (fixed : List Ty) (rest : Option Ty) (ea : slice_get code.atoms atom ≡ Some (ListAtom fixed rest)) (long : length fixed ≤ length vs) (each : ItemsFit code.atoms operands 0 fixed rest) (may : All (MayStandIn code.atoms immutable) operands) where
   abbrev heap : Heap
   heap = c.world.heap
 
-  abbrev list : Structure
-  list = new_structure (Some atom) (not immutable) (Items vs)
-
   abbrev w : World
-  w = makes c.world (list ∷ [])
-
-  abbrev number : ℕ
-  number = length heap.structures
-
-  grows : Grows heap w.heap
-  grows = grows-by-one heap list
-
-  abbrev d : Common
-  d = with_world c w
+  w = world-then code c good atom immutable (Items vs)
 
   made-all : All (IsMade code c) vs
   made-all = all-zipped (Fits code c) (IsMade code c) (λ v s k. k.1) vs operands fit
@@ -114,79 +77,41 @@ module _ (code : Code) (t : WellTyped code) (c : Common) (good : GoodCommon code
   belong-there : (i : ℕ) (v : Value) → slice_get vs i ≡ Some v → BelongsIf (code_types code) w.heap v (item_type fixed rest i)
   belong-there i v e =
       some-to (λ u. Belongs (code_types code) heap v u.sem) (λ u. Belongs (code_types code) w.heap v u.sem) (item_type fixed rest i)
-      (λ u b. belongs-there code c w good.nearly.heap grows v u.sem (all-at (IsMade code c) vs i v made-all e).0 b) (belong i v e)
+      (λ u b. belongs-there code c w good.nearly.heap (grows code c good atom immutable (Items vs)) v u.sem (all-at (IsMade code c) vs i v made-all e).0 b) (belong i v e)
 
-  at-last : slice_get w.heap.structures number ≡ Some list
-  at-last = get-last heap.structures list
+  few : IsSmall code c good atom immutable (Items vs) → (P : Value → Shape → Type 0) (xs : List Shape) → AllZip P vs xs → length xs < 2 ^ 63
+  few small P xs zip = subst (λ n. n < 2 ^ 63) (zip-long P vs xs zip) (short code c good atom immutable (Items vs) small)
 
-  module _ (small : cells w.heap ≤ most_cells) where
-    short : length vs < 2 ^ 63
-    short = let l : length vs ≤ sum_by (λ (x : Structure). x.greatest + 1) w.heap.structures = greatest-last heap.structures list 0 in omega (arith, l, small)
-
-    mutable-so : IsWithinAtom code d list
-    mutable-so = λ m.
-        let (xs, shown) = all-shown code c t good.nearly.heap vs made-all in
-        let few : length xs < 2 ^ 63 = subst (λ n. n < 2 ^ 63) (zip-long (IsShown code c) vs xs shown) short in (
-          known,
-          (list-of false xs few, list-valid false xs few (λ f. absurd (let q : ⊥ = cc in q)) (zip-second (IsShown code c) IsValid (λ v x k. k.0) vs xs shown), refl, list-in code c false vs xs few fixed rest atom ea shown long belong),
-          at-some (MembersBelong (code_types code) w.heap (Items vs)) (slice_get code.atoms atom) (ListAtom fixed rest) ea (long, belong-there),
-        )
-
-    -- the shape of an immutable one
-    frozen-shape : IsTrue immutable → (x : Shape) × IsValid x × HasShape w.heap x (Struct number) × In code.atoms x (Atom atom)
-    frozen-shape is =
-        let (xs, shown) = all-frozen code t c good.nearly.heap vs operands fit (all-to (MayStandIn code.atoms immutable) (IsWithin code.atoms IsFrozen) (λ s h. h is) operands may) in
-        let few : length xs < 2 ^ 63 = subst (λ n. n < 2 ^ 63) (zip-long _ vs xs shown) short in (
-          list-of true xs few,
-          list-valid true xs few (λ m. zip-second _ IsFrozen (λ v x k. k.1) vs xs shown) (zip-second _ IsValid (λ v x k. k.0.0) vs xs shown),
-          list-stands w.heap number list vs xs few at-last (ap not is) refl (still vs xs made-all shown),
-          list-in code c true vs xs few fixed rest atom ea (zip-to _ (IsShown code c) (λ v x k. k.0) vs xs shown) long belong,
-        )
-      where
-        still : (vs : List Value) (xs : List Shape) → All (IsMade code c) vs → AllZip (λ v x. IsShown code c v x × IsFrozen x × HasShape heap x v) vs xs → AllZip (λ v x. HasShape w.heap x v) vs xs
-        still [] [] made h = tt
-        still [] (x ∷ xs) made h = absurd h
-        still (v ∷ vs) [] made h = absurd h
-        still (v ∷ vs) (x ∷ xs) made (k, h) = ((HasShape-stable heap w.heap good.nearly.heap.closed grows x v (made 0 v (omega arith)).0).0 k.2, still vs xs (λ i d l. made (suc i) d (omega (arith, l))) h)
-
-    of-not : (b : Bool) → IsFalse (not b) → IsTrue b
-    of-not true e = refl
-    of-not false e = absurd (let q : ⊥ = cc in q)
-
-    new-so : IsNewStructure code c w good.nearly.heap grows number list
-    new-so =
-        record {
-          mutable = mutable-so;
-          frozen = λ f. let (x, valid, stands, inside) = frozen-shape (of-not immutable f) in (x, valid, stands);
-          made = all-to (IsMade code c) (IsMade code d) (made-there code c w good.nearly.heap grows) vs made-all;
-          valid = all-to (IsMade code c) _ (λ v m. m.1) vs made-all;
-        }
-
-    grown : IsGrown code c w good.nearly.heap grows
-    grown = record { structures = λ n s e. by n s (front-or-behind heap.structures (list ∷ []) n s e); errors = λ n e is. inl is; functions = λ n f e. inl e }
-      where
-        by : (n : ℕ) (s : Structure) → (slice_get heap.structures n ≡ Some s) ⊎ ((m : ℕ) × (n ≡ number + m) × (slice_get (list ∷ []) m ≡ Some s)) → (slice_get heap.structures n ≡ Some s) ⊎ IsNewStructure code c w good.nearly.heap grows n s
-        by n s (inl e) = inl e
-        by n s (inr (zero, at, e)) = inr (subst (λ k. IsNewStructure code c w good.nearly.heap grows k s) (let q : number ≡ n = omega (arith, at) in q) (subst (λ x. IsNewStructure code c w good.nearly.heap grows number x) (one-there list zero s e) new-so))
-        by n s (inr (suc m, at, e)) = absurd (let q : ⊥ = cc in q)
-
-    -- it stands for shapes of its atom, that are marked where it is immutable
-    of-atom : (b : Bool) → immutable ≡ b → (x : Shape) → IsValid x → StructureStands (code_types code) w.heap (not b) (Some atom) number x → IsMadeOf code.atoms atom b x
-    of-atom false e x valid (unmarked, inside) = (inside, λ f. absurd (let q : ⊥ = cc in q))
-    of-atom true e x valid stands =
-        let (y, ok, has, inside) = frozen-shape e in
-        let same = one w.heap y x (Struct number) ok valid has stands in
-        ((In-same code.atoms y x same (Atom atom)).0 inside, λ m. readonly w.heap number x stands)
-
-    stands-so : (x : Shape) → IsValid x → Stands (code_types code) w.heap (Struct number) x → IsMadeOf code.atoms atom immutable x
-    stands-so x valid h = of-atom immutable refl x valid (of-some (λ s. StructureStands (code_types code) w.heap s.mutable s.atom number x) (slice_get w.heap.structures number) list at-last h)
+  fine : IsFine code c good atom immutable (Items vs) (ListAtom fixed rest)
+  fine =
+      record {
+        known = known;
+        defined = ea;
+        belong = (long, belong-there);
+        made = made-all;
+        valid = all-to (IsMade code c) _ (λ v m. m.1) vs made-all;
+        unmarked = λ small.
+            let (xs, shown) = all-shown code c t good.nearly.heap vs made-all in
+            let little = few small (IsShown code c) xs shown in
+            (list-of false xs little, list-valid false xs little (λ f. absurd (let q : ⊥ = cc in q)) (zip-second (IsShown code c) IsValid (λ v x k. k.0) vs xs shown), refl, list-in code c false vs xs little fixed rest atom ea shown long belong);
+        frozen = λ small is.
+            let (xs, shown) = all-frozen code t c good.nearly.heap vs operands fit (all-to (MayStandIn code.atoms immutable) (IsWithin code.atoms IsFrozen) (λ s h. h is) operands may) in
+            let little = few small _ xs shown in (
+              list-of true xs little,
+              list-valid true xs little (λ m. zip-second _ IsFrozen (λ v x k. k.1) vs xs shown) (zip-second _ IsValid (λ v x k. k.0.0) vs xs shown),
+              list-stands w.heap (number code c good atom immutable (Items vs)) (added code c good atom immutable (Items vs)) vs xs little (at-last code c good atom immutable (Items vs)) (ap not is) refl (still vs xs made-all shown),
+              list-in code c true vs xs little fixed rest atom ea (zip-to _ (IsShown code c) (λ v x k. k.0) vs xs shown) long belong,
+            );
+      }
+    where
+      still : (vs : List Value) (xs : List Shape) → All (IsMade code c) vs → AllZip (λ v x. IsShown code c v x × IsFrozen x × HasShape heap x v) vs xs → AllZip (λ v x. HasShape w.heap x v) vs xs
+      still [] [] made h = tt
+      still [] (x ∷ xs) made h = absurd h
+      still (v ∷ vs) [] made h = absurd h
+      still (v ∷ vs) (x ∷ xs) made (k, h) = ((HasShape-stable heap w.heap good.nearly.heap.closed (grows code c good atom immutable (Items _)) x v (made 0 v (omega arith)).0).0 k.2, still vs xs (λ i d l. made (suc i) d (omega (arith, l))) h)
 
   pub list-typed : (result : Option SemType) → ResultHas code.atoms result (IsMadeOf code.atoms atom immutable) → EffectTyped code c result (lifted c (makes_list c.world atom immutable vs))
-  list-typed result has =
-      within-gave code c result (Struct number ∷ []) w
-      (λ small. gave-typed code c result (Struct number ∷ []) w good good.nearly.heap grows (grown small)
-      (one-given code d result (IsMadeOf code.atoms atom immutable) (Struct number) has ((later code c w good.nearly.heap grows (grown small) None).closed good.nearly.heap.closed)
-      ((let n = length-append heap.structures (list ∷ []) in omega (arith, n)), tt, tt) (λ x valid h. stands-so small x valid h)))
+  list-typed result has = structure-typed code c good atom immutable (Items vs) (ListAtom fixed rest) fine result has
 
 pub make-list : (fillers : ℕ → List Filler) (natives : Answers) (code : Code) → WellTyped code → (c : Common) (u : CodeUnit) (station : Station) (atom count : ℕ) (immutable : Bool) → NamesWell code (op.MakeList atom immutable count) →
     RowHolds code fillers natives c (surroundings code u station) (op.MakeList atom immutable count)

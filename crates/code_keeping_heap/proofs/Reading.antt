@@ -22,7 +22,7 @@ use Rattle.value_model.specs.declared.filler.Filler.{Filler}
 use Rattle.value_model.specs.declared.panics.PanicName.TheVariants.{IndexOutOfRange}
 use Rattle.value_model.specs.declared.value.Value.{Value}
 use Rattle.value_model.specs.declared.value.Value.TheVariants.{Nil, Bool as Truth, Int, Str, Struct, Error, Function, Future}
-use Rattle.value_model.specs.Heap.{Entries, Heap, Items, Members, Structure, values_of}
+use Rattle.value_model.specs.Heap.{Entries, Heap, IsThere, Items, Members, Structure, values_of}
 use Rattle.value_model.specs.Meaning.{Answers}
 use Rattle.value_model.specs.Stands.{HasShape, HaveShapes, IsFrozenWith, IsList as IsListOf, IsMapping as IsMappingOf, IsUnmarked, ItemsBelong, MembersBelong, Stands, StructureStands}
 use Rattle.value_model.specs.World.{Came, World}
@@ -120,6 +120,23 @@ module _ (h : Heap) where
       by : (m : Bool) (atom : Option ℕ) → IsFalse m → StructureStands (code_types code) h m atom n x → HasShape h x (Struct n)
       by false atom f stands = stands
       by true atom f stands = absurd (let q : ⊥ = cc in q)
+
+  -- and stands for what it has
+  pub has-stands : (code : Code) (v : Value) (x : Shape) → IsThere h v → HasShape h x v → Stands (code_types code) h v x
+  has-stands code Nil x t k = k
+  has-stands code (Truth b) x t k = k
+  has-stands code (Int i) x t k = k
+  has-stands code (Str z) x t k = k
+  has-stands code (Error n) x t k = k
+  has-stands code (Function n) x t k = absurd (no-function n x k)
+  has-stands code (Future n unit) x t k = absurd (no-future n unit x k)
+  has-stands code (Struct n) x t k =
+      let (s, e) = there h.structures n t in
+      at-some (λ s. StructureStands (code_types code) h s.mutable s.atom n x) (slice_get h.structures n) s e (by s.mutable s.atom (is-frozen n s x e k))
+    where
+      by : (m : Bool) (atom : Option ℕ) → IsFalse m → StructureStands (code_types code) h m atom n x
+      by false atom f = k
+      by true atom f = absurd (let q : ⊥ = cc in q)
 
   -- the items of an immutable list, each with its shape
   row-zip : (n : _) (row : Row_of-Shape n) (vs : List Value) → AreValid row → All IsFrozen (shapes_in n row) → HaveShapes h row vs → AllZip (λ v x. IsValid x × IsFrozen x × HasShape h x v) vs (shapes_in n row)

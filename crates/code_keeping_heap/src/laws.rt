@@ -3,13 +3,13 @@ ghost use Rattle.code_keeping_heap.specs.Laws.{ConstructorsAreDone, ReadsAreDone
 
 use run_model::Meaning;
 
-/// What a frame of well-typed code asks for fits, whatever comes, and something comes, where lists and function values
-/// are made.
+/// What a frame of well-typed code asks for fits, whatever comes, and something comes, where lists, mappings, errors and
+/// function values are made.
 pub fn constructors_are_done<N: Meaning>()
     ensures { ConstructorsAreDone N.answers }
 {}
 
-/// And so where an item of a list is read, while each list and mapping has fewer than 2^63 members.
+/// And so where items of lists and members of mappings are read, while each list and mapping has fewer than 2^63 members.
 pub fn reads_are_done<N: Meaning>()
     ensures { ReadsAreDone N.answers }
 {}
