@@ -77,15 +77,17 @@ gets slot (Some t) m = does (Cast t) (does (Load slot) m)
 abbrev pub keeps : ℕ → SemType → List Operation → Making → Making
 keeps slot t ops m = all_do ops (gets slot (Some t) m)
 
--- captured variables, as what they are narrowed to
-abbrev pub captures_made : List Captured → Making → Making
-captures_made [] m = m
-captures_made (c ∷ cs) m = captures_made cs (gets c.slot (narrowed_to c.narrowed c.ty) m)
-
 -- one after another
 abbrev pub in_turn : List (Making → Making) → Making → Making
 in_turn [] m = m
 in_turn (f ∷ fs) m = in_turn fs (f m)
+
+-- captured variables, each as what it is narrowed to
+abbrev pub captured_made : Captured → Making → Making
+captured_made c = gets c.slot (narrowed_to c.narrowed c.ty)
+
+abbrev pub captures_made : List Captured → Making → Making
+captures_made cs = in_turn (map captured_made cs)
 
 -- ---- ways that part
 
@@ -234,9 +236,11 @@ abbrev pub named_made : List TypedWorker → Making → Making
 named_made [] m = m
 named_made (w ∷ ws) m = does Workers m
 
+abbrev pub initial_made : Initial → Making → Making
+initial_made i m = does (StoreModule i.variable) (expr_made i.value.value m)
+
 abbrev pub initials_made : List Initial → Making → Making
-initials_made [] m = m
-initials_made (i ∷ is) m = initials_made is (does (StoreModule i.variable) (expr_made i.value.value m))
+initials_made is = in_turn (map initial_made is)
 
 -- where the end isn't reached it goes round and round, which is typed in every unit
 abbrev pub end_made : Bool → Making → Making
