@@ -122,7 +122,7 @@ module _ (text : List ℕ) (t : IsText text) where
     are-tokens h = of-spans text 0 tokens h
 
     wrong-placed : (rest : List Token) (f : FaultOf) → AreTokens text rest → IsWrong 0 rest f → IsPlaced text f
-    wrong-placed rest f here (inl (stop, at, e)) = subst (IsPlaced text) (sym e) (first-placed text stop t.1 small (behind-pieces text 0 (begun_pieces at.within.signature at.within.stmts) rest stop at.within.spells here))
+    wrong-placed rest f here (inl (stop, at, e)) = subst (IsPlaced text) (sym e) (first-placed text stop t.1 small (behind-pieces text 0 (begun_pieces at.wants.within.signature at.wants.within.stmts) rest stop at.wants.within.spells here))
     wrong-placed rest f here (inr (never, e)) = subst (IsPlaced text) (sym e) (first-placed text rest t.1 small here)
 
     parsed-placed : (f : FaultOf) → AreSpans text 0 tokens → IsFileTooDeep 0 tokens f ⊎ IsBroken 0 tokens f → IsPlaced text f

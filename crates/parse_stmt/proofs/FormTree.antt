@@ -268,7 +268,7 @@ module _ (known : Known) where
 
   -- ---- what follows from it, of a statement
 
-  by-layer : (P : Stmt → Type 0) → ((x : AStmtLayer) → P (roll-Stmt x)) → (s : Stmt) → P s
+  pub by-layer : (P : Stmt → Type 0) → ((x : AStmtLayer) → P (roll-Stmt x)) → (s : Stmt) → P s
   by-layer P h s = subst P (roll-out-Stmt s) (h (out-Stmt s))
 
   abbrev IsAsGoes : Stmt → Type 0

@@ -1,23 +1,20 @@
 -- One statement of a list: how the loop over statements goes on behind it.
-use Rattle.std.proofs.Common.{◌≡◌, ℕ, zero, suc, ◌<◌, ◌≤◌, Bool, true, false, List, [], ◌∷◌, length, Option, None, Some, refl, sym, ap, ◌∙◌, subst, arith, inl, inr, ◌&&◌}
-use Rattle.std.specs.Prelude.{not, is_some, nat_le, if◌then◌else◌, option_and_then}
-use Rattle.std.proofs.lemmas.Bool.{false≢true, cases_Bool, le-leb}
-use Rattle.std.proofs.lemmas.Option.{option_and_then_some}
-use Rattle.bal_base.specs.declared.token.TokenKind.{TokenKind}
-use Rattle.bal_base.specs.declared.token.TokenKind.TheVariants.{Word as WordKind, Int as IntKind, Str as StrKind, Keyword as KeywordKind, Sign as SignKind}
+use Rattle.std.proofs.Common.{◌≡◌, ℕ, zero, suc, ◌<◌, ◌≤◌, Bool, true, false, List, [], ◌∷◌, length, Option, None, Some, refl, sym, ap, ◌∙◌, arith, inl, inr, ◌&&◌}
+use Rattle.std.specs.Prelude.{◌⊎◌, not, is_some, if◌then◌else◌, option_and_then}
+use Rattle.std.proofs.lemmas.Bool.{le-leb}
+use Rattle.bal_base.specs.declared.token.TokenKind.TheVariants.{Word as WordKind, Str as StrKind, Keyword as KeywordKind, Sign as SignKind}
 use Rattle.bal_base.specs.declared.token.Keyword.{Keyword}
 use Rattle.bal_base.specs.declared.token.Keyword.TheVariants.{If, Else, While, Foreach, Match, Return, Panic, Break, Continue, Final, Var, Is, Worker, Public, «Type», Const, Import}
-use Rattle.bal_base.specs.declared.token.Sign.{Sign}
 use Rattle.bal_base.specs.declared.token.Sign.TheVariants.{OpenBrace, CloseBrace, Underscore, OpenBracket}
-use Rattle.bal_tree.specs.Pieces.{Pieces, ◌&◌, joined}
+use Rattle.bal_tree.specs.Pieces.{Pieces, joined}
 use Rattle.bal_tree.specs.Spells.{onto}
-use Rattle.parse_types.specs.Loops.{◌>>=◌, many, or_else}
+use Rattle.parse_types.specs.Loops.{many, or_else}
 use Rattle.parse_types.specs.Tokens.{Kinds, take_sign, take_key}
 use Rattle.parse_types.specs.Nesting.{depth_behind}
-use Rattle.parse_types.proofs.Going.{many-less, many-stops, many-goes}
+use Rattle.parse_types.proofs.Going.{many-stops, many-goes}
 use Rattle.parse_types.proofs.Onto.{onto-longer}
 use Rattle.parse_stmt.specs.Ahead.{semicolon, is_semicolon, is_outside}
-use Rattle.parse_stmt.specs.Reaches.{block, brace_stmt, goes_on, inside, is_followed, keyword_stmt, led, may_be_mapping, no_more, stmt, stmts}
+use Rattle.parse_stmt.specs.Reaches.{block, brace_stmt, goes_on, inside, keyword_stmt, led, may_be_mapping, no_more, stmt, stmts}
 use Rattle.parse_stmt.proofs.Known.{led_key, leads}
 use Rattle.parse_stmt.proofs.LedLaw.{led-end}
 
@@ -84,7 +81,7 @@ key-led inner Public xs h = cc h
 key-led inner Worker xs h = cc h
 key-led inner k xs h = refl
 
-goes-led : (inner : Bool → Kinds → Option Kinds) (zs : Kinds) → goes_on zs ≡ true → stmt inner zs ≡ led zs
+pub goes-led : (inner : Bool → Kinds → Option Kinds) (zs : Kinds) → goes_on zs ≡ true → stmt inner zs ≡ led zs
 goes-led inner [] h = cc h
 goes-led inner (KeywordKind Is ∷ zs) h = refl
 goes-led inner (KeywordKind k ∷ zs) h = cc h
@@ -96,6 +93,11 @@ goes-led inner (k ∷ zs) h = refl
 found : (o : Option Kinds) → is_some o ≡ true → (b : Kinds) × (o ≡ Some b)
 found None h = cc h
 found (Some b) h = (b, refl)
+
+-- where a statement of its own stands behind empty braces, they are read as a block
+braces-alone : (n : ℕ) (zs : Kinds) → is_some (led zs) ≡ true → goes_on zs ≡ true → 0 < n → stmt (inside n) (SignKind OpenBrace ∷ SignKind CloseBrace ∷ zs) ≡ Some zs
+braces-alone n zs is may some =
+    ap (λ c. brace_stmt (inside n) (goes_on zs && not c) (SignKind OpenBrace ∷ SignKind CloseBrace ∷ zs)) is ∙ ap (λ c. brace_stmt (inside n) (c && false) (SignKind OpenBrace ∷ SignKind CloseBrace ∷ zs)) may ∙ empty-block n zs some
 
 module _ (n : ℕ) where
   abbrev step : Kinds → Option Kinds
@@ -115,9 +117,7 @@ module _ (n : ℕ) where
           let same : b.0 ≡ ks = cc both in
           let here : led zs ≡ Some ks = b.1 ∙ ap Some same in
           let less = led-less zs ks here in
-          many-goes length step (SignKind OpenBrace ∷ SignKind CloseBrace ∷ zs) zs
-          (ap (λ c. brace_stmt (inside n) (goes_on zs && not c) (SignKind OpenBrace ∷ SignKind CloseBrace ∷ zs)) is ∙ ap (λ c. brace_stmt (inside n) (c && false) (SignKind OpenBrace ∷ SignKind CloseBrace ∷ zs)) may ∙ empty-block n zs (omega arith))
-          (omega arith)
+          many-goes length step (SignKind OpenBrace ∷ SignKind CloseBrace ∷ zs) zs (braces-alone n zs is may (omega arith)) (omega arith)
           ∙ many-goes length step zs ks (goes-led (inside n) zs may ∙ here) less
       test false is =
           many-goes length step (SignKind OpenBrace ∷ SignKind CloseBrace ∷ zs) ks
@@ -144,10 +144,30 @@ pub record Ready (ks : Kinds) : Type 0 where
   pub no_else : take_key Else ks ≡ None
   pub of_its_own : goes_on ks ≡ true → is_some (led ks) ≡ true
 
--- `goes` says where the loop comes to, `reaches` that it passes over the statement, whatever stands behind it
+-- an empty block, behind whose braces an expression goes on and no statement begins
+pub record GoesOnBehind (xs left ks : Kinds) : Type 0 where
+  pub braces : xs ≡ SignKind OpenBrace ∷ SignKind CloseBrace ∷ ks
+  pub longer : length left < length ks
+  pub goes : goes_on ks ≡ true
+  pub no_stmt : led ks ≡ None
+
+-- a statement that begins with a mapping, of which the empty block is read alone, since a statement of its own stands behind that
+pub record ReadBehind (xs left ks : Kinds) : Type 0 where
+  pub braces : xs ≡ SignKind OpenBrace ∷ SignKind CloseBrace ∷ left
+  pub goes : goes_on left ≡ true
+  pub own : led left ≡ Some ks
+
+-- One step of the reader at a statement behind which `ks` stand: it reads one, and that ends where this one does, but for if statements
+-- and statements that begin with empty braces.
+pub record StepAt (n : ℕ) (xs ks : Kinds) : Type 0 where
+  pub left : Kinds
+  pub is : stmt (inside n) xs ≡ Some left
+  pub ends : (ks ≡ left) ⊎ ((is_some (take_key If xs) ≡ true) ⊎ (GoesOnBehind xs left ks ⊎ ReadBehind xs left ks))
+
+-- `goes` says where the loop comes to behind the statement, `step` what one step of it reads, whatever stands behind it
 pub record StmtAt (p : Pieces) : Type 0 where
   pub goes : (n : ℕ) (ks : Kinds) → length (onto p ks) < n → Ready ks → many length (stmt (inside n)) (onto p ks) ≡ many length (stmt (inside n)) ks
-  pub reaches : (n : ℕ) (ks : Kinds) → length (onto p ks) < n → length (many length (stmt (inside n)) (onto p ks)) ≤ length ks
+  pub step : (n : ℕ) (ks : Kinds) → length (onto p ks) < n → StepAt n (onto p ks) ks
   pub ready : (ks : Kinds) → Ready (onto p ks)
   pub no_mapping : (ks : Kinds) → may_be_mapping (onto p ks) ≡ false
   pub no_worker : (ks : Kinds) → take_key Worker (onto p ks) ≡ None
@@ -174,20 +194,46 @@ no-worker (KeywordKind Worker ∷ xs) h = cc h
 no-worker (KeywordKind k ∷ xs) h = refl
 no-worker (k ∷ xs) h = refl
 
--- where the loop goes on behind a statement it passes over it
-pub reaches-of : (step : Kinds → Option Kinds) (xs ks : Kinds) → many length step xs ≡ many length step ks → length (many length step xs) ≤ length ks
-reaches-of step xs ks e = let size = ap length e in let less = many-less length step ks in omega arith
+-- what is read in one step, and ends where the statement does
+pub just : (n : ℕ) (xs ks : Kinds) → stmt (inside n) xs ≡ Some ks → StepAt n xs ks
+just n xs ks e = record { left = ks; is = e; ends = inl refl }
 
--- so it does where one step leaves no more than what stands behind it
-pub step-reaches : (step : Kinds → Option Kinds) (xs ks a : Kinds) → step xs ≡ Some a → length a ≤ length ks → length ks < length xs → length (many length step xs) ≤ length ks
-step-reaches step xs ks a e less longer =
-    let size = ap length (many-goes length step xs a e (omega arith)) in
-    let l = many-less length step a in omega arith
+-- a statement that begins with a mapping
+brace-step : (n : ℕ) (ys ks : Kinds) → may_be_mapping ys ≡ true → led (SignKind OpenBrace ∷ ys) ≡ Some ks → 0 < n → StepAt n (SignKind OpenBrace ∷ ys) ks
+brace-step n (SignKind CloseBrace ∷ zs) ks may e some = test (is_some (led zs)) refl
+  where
+    test : (b : Bool) → is_some (led zs) ≡ b → StepAt n (SignKind OpenBrace ∷ SignKind CloseBrace ∷ zs) ks
+    test true is =
+        let b = found (led zs) is in
+        let whole : semicolon 0 (SignKind OpenBrace ∷ SignKind CloseBrace ∷ zs) ≡ Some ks = led-end (SignKind OpenBrace ∷ SignKind CloseBrace ∷ zs) ks e in
+        let both : Some b.0 ≡ Some ks = sym (led-end zs b.0 b.1) ∙ whole in
+        let same : b.0 ≡ ks = cc both in
+        record {
+          left = zs;
+          is = braces-alone n zs is may some;
+          ends = inr (inr (inr record { braces = refl; goes = may; own = b.1 ∙ ap Some same }));
+        }
+    test false is =
+        just n (SignKind OpenBrace ∷ SignKind CloseBrace ∷ zs) ks
+        (ap (λ c. brace_stmt (inside n) (goes_on zs && not c) (SignKind OpenBrace ∷ SignKind CloseBrace ∷ zs)) is ∙ ap (λ c. brace_stmt (inside n) (c && true) (SignKind OpenBrace ∷ SignKind CloseBrace ∷ zs)) may
+        ∙ ap (λ o. or_else o (inside n false (SignKind OpenBrace ∷ SignKind CloseBrace ∷ zs))) e)
+brace-step n [] ks may e some = cc may
+brace-step n (k ∷ zs) ks may e some =
+    just n (SignKind OpenBrace ∷ k ∷ zs) ks
+    (ap (λ c. brace_stmt (inside n) (c && true) (SignKind OpenBrace ∷ k ∷ zs)) may ∙ ap (λ o. or_else o (inside n false (SignKind OpenBrace ∷ k ∷ zs))) e)
+
+-- a statement that begins with a type or an expression
+led-step : (n : ℕ) (xs ks : Kinds) → leads xs ≡ true → led xs ≡ Some ks → 0 < n → StepAt n xs ks
+led-step n [] ks h e some = cc h
+led-step n (KeywordKind k ∷ xs) ks h e some = just n (KeywordKind k ∷ xs) ks (key-led (inside n) k (KeywordKind k ∷ xs) h ∙ e)
+led-step n (SignKind OpenBrace ∷ xs) ks h e some = brace-step n xs ks h e some
+led-step n (SignKind Underscore ∷ xs) ks h e some = cc h
+led-step n (k ∷ xs) ks h e some = just n (k ∷ xs) ks e
 
 pub led-stmt : (p : Pieces) → ((ks : Kinds) → leads (onto p ks) ≡ true) → ((ks : Kinds) → led (onto p ks) ≡ Some ks) → StmtAt p
 led-stmt p first law = record {
   goes = λ n ks fits r. led-goes n (onto p ks) ks (first ks) (law ks) (omega arith);
-  reaches = λ n ks fits. reaches-of (stmt (inside n)) (onto p ks) ks (led-goes n (onto p ks) ks (first ks) (law ks) (omega arith));
+  step = λ n ks fits. led-step n (onto p ks) ks (first ks) (law ks) (omega arith);
   ready = λ ks. record { no_else = no-else (onto p ks) (first ks); of_its_own = λ h. ap is_some (law ks) };
   no_mapping = λ ks. led-no-mapping (onto p ks) ks (law ks);
   no_worker = λ ks. no-worker (onto p ks) (first ks);
@@ -197,7 +243,7 @@ led-stmt p first law = record {
 pub one-stmt : (p : Pieces) → ((n : ℕ) (ks : Kinds) → length (onto p ks) < n → stmt (inside n) (onto p ks) ≡ Some ks) → ((ks : Kinds) → length ks < length (onto p ks)) → ((ks : Kinds) → Ready (onto p ks)) → ((ks : Kinds) → may_be_mapping (onto p ks) ≡ false) → ((ks : Kinds) → take_key Worker (onto p ks) ≡ None) → StmtAt p
 one-stmt p law longer first other key = record {
   goes = λ n ks fits r. many-goes length (stmt (inside n)) (onto p ks) ks (law n ks fits) (longer ks);
-  reaches = λ n ks fits. step-reaches (stmt (inside n)) (onto p ks) ks ks (law n ks fits) (omega arith) (longer ks);
+  step = λ n ks fits. just n (onto p ks) ks (law n ks fits);
   ready = first;
   no_mapping = other;
   no_worker = key;
@@ -219,16 +265,6 @@ stmts-go n (p ∷ ps) ks all fits r =
     let zs = onto (joined ps) ks in
     let longer = onto-longer p zs in
     all.0.goes n zs fits (stmts-ready ps ks all.1 r) ∙ stmts-go n ps ks all.1 (omega arith) r
-
--- whatever stands behind them, the loop passes over all of them
-pub stmts-reach : (n : ℕ) (ps : List Pieces) (ks : Kinds) → StmtsAt ps → length (onto (joined ps) ks) < n → length (many length (stmt (inside n)) (onto (joined ps) ks)) ≤ length ks
-stmts-reach n [] ks all fits = many-less length (stmt (inside n)) ks
-stmts-reach n (p ∷ []) ks all fits = all.0.reaches n ks fits
-stmts-reach n (p ∷ q ∷ ps) ks all fits =
-    let zs = onto (joined (q ∷ ps)) ks in
-    let longer = onto-longer p zs in
-    let less = stmts-reach n (q ∷ ps) ks all.1 (omega arith) in
-    let size = ap length (all.0.goes n zs fits (all.1.0.ready (onto (joined ps) ks))) in omega arith
 
 pub close-ready : (ks : Kinds) → Ready (SignKind CloseBrace ∷ ks)
 close-ready ks = record { no_else = refl; of_its_own = λ h. cc h }

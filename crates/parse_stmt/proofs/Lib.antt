@@ -7,6 +7,8 @@ pub mod ChosenMaking
 pub mod ChosenReading
 pub mod DefLaw
 pub mod DefTree
+pub mod ElseLaw
+pub mod ElseStops
 pub mod ExprForms
 pub mod ExprKnown
 pub mod ExprOne
@@ -34,6 +36,8 @@ pub mod StmtReadings
 pub mod StmtRolls
 pub mod StmtTree
 pub mod StopLaw
+pub mod StopPlaces
+pub mod StopWithin
 pub mod TypeForms
 pub mod TypeSpines
 pub mod TypeTrees

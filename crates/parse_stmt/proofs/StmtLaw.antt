@@ -1,6 +1,5 @@
 -- The law at every statement, by induction.
 use Rattle.std.proofs.Common.{◌≡◌, ℕ, zero, suc, ◌<◌, ◌≤◌, Bool, true, false, ◌&&◌, List, [], ◌∷◌, map, length, Option, None, Some, refl, sym, ap, ◌∙◌, subst, arith, inl, inr}
-use Rattle.std.specs.List.{list_all}
 use Rattle.std.specs.Global.{Box}
 use Rattle.std.specs.Prelude.{is_some, not, nat_le, if◌then◌else◌, ◌⊎◌}
 use Rattle.std.proofs.lemmas.Bool.{false≢true, cases_Bool, leb-true}
@@ -24,15 +23,15 @@ use Rattle.bal_tree.specs.Spells.{onto}
 use Rattle.bal_tree.specs.StmtLayers.{of_else, of_stmt, of_block, of_clause, of_if_stmt}
 use Rattle.bal_tree.specs.NamePieces.{word_pieces}
 use Rattle.bal_tree.specs.StmtPieces.{writing, local_type_pieces, range_pieces, stmt_pieces, else_pieces, if_pieces, block_pieces, clause_pieces, foreach_head as foreach_pieces, pattern_pieces}
-use Rattle.bal_tree.specs.StmtRules.{forming, stmt_is_formed, else_is_formed, if_is_formed, block_is_formed, clause_is_formed, are_formed, local_type_is_formed, target_is_formed, range_is_formed, value_is_formed, stands_alone, part_if_boxed}
+use Rattle.bal_tree.specs.StmtRules.{forming, stmt_is_formed, else_is_formed, if_is_formed, block_is_formed, clause_is_formed, are_formed, local_type_is_formed, target_is_formed, range_is_formed, value_is_formed, stands_alone}
 use Rattle.parse_types.specs.Loops.{◌>>=◌, many, or_else}
 use Rattle.parse_types.specs.Tokens.{Kinds, take_key, take_sign}
 use Rattle.parse_types.proofs.Going.{many-stops, many-goes}
 use Rattle.parse_types.proofs.Law.{both_pass}
 use Rattle.parse_types.proofs.Onto.{onto-longer}
-use Rattle.parse_stmt.specs.Reaches.{begins_mapping, block, brace_stmt, clause, clauses, clauses as clauses_of, goes_on, is_followed, led, may_be_mapping, foreach_head, else_behind, else_if_there, else_or, if_or_block, if_stmt, inside, no_more, patterns, stmt}
+use Rattle.parse_stmt.specs.Reaches.{begins_mapping, block, brace_stmt, clause, clauses, clauses as clauses_of, goes_on, is_followed, led, may_be_mapping, foreach_head, else_behind, else_if_there, else_or, if_or_block, if_stmt, inside, no_more, stmt}
 use Rattle.parse_stmt.specs.Ahead.{semicolon}
-use Rattle.parse_stmt.proofs.Going.{Ready, StmtAt, StmtsAt, block-is, close-ready, led-less, no_more-passes, one-stmt, semicolon-less, step-reaches, stmts-close, stmts-go}
+use Rattle.parse_stmt.proofs.Going.{Ready, StepAt, StmtAt, StmtsAt, block-is, close-ready, just, no_more-passes, one-stmt, semicolon-less, stmts-close, stmts-go}
 use Rattle.parse_stmt.proofs.LedLaw.{led-end}
 use Rattle.parse_stmt.proofs.Known.{Known}
 use Rattle.parse_stmt.proofs.PlainLaw.{alone-stmt, assign-stmt, break-stmt, continue-stmt, declared-stmt, final-stmt, foreach-law, ignore-stmt, panic-stmt, patterns-law, return-stmt, var-stmt}
@@ -94,31 +93,48 @@ reaching-if p at (suc n) ks fits =
 
 -- ---- a block as a statement, whatever stands behind it
 
--- a mapping that begins with its brace ends no earlier than the block
-brace-reaches : (n : ℕ) (p : Pieces) → BlockAt p → (ks zs : Kinds) → onto p ks ≡ SignKind OpenBrace ∷ zs → BeginsMapping zs ks → length (onto p ks) < n → Reaches (stmt (inside n) (onto p ks)) ks
-brace-reaches n p at ks zs opens (inl other) fits =
-    reads-reach (stmt (inside n) (onto p ks)) ks
-    (ap (stmt (inside n)) opens ∙ ap (λ b. brace_stmt (inside n) b (SignKind OpenBrace ∷ zs)) other ∙ ap (inside n false) (sym opens) ∙ inside-block p at n ks fits)
-brace-reaches n p at ks zs opens (inr empty) fits = test (begins_mapping zs) refl (led (SignKind OpenBrace ∷ zs)) refl
+-- empty braces with which a mapping begins: the statement goes on behind them, where it reads
+mapping-step : (n : ℕ) (ks : Kinds) → begins_mapping (SignKind CloseBrace ∷ ks) ≡ true → inside n false (SignKind OpenBrace ∷ SignKind CloseBrace ∷ ks) ≡ Some ks → StepAt n (SignKind OpenBrace ∷ SignKind CloseBrace ∷ ks) ks
+mapping-step n ks is as_block = by (led (SignKind OpenBrace ∷ SignKind CloseBrace ∷ ks)) refl
   where
-    xs : Kinds
-    xs = SignKind OpenBrace ∷ zs
+    read : (o : Option Kinds) → led (SignKind OpenBrace ∷ SignKind CloseBrace ∷ ks) ≡ o → stmt (inside n) (SignKind OpenBrace ∷ SignKind CloseBrace ∷ ks) ≡ or_else o (Some ks)
+    read o e =
+        ap (λ b. brace_stmt (inside n) b (SignKind OpenBrace ∷ SignKind CloseBrace ∷ ks)) is
+        ∙ ap (λ p. or_else p (inside n false (SignKind OpenBrace ∷ SignKind CloseBrace ∷ ks))) e ∙ ap (or_else o) as_block
 
-    as-block : inside n false (SignKind OpenBrace ∷ zs) ≡ Some ks
-    as-block = ap (inside n false) (sym opens) ∙ inside-block p at n ks fits
+    no-led : (o : Option Kinds) → not (is_some o) ≡ true → o ≡ None
+    no-led None h = refl
+    no-led (Some a) h = cc h
 
-    test : (b : Bool) → begins_mapping zs ≡ b → (o : Option Kinds) → led (SignKind OpenBrace ∷ zs) ≡ o → Reaches (stmt (inside n) (onto p ks)) ks
-    test false is o e = reads-reach (stmt (inside n) (onto p ks)) ks (ap (stmt (inside n)) opens ∙ ap (λ b. brace_stmt (inside n) b (SignKind OpenBrace ∷ zs)) is ∙ as-block)
-    test true is None e =
-        reads-reach (stmt (inside n) (onto p ks)) ks
-        (ap (stmt (inside n)) opens ∙ ap (λ b. brace_stmt (inside n) b (SignKind OpenBrace ∷ zs)) is ∙ ap (λ o. or_else o (inside n false (SignKind OpenBrace ∷ zs))) e ∙ as-block)
-    test true is (Some left) e = record {
-      left = left;
-      is = ap (stmt (inside n)) opens ∙ ap (λ b. brace_stmt (inside n) b (SignKind OpenBrace ∷ zs)) is ∙ ap (λ o. or_else o (inside n false (SignKind OpenBrace ∷ zs))) e;
-      no_more =
-          let end : semicolon 0 (SignKind OpenBrace ∷ SignKind CloseBrace ∷ ks) ≡ Some left = sym (ap (λ ys. semicolon 0 (SignKind OpenBrace ∷ ys)) empty) ∙ led-end (SignKind OpenBrace ∷ zs) left e in
-          let less = semicolon-less 0 ks left end in omega arith;
-    }
+    by : (o : Option Kinds) → led (SignKind OpenBrace ∷ SignKind CloseBrace ∷ ks) ≡ o → StepAt n (SignKind OpenBrace ∷ SignKind CloseBrace ∷ ks) ks
+    by None e = just n (SignKind OpenBrace ∷ SignKind CloseBrace ∷ ks) ks (read None e)
+    by (Some left) e =
+        let b = both_pass (goes_on ks) (not (is_some (led ks))) is in
+        let end : semicolon 0 (SignKind OpenBrace ∷ SignKind CloseBrace ∷ ks) ≡ Some left = led-end (SignKind OpenBrace ∷ SignKind CloseBrace ∷ ks) left e in
+        let less = semicolon-less 0 ks left end in
+        record {
+          left = left;
+          is = read (Some left) e;
+          ends = inr (inr (inl record { braces = refl; longer = less; goes = b.0; no_stmt = no-led (led ks) b.1 }));
+        }
+
+brace-step : (n : ℕ) (p : Pieces) → BlockAt p → (ks zs : Kinds) → onto p ks ≡ SignKind OpenBrace ∷ zs → BeginsMapping zs ks → length (onto p ks) < n → StepAt n (onto p ks) ks
+brace-step n p at ks zs opens (inl other) fits =
+    just n (onto p ks) ks
+    (ap (stmt (inside n)) opens ∙ ap (λ b. brace_stmt (inside n) b (SignKind OpenBrace ∷ zs)) other ∙ ap (inside n false) (sym opens) ∙ inside-block p at n ks fits)
+brace-step n p at ks zs opens (inr empty) fits = subst (λ xs. StepAt n xs ks) (sym braces) (test (begins_mapping (SignKind CloseBrace ∷ ks)) refl)
+  where
+    braces : onto p ks ≡ SignKind OpenBrace ∷ SignKind CloseBrace ∷ ks
+    braces = opens ∙ ap (λ ys. SignKind OpenBrace ∷ ys) empty
+
+    as-block : inside n false (SignKind OpenBrace ∷ SignKind CloseBrace ∷ ks) ≡ Some ks
+    as-block = ap (inside n false) (sym braces) ∙ inside-block p at n ks fits
+
+    test : (b : Bool) → begins_mapping (SignKind CloseBrace ∷ ks) ≡ b → StepAt n (SignKind OpenBrace ∷ SignKind CloseBrace ∷ ks) ks
+    test true is = mapping-step n ks is as-block
+    test false is =
+        just n (SignKind OpenBrace ∷ SignKind CloseBrace ∷ ks) ks
+        (ap (λ b. brace_stmt (inside n) b (SignKind OpenBrace ∷ SignKind CloseBrace ∷ ks)) is ∙ as-block)
 
 block-stmt : (p : Pieces) → BlockAt p → StmtAt p
 block-stmt p at = record {
@@ -127,10 +143,7 @@ block-stmt p at = record {
       many-goes length (stmt (inside n)) (onto p ks) ks
       (ap (stmt (inside n)) o.1.0 ∙ ap (λ b. brace_stmt (inside n) b (SignKind OpenBrace ∷ o.0)) (o.1.1 r) ∙ ap (inside n false) (sym o.1.0) ∙ inside-block p at n ks fits)
       (at.longer ks);
-  reaches = λ n ks fits.
-      let o = at.opens ks in
-      let r = brace-reaches n p at ks o.0 o.1.0 (at.begins ks) fits in
-      step-reaches (stmt (inside n)) (onto p ks) ks r.left r.is r.no_more (at.longer ks);
+  step = λ n ks fits. let o = at.opens ks in brace-step n p at ks o.0 o.1.0 (at.begins ks) fits;
   ready = λ ks. let o = at.opens ks in subst Ready (sym o.1.0) record { no_else = refl; of_its_own = λ h. cc h };
   no_mapping = λ ks. let o = at.opens ks in ap may_be_mapping o.1.0;
   no_worker = λ ks. let o = at.opens ks in ap (take_key WorkerKey) o.1.0;
@@ -405,36 +418,36 @@ module _ (known : Known) where
   stmt-layer (layer.Local true t name value at) h =
       let b = both_pass (local_type_is_formed t) (rhs_is_formed value) (both_pass (local_type_is_formed t && rhs_is_formed value) true h).0 in
       let s = final-stmt known t name value b.0 b.1 in
-      record { goes = s.goes; reaches = s.reaches; ready = s.ready; no_mapping = s.no_mapping; no_worker = s.no_worker }
+      record { goes = s.goes; step = s.step; ready = s.ready; no_mapping = s.no_mapping; no_worker = s.no_worker }
   stmt-layer (layer.Local false (TypeOf t) name value at) h =
       let b = both_pass (local_type_is_formed (TypeOf t)) (rhs_is_formed value) (both_pass (local_type_is_formed (TypeOf t) && rhs_is_formed value) true h).0 in
       let s = declared-stmt known t.value name value b.0 b.1 in
-      record { goes = s.goes; reaches = s.reaches; ready = s.ready; no_mapping = s.no_mapping; no_worker = s.no_worker }
+      record { goes = s.goes; step = s.step; ready = s.ready; no_mapping = s.no_mapping; no_worker = s.no_worker }
   stmt-layer (layer.Local false (Var place) name value at) h =
       let b = both_pass (rhs_is_formed value) true h in
       let s = var-stmt known place name value b.0 in
-      record { goes = s.goes; reaches = s.reaches; ready = s.ready; no_mapping = s.no_mapping; no_worker = s.no_worker }
+      record { goes = s.goes; step = s.step; ready = s.ready; no_mapping = s.no_mapping; no_worker = s.no_worker }
   stmt-layer (layer.Assign target op value at) h =
       let b = both_pass (target_is_formed target) (rhs_is_formed value) (both_pass (target_is_formed target && rhs_is_formed value) true h).0 in
       let s = assign-stmt known target op value b.0 b.1 in
-      record { goes = s.goes; reaches = s.reaches; ready = s.ready; no_mapping = s.no_mapping; no_worker = s.no_worker }
+      record { goes = s.goes; step = s.step; ready = s.ready; no_mapping = s.no_mapping; no_worker = s.no_worker }
   stmt-layer (layer.Ignore value at) h =
       let s = ignore-stmt known value (both_pass (rhs_is_formed value) true h).0 in
-      record { goes = s.goes; reaches = s.reaches; ready = s.ready; no_mapping = s.no_mapping; no_worker = s.no_worker }
+      record { goes = s.goes; step = s.step; ready = s.ready; no_mapping = s.no_mapping; no_worker = s.no_worker }
   stmt-layer (layer.Rhs value at) h =
       let b = both_pass (stands_alone value) (rhs_is_formed value) (both_pass (stands_alone value && rhs_is_formed value) true h).0 in
       let s = alone-stmt known value b.0 b.1 in
-      record { goes = s.goes; reaches = s.reaches; ready = s.ready; no_mapping = s.no_mapping; no_worker = s.no_worker }
+      record { goes = s.goes; step = s.step; ready = s.ready; no_mapping = s.no_mapping; no_worker = s.no_worker }
   stmt-layer (layer.«Stmt::If» s) h =
       let at = s.1 (both_pass (if_is_formed s.0) true h).0 in
       record {
         goes = λ n ks fits r.
             let o = at.opens ks in
             many-goes length (stmt (inside n)) (onto (if_pieces s.0) ks) ks (ap (stmt (inside n)) o.1 ∙ ap (if_stmt (inside n)) (sym o.1) ∙ at.reads n ks (omega arith) r.no_else) (at.longer ks);
-        reaches = λ n ks fits.
+        step = λ n ks fits.
             let o = at.opens ks in
             let r = at.reaches n ks (omega arith) in
-            step-reaches (stmt (inside n)) (onto (if_pieces s.0) ks) ks r.left (ap (stmt (inside n)) o.1 ∙ ap (if_stmt (inside n)) (sym o.1) ∙ r.is) r.no_more (at.longer ks);
+            record { left = r.left; is = ap (stmt (inside n)) o.1 ∙ ap (if_stmt (inside n)) (sym o.1) ∙ r.is; ends = inr (inl (ap (λ xs. is_some (take_key IfKey xs)) o.1)) };
         ready = λ ks. let o = at.opens ks in subst Ready (sym o.1) record { no_else = refl; of_its_own = λ h. cc h };
         no_mapping = λ ks. let o = at.opens ks in ap may_be_mapping o.1;
         no_worker = λ ks. let o = at.opens ks in ap (take_key WorkerKey) o.1;
@@ -449,7 +462,7 @@ module _ (known : Known) where
       ap (λ o. o >>= inside n false) (before-block condition.value (block_pieces body.0) ks b.0 inner) ∙ inside-block (block_pieces body.0) inner n ks (omega arith))
       (λ ks. let l = onto-longer p ks in omega arith)
       (λ ks. record { no_else = refl; of_its_own = λ h. cc h }) (λ ks. refl) (λ ks. refl) in
-      record { goes = s.goes; reaches = s.reaches; ready = s.ready; no_mapping = s.no_mapping; no_worker = s.no_worker }
+      record { goes = s.goes; step = s.step; ready = s.ready; no_mapping = s.no_mapping; no_worker = s.no_worker }
   stmt-layer (layer.Foreach t name from range body at) h =
       let b = both_pass (local_type_is_formed t && expr_is_formed from.value false && range_is_formed range) (block_is_formed body.0 && true) h in
       let c = both_pass (local_type_is_formed t && expr_is_formed from.value false) (range_is_formed range) b.0 in
@@ -464,7 +477,7 @@ module _ (known : Known) where
       ∙ ap (λ xs. inside n false xs) (sym o.1.0) ∙ inside-block (block_pieces body.0) inner n ks (omega arith))
       (λ ks. let l = onto-longer p (onto (block_pieces body.0) ks) in let k = inner.longer ks in omega arith)
       (λ ks. record { no_else = refl; of_its_own = λ h. cc h }) (λ ks. refl) (λ ks. refl) in
-      record { goes = s.goes; reaches = s.reaches; ready = s.ready; no_mapping = s.no_mapping; no_worker = s.no_worker }
+      record { goes = s.goes; step = s.step; ready = s.ready; no_mapping = s.no_mapping; no_worker = s.no_worker }
   stmt-layer (layer.Match value list at) h = of_clauses list.items h
     where
       of_clauses : (cs : List AClause) → ((expr_is_formed value.value false && has_members (map clause_is_formed (map (λ e. e.0) cs))) && are_formed (map clause_is_formed (map (λ e. e.0) cs))) ≡ true → StmtAt (starts at & key MatchKey & expr_pieces value.value & sign OpenBrace & joined (map clause_pieces (map (λ e. e.0) cs)) & sign CloseBrace)
@@ -484,15 +497,15 @@ module _ (known : Known) where
           ∙ ap (λ o. o >>= take_sign CloseBrace) (clauses-law n (clause_pieces c.0) (map clause_pieces (map (λ e. e.0) cs)) ks one all (omega arith)))
           (λ ks. let l = onto-longer (expr_pieces value.value) (SignKind OpenBrace ∷ onto q (SignKind CloseBrace ∷ ks)) in let k = onto-longer q (SignKind CloseBrace ∷ ks) in omega arith)
           (λ ks. record { no_else = refl; of_its_own = λ h. cc h }) (λ ks. refl) (λ ks. refl) in
-          record { goes = s.goes; reaches = s.reaches; ready = s.ready; no_mapping = s.no_mapping; no_worker = s.no_worker }
+          record { goes = s.goes; step = s.step; ready = s.ready; no_mapping = s.no_mapping; no_worker = s.no_worker }
   stmt-layer (layer.Return value at) h =
       let s = return-stmt known value (both_pass (value_is_formed value) true h).0 in
-      record { goes = s.goes; reaches = s.reaches; ready = s.ready; no_mapping = s.no_mapping; no_worker = s.no_worker }
+      record { goes = s.goes; step = s.step; ready = s.ready; no_mapping = s.no_mapping; no_worker = s.no_worker }
   stmt-layer (layer.Panic value at) h =
       let s = panic-stmt known value.value (both_pass (expr_is_formed value.value false) true h).0 in
-      record { goes = s.goes; reaches = s.reaches; ready = s.ready; no_mapping = s.no_mapping; no_worker = s.no_worker }
-  stmt-layer (layer.Break at) h = let s = break-stmt known in record { goes = s.goes; reaches = s.reaches; ready = s.ready; no_mapping = s.no_mapping; no_worker = s.no_worker }
-  stmt-layer (layer.Continue at) h = let s = continue-stmt known in record { goes = s.goes; reaches = s.reaches; ready = s.ready; no_mapping = s.no_mapping; no_worker = s.no_worker }
+      record { goes = s.goes; step = s.step; ready = s.ready; no_mapping = s.no_mapping; no_worker = s.no_worker }
+  stmt-layer (layer.Break at) h = let s = break-stmt known in record { goes = s.goes; step = s.step; ready = s.ready; no_mapping = s.no_mapping; no_worker = s.no_worker }
+  stmt-layer (layer.Continue at) h = let s = continue-stmt known in record { goes = s.goes; step = s.step; ready = s.ready; no_mapping = s.no_mapping; no_worker = s.no_worker }
   stmt-layer (layer.«Stmt::Block» b) h = block-stmt (block_pieces b.0) (b.1 (both_pass (block_is_formed b.0) true h).0)
 
   -- ---- the whole

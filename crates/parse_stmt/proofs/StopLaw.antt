@@ -1,44 +1,41 @@
--- Where the body of a function goes wrong: its signature is read just up to its brace, and the loop over statements passes over each
--- row of whole statements, so that it comes to the last place.
-use Rattle.std.proofs.Common.{◌≡◌, ℕ, ◌<◌, ◌≤◌, Bool, true, false, List, [], ◌∷◌, map, length, Option, None, Some, refl, sym, ap, ◌∙◌, subst, arith, inl, inr}
-use Rattle.std.specs.List.{list_all}
-use Rattle.std.proofs.lemmas.Bool.{false≢true}
+-- Where the body of a function goes wrong: its signature is read just up to its brace, and what is said of the statements behind that
+-- holds of the body.
+use Rattle.std.proofs.Common.{◌≡◌, ℕ, Bool, true, false, List, ◌∷◌, map, Option, None, Some, Result, Ok, Err, IfOk, Bor, refl, sym, ap, ◌∙◌, arith, inl, inr}
+use Rattle.bal_base.specs.declared.stop.Memory.{Memory}
 use Rattle.bal_base.specs.declared.fault.Fault.{Fault}
-use Rattle.bal_base.specs.declared.fault.FaultCode.TheVariants.{Syntax}
 use Rattle.bal_base.specs.declared.token.Token.{Token}
 use Rattle.bal_base.specs.declared.token.TokenKind.TheVariants.{Sign as SignKind}
 use Rattle.bal_base.specs.declared.token.Keyword.TheVariants.{Public as PublicKey, Isolated as IsolatedKey, Function as FunctionKey}
 use Rattle.bal_base.specs.declared.token.Sign.TheVariants.{OpenBrace}
-use Rattle.bal_tree.specs.declared.stmt.Stmt.{Stmt}
 use Rattle.bal_tree.specs.DefRules.{type_is_formed_if}
 use Rattle.bal_tree.specs.NamePieces.{word_pieces}
 use Rattle.bal_tree.specs.Pieces.{◌&◌, if_boxed, joined, key, key_if}
-use Rattle.bal_tree.specs.Spells.{Spells, first_place, kinds_of, onto}
+use Rattle.bal_tree.specs.Spells.{first_place, kinds_of, onto}
 use Rattle.bal_tree.specs.StmtPieces.{stmt_pieces}
-use Rattle.bal_tree.specs.StmtRules.{stmt_is_formed}
 use Rattle.bal_tree.specs.TypePieces.{params_pieces, returning, type_pieces}
 use Rattle.bal_tree.specs.TypeRules.{params_are_formed}
 use Rattle.bal_tree.proofs.Spelling.{spells-onto}
 use Rattle.parse_types.specs.Loops.{◌>>=◌}
-use Rattle.parse_types.specs.Starts.{refusal}
 use Rattle.parse_types.specs.Tokens.{Kinds, take_sign}
 use Rattle.parse_types.proofs.Law.{both_pass}
 use Rattle.parse_types.proofs.Readings.{length-kinds}
 use Rattle.parse_expr.specs.Reaches.{params}
 use Rattle.parse_stmt.specs.declared.stops.Signature.{Signature}
-use Rattle.parse_stmt.specs.Reaches.{body_front, inside, result_if, stmts}
-use Rattle.parse_stmt.specs.Starts.{FrontReading, IsWrong, StopsAt, WithinBody, begun_pieces, ends_stmts, no_stmt, signature_is_formed, signature_pieces}
-use Rattle.parse_stmt.proofs.DefLaw.{brace-behind, result-law, stmts-at}
+use Rattle.parse_stmt.specs.Reaches.{body_front, result_if}
+use Rattle.parse_stmt.specs.Starts.{FrontReading, IsStop, IsWrong, StopsAt, WantsAt, WithinBody, begun_pieces, no_stmt, signature_is_formed, signature_pieces}
+use Rattle.parse_stmt.specs.Stops.{ComeWanting, IsLastStop, Leads, NoStmt}
+use Rattle.parse_stmt.proofs.DefLaw.{brace-behind, result-law}
 use Rattle.parse_stmt.proofs.FileLaw.{same-rest}
-use Rattle.parse_stmt.proofs.Going.{stmts-is, stmts-reach}
 use Rattle.parse_stmt.proofs.Known.{Known}
 
 -- there is one such place
 pub one-stop : (file : ℕ) (tokens a b : List Token) → StopsAt file tokens a → StopsAt file tokens b → a ≡ b
 one-stop file tokens a b x y =
-    let below = x.is_last b y.within in
-    let above = y.is_last a x.within in
-    same-rest file (begun_pieces x.within.signature x.within.stmts) (begun_pieces y.within.signature y.within.stmts) tokens a b x.within.spells y.within.spells (omega arith)
+    let below = x.is_last b y.wants in
+    let above = y.is_last a x.wants in
+    let v = x.wants.within in
+    let w = y.wants.within in
+    same-rest file (begun_pieces v.signature v.stmts) (begun_pieces w.signature w.stmts) tokens a b v.spells w.spells (omega arith)
 
 -- and one fault of what goes wrong
 pub one-wrong : (file : ℕ) (tokens : List Token) (f g : Fault) → IsWrong file tokens f → IsWrong file tokens g → f ≡ g
@@ -68,38 +65,40 @@ module _ (known : Known) where
 
     -- where no signature and brace stand no body goes wrong
     pub no-front : body_front (kinds_of tokens) ≡ None → (rest : List Token) → StopsAt file tokens rest → ⊥
-    no-front none rest at = let both : None ≡ Some (onto (joined (map stmt_pieces at.within.stmts)) (kinds_of rest)) = sym none ∙ front-of rest at.within in cc both
+    no-front none rest at =
+        let w = at.wants.within in
+        let both : None ≡ Some (onto (joined (map stmt_pieces w.stmts)) (kinds_of rest)) = sym none ∙ front-of rest w in cc both
 
-    module _ (behind rest : List Token) (s : Signature) (list : List Stmt) (front : FrontReading s file tokens behind) (end : body_front (kinds_of tokens) ≡ Some (kinds_of behind)) (formed : list_all stmt_is_formed list ≡ true) (spells : Spells file (joined (map stmt_pieces list)) behind rest) (read : kinds_of rest ≡ stmts (inside (length tokens)) (kinds_of behind)) where
-      abbrev within : WithinBody file tokens rest
-      within = record {
-        signature = s;
-        stmts = list;
-        signature_formed = front.formed;
-        are_formed = formed;
-        spells = (front.spells.0, front.spells.1, (behind, front.spells.2, spells));
+    module _ (behind : List Token) (s : Signature) (front : FrontReading s file tokens behind) (end : body_front (kinds_of tokens) ≡ Some (kinds_of behind)) where
+      leads : (other : List Token) → WithinBody file tokens other → Leads (kinds_of behind) (kinds_of other)
+      leads other w =
+          let both : Some (kinds_of behind) ≡ Some (onto (joined (map stmt_pieces w.stmts)) (kinds_of other)) = sym end ∙ front-of other w in
+          record { statements = w.stmts; formed = w.are_formed; is = cc both }
+
+      -- no statement begins there
+      none : (other : List Token) → WantsAt file tokens other → NoStmt (kinds_of other)
+      none other w = λ t rest f e. w.no_statement rest (t, f, e)
+
+      wants : (rest : List Token) → ComeWanting file behind rest → WantsAt file tokens rest
+      wants rest h = record {
+        within = record {
+          signature = s;
+          stmts = h.statements;
+          signature_formed = front.formed;
+          are_formed = h.formed;
+          spells = (front.spells.0, front.spells.1, (behind, front.spells.2, h.spells));
+        };
+        goes_on = h.goes_on;
+        no_statement = λ more t. h.no_stmt t.0 more t.1 t.2;
       }
 
-      is-last : (other : List Token) → WithinBody file tokens other → length rest ≤ length other
-      is-last other w =
-          let ps = map stmt_pieces w.stmts in
-          let ks = kinds_of other in
-          let both : Some (kinds_of behind) ≡ Some (onto (joined ps) ks) = sym end ∙ front-of other w in
-          let same : kinds_of behind ≡ onto (joined ps) ks = cc both in
-          let size = ap length same in
-          let shorter = front.shorter in
-          let a = length-kinds behind in
-          let b = length-kinds rest in
-          let c = length-kinds other in
-          let reach = stmts-reach (length tokens) ps ks (stmts-at known w.stmts w.are_formed) (omega arith) in
-          let there = ap length (read ∙ ap (stmts (inside (length tokens))) same ∙ stmts-is (inside (length tokens)) (onto (joined ps) ks)) in omega arith
+      of-stop : (stop : Option (Bor (List Token))) → IsLastStop file behind stop → IsStop file tokens stop
+      of-stop None h = λ rest at. h.others (kinds_of rest) (leads rest at.wants.within) at.wants.goes_on (none rest at.wants)
+      of-stop (Some stop) h = record {
+        wants = wants stop.now h.found;
+        is_last = λ other w. let l = length-kinds other in let kept = h.others (kinds_of other) (leads other w.within) w.goes_on (none other w) in omega (arith, kept);
+      }
 
-      pub stops : ends_stmts (kinds_of rest) ≡ false → StopsAt file tokens rest
-      stops goes = record { within = within; is_last = is-last; goes_on = goes }
-
-      pub never-stops : ends_stmts (kinds_of rest) ≡ true → (other : List Token) → StopsAt file tokens other → ⊥
-      never-stops ends other at =
-          let below = is-last other at.within in
-          let above = at.is_last rest within in
-          let same = same-rest file (begun_pieces s list) (begun_pieces at.within.signature at.within.stmts) tokens rest other within.spells at.within.spells (omega arith) in
-          false≢true (sym at.goes_on ∙ ap (λ ts. ends_stmts (kinds_of ts)) (sym same) ∙ ends)
+      pub of-answer : (r : Result (Option (Bor (List Token))) Memory) → IfOk r (λ stop. IsLastStop file behind stop) → IfOk r (λ stop. IsStop file tokens stop)
+      of-answer (Ok stop) h = of-stop stop h
+      of-answer (Err e) h = tt

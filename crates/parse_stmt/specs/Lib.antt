@@ -3,3 +3,4 @@ pub mod Chosen
 pub mod Reaches
 pub mod Shapes
 pub mod Starts
+pub mod Stops

@@ -319,8 +319,12 @@ module _ (inner : Bool → Kinds → Option Kinds) where
   abbrev pub else_if_there : Kinds → Option Kinds
   else_if_there ks = else_or (take_key Else ks) ks
 
+  -- an if statement up to the end of its first block
+  abbrev pub then_part : Kinds → Option Kinds
+  then_part ks = take_key If ks >>= expr >>= block_inside
+
   abbrev pub if_stmt : Kinds → Option Kinds
-  if_stmt ks = take_key If ks >>= expr >>= block_inside >>= else_if_there
+  if_stmt ks = then_part ks >>= else_if_there
 
   abbrev pub while_stmt : Kinds → Option Kinds
   while_stmt ks = take_key While ks >>= expr >>= block_inside

@@ -103,12 +103,21 @@ ends_stmts (SignKind CloseBrace ∷ ks) = true
 ends_stmts (KeywordKind WorkerKey ∷ ks) = true
 ends_stmts (k ∷ ks) = false
 
--- The body of a function goes wrong at the first token of the rest: whole statements stand before it, as far as they can reach, and
--- what stands there neither ends the body nor begins a worker.
-pub record StopsAt (file : ℕ) (tokens rest : List Token) : Type 0 where
+-- a well-formed statement stands at the front of the tokens, and this is left behind it
+abbrev pub StartsStmt : List Token → Kinds → Type 0
+StartsStmt tokens rest = (s : Stmt) × (stmt_is_formed s ≡ true) × (kinds_of tokens ≡ onto (stmt_pieces s) rest)
+
+-- A statement is wanting in the body of a function at the first token of the rest: whole statements stand before it, what stands there
+-- neither ends the body nor begins a worker, and no statement begins with it.
+pub record WantsAt (file : ℕ) (tokens rest : List Token) : Type 0 where
   pub within : WithinBody file tokens rest
-  pub is_last : (other : List Token) → WithinBody file tokens other → length rest ≤ length other
   pub goes_on : ends_stmts (kinds_of rest) ≡ false
+  pub no_statement : (behind : Kinds) → StartsStmt rest behind → ⊥
+
+-- The body of a function goes wrong at the last of these places.
+pub record StopsAt (file : ℕ) (tokens rest : List Token) : Type 0 where
+  pub wants : WantsAt file tokens rest
+  pub is_last : (other : List Token) → WantsAt file tokens other → length rest ≤ length other
 
 -- what stands at the place is no statement
 abbrev pub no_stmt : Place → Fault

@@ -53,8 +53,9 @@ use std::alloc::Global;
 ///
 /// `Depth` is answered at the first token that is nested too deeply; else `Syntax` where the file goes wrong. That is at the first
 /// token that begins no definition, behind whole imports and definitions, and where no definition stands before it, no import
-/// either. Where a function's signature and brace stand there, it is behind the whole statements in its body, as many as can be,
-/// if neither the file nor the statements end with them; the fault keeps the count 1 then.
+/// either. Where a function's signature and brace stand there, it is the last place in its body at which a statement is wanting, if
+/// there is one: whole statements stand before it, none begins there, and neither the file nor the body ends there nor does a
+/// worker begin; the fault keeps the count 1 then.
 pub fn parse_file(alloc: Global, file: u32, tokens: &[Token]) -> Result<FileTree, Stop<Fault>>
     ensures reads { IfOk result (λ t. Reads file tokens.now t) }
     ensures chosen { IfOk result (λ t. IsChosen t) }

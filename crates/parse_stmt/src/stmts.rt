@@ -90,8 +90,13 @@ impl StmtReader {
         Ok((stmts, rest))
     }
 
+    /// A statement.
     #[cycle(stmts)]
-    fn stmt(self, room: usize, tokens: &[Token]) -> Result<(Stmt, &[Token]), Stop<Missing>>
+    pub(crate) fn stmt(
+        self,
+        room: usize,
+        tokens: &[Token],
+    ) -> Result<(Stmt, &[Token]), Stop<Missing>>
         ensures end { Leaves (spec.stmt (spec.inside room) (kinds_of tokens.now)) result }
         ensures reads { IfOk result (λ r. StmtReading r.0 self.file tokens.now r.1.now) }
         ensures chosen { IfOk result (λ r. IsChosenWithin r.0) }
