@@ -1,6 +1,8 @@
+pub mod AsciiWords
 pub mod Compiling
 pub mod DueAfterRun
 pub mod DueStatus
+pub mod FileWritten
 pub mod FindingMain
 pub mod Instructions
 pub mod OutputGrows
@@ -16,10 +18,6 @@ pub mod SourceReadings
 pub mod Stands
 pub mod Steps
 pub mod Sums
+pub mod SumsWritten
 pub mod Texts
 pub mod TokenPlaces
-pub mod AsciiWords
-pub mod SumTokens
-pub mod PrintTokens
-pub mod MainTokens
-pub mod OneReading

@@ -18,14 +18,15 @@ use Rattle.parse_types.specs.Nesting.{first_too_deep}
 use Rattle.parse_types.specs.Starts.{refusal}
 use Rattle.bal_base.specs.declared.fault.FaultCode.TheVariants.{Depth, NoMain, NotBuilt}
 use Rattle.bal_tree.specs.Spells.{first_place}
-use Rattle.parse_stmt.specs.Chosen.{IsChosen}
+use Rattle.parse_stmt.specs.Chosen.{IsChosen, IsSameFile}
 use Rattle.parse_stmt.specs.Starts.{IsBroken, IsFileTooDeep, IsNotRefused, IsRefused, IsWrong, begun_pieces, front_pieces}
 use Rattle.bal_run.specs.Source.{HasFault, HasNoTree, HasTokens, IsPlaced, IsText, LacksMain, NotText, NotTokens, ReadsAs, TooLong, fault_at, fault_of}
 use Rattle.bal_tree.specs.declared.def.Def.{Def}
 use Rattle.bal_tree.specs.declared.def.Def.TheVariants.{Function}
 use Rattle.bal_run.specs.Sums.{DefinePrints, HasMain, IsPublicMain, IsSumProgram}
 use Rattle.bal_run.specs.Work.{IsReading, IsTreeReading}
-use Rattle.bal_run.proofs.OneReading.{OneReading, one-reading}
+use Rattle.parse_stmt.proofs.OneTree.{chosen-one}
+use Rattle.bal_run.proofs.FileWritten.{main-in-both, sums-in-both}
 use Rattle.bal_run.proofs.TokenPlaces.{AreTokens, of-spans, behind-pieces, behind-some, first-placed}
 
 -- ---- programs of sums have a public `main`
@@ -158,19 +159,11 @@ module _ (text : List ℕ) (t : IsText text) where
 
 -- ---- and then as a program
 
--- two chosen trees of a text are trees of the same tokens
-same-kinds : (text : List ℕ) (t u : FileTree) → ReadsAs text t → ReadsAs text u → OneReading t u
-same-kinds text t u h k =
-    one-reading h.tokens t u h.reads (subst (λ l. Reads 0 l u) (lexes-same k.are.1 h.are.1) k.reads)
+-- two chosen trees of a text are written out alike
+same-file : (text : List ℕ) (t u : FileTree) → ReadsAs text t → ReadsAs text u → IsSameFile t u
+same-file text t u h k = chosen-one 0 h.tokens t u h.reads (subst (λ l. Reads 0 l u) (lexes-same k.are.1 h.are.1) k.reads) h.chosen k.chosen
 
 module _ (text : List ℕ) where
-  -- both have a public `main`, or none has; both are of sums, or none is
-  main-in-both : (t u : FileTree) → ReadsAs text t → ReadsAs text u → HasMain t → HasMain u
-  main-in-both t u h k = (same-kinds text t u h k).main
-
-  sums-in-both : (t u : FileTree) → ReadsAs text t → ReadsAs text u → IsSumProgram t → IsSumProgram u
-  sums-in-both t u h k = (same-kinds text t u h k).sums
-
   stopped : (stop : Stop FaultOf) → IsTreeReading text (Err stop) → IsReading text (Err stop)
   stopped Memory h = record { program = tt; fault = tt; placed = tt; fault_due = λ g due. tt; program_due = λ tree is. tt }
   stopped (Fault f) h =
@@ -199,13 +192,13 @@ module _ (text : List ℕ) where
           fault = inr (inl ((tree, h.reads, lacks), refl));
           placed = tt;
           fault_due = due;
-          program_due = λ other is. lacks (main-in-both other tree is.0 h.reads (sums-have-main other is.1));
+          program_due = λ other is. lacks (main-in-both other tree (same-file text other tree is.0 h.reads) (sums-have-main other is.1));
         }
       where
         due : (g : FaultOf) → HasFault text g → fault_of NoMain ≡ g
         due g (inl none) = absurd (h.fault_due g none)
         due g (inr (inl (read, e))) = sym e
-        due g (inr (inr (read, e))) = absurd (lacks (main-in-both read.0 tree read.1 h.reads read.2.0))
+        due g (inr (inr (read, e))) = absurd (lacks (main-in-both read.0 tree (same-file text read.0 tree read.1 h.reads) read.2.0))
 
     pub not-built : HasMain tree → (IsSumProgram tree → ⊥) → IsReading text (Err (Fault (fault_of NotBuilt)))
     not-built main other =
@@ -214,12 +207,12 @@ module _ (text : List ℕ) where
           fault = inr (inr ((tree, h.reads, (main, other)), refl));
           placed = tt;
           fault_due = due;
-          program_due = λ u is. other (sums-in-both u tree is.0 h.reads is.1);
+          program_due = λ u is. other (sums-in-both u tree (same-file text u tree is.0 h.reads) is.1);
         }
       where
         due : (g : FaultOf) → HasFault text g → fault_of NotBuilt ≡ g
         due g (inl none) = absurd (h.fault_due g none)
-        due g (inr (inl (read, e))) = absurd (read.2 (main-in-both tree read.0 h.reads read.1 main))
+        due g (inr (inl (read, e))) = absurd (read.2 (main-in-both tree read.0 (same-file text tree read.0 h.reads read.1) main))
         due g (inr (inr (read, e))) = sym e
 
     pub is-program : IsSumProgram tree → IsReading text (Ok tree)
@@ -234,5 +227,5 @@ module _ (text : List ℕ) where
       where
         due : (g : FaultOf) → HasFault text g → ⊥
         due g (inl none) = h.fault_due g none
-        due g (inr (inl (read, e))) = read.2 (main-in-both tree read.0 h.reads read.1 (sums-have-main tree sums))
-        due g (inr (inr (read, e))) = read.2.1 (sums-in-both tree read.0 h.reads read.1 sums)
+        due g (inr (inl (read, e))) = read.2 (main-in-both tree read.0 (same-file text tree read.0 h.reads read.1) (sums-have-main tree sums))
+        due g (inr (inr (read, e))) = read.2.1 (sums-in-both tree read.0 (same-file text tree read.0 h.reads read.1) sums)
