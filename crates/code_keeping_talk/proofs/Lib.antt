@@ -1,0 +1,4 @@
+pub mod Blocking
+pub mod Done
+pub mod Following
+pub mod Hearing

@@ -1,0 +1,20 @@
+//! Laws of steps that speak to workers, wait or end. These calls do nothing: their clauses are laws.
+ghost use Rattle.code_keeping_talk.specs.Laws.{BlockingKeeps, LaterFollows, ReceivesAreDone};
+
+use run_model::Meaning;
+
+/// What comes later than something that comes later comes later.
+pub fn later_follows()
+    ensures { LaterFollows }
+{}
+
+/// Where the running strand blocks for something that is there and not met, all that is shared is good.
+pub fn blocking_keeps()
+    ensures { BlockingKeeps }
+{}
+
+/// What a frame of well-typed code asks for fits, whatever comes, and something comes, where a message is received, or it
+/// waits until its messages are.
+pub fn receives_are_done<N: Meaning>()
+    ensures { ReceivesAreDone N.answers }
+{}

@@ -1,0 +1,12 @@
+//! What steps of well-typed code keep that speak to workers, wait or end, as laws over `code_keeping`.
+//!
+//! - [`later_follows`]: what comes later than something that comes later.
+//! - [`blocking_keeps`]: the running strand blocks.
+//! - [`receives_are_done`]: receives, flushes and the second halves of synchronous sends.
+//!
+//! `specs/Laws.antt` states them.
+#![tactic(auto)]
+
+mod laws;
+
+pub use laws::{blocking_keeps, later_follows, receives_are_done};
