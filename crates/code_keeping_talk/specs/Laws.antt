@@ -1,14 +1,21 @@
 -- What steps of well-typed code keep that speak to workers, wait, or end, as laws.
-use Rattle.std.specs.Prelude.{◌≡◌, ℕ, List, Option, false}
+use Rattle.std.specs.Prelude.{◌≡◌, ◌<◌, ℕ, List, Option, Some, None, IsTrue, false, length, slice_get}
 use Rattle.operations.specs.declared.operation.Operation.TheVariants as op
 use Rattle.value_model.specs.declared.filler.Filler.{Filler}
+use Rattle.value_model.specs.declared.value.Value.{Value}
 use Rattle.value_model.specs.Meaning.{Answers}
-use Rattle.run_model.specs.Common.{Common, Need, Role}
-use Rattle.run_model.specs.Strands.{met, strand_blocked}
-use Rattle.machine_model.specs.Runs.{Picking, Running}
+use Rattle.run_model.specs.Common.{Common, Need, Panicked, Role}
+use Rattle.run_model.specs.Strands.{has_ended, met, strand_blocked, worker_ended}
+use Rattle.machine_model.specs.Keeping.{RunsOn}
+use Rattle.machine_model.specs.Machine.{Frame}
+use Rattle.machine_model.specs.Runs.{Picking, Running, taken_up}
 use Rattle.stack_code.specs.declared.code.Code.{Code}
-use Rattle.stack_code.specs.Good.{GoodCommon, IsLater, NeedIsThere}
-use Rattle.code_keeping.specs.Laws.{IsDone}
+use Rattle.stack_code.specs.CodeMachine.{Standing}
+use Rattle.stack_code.specs.Frames.{AwaitsResult, IsLowest, TopFits}
+use Rattle.stack_code.specs.Good.{GoodCommon, IsLater, NearlyCommon, NeedIsThere}
+use Rattle.stack_code.specs.Tables.{UnitAt}
+use Rattle.stack_code.specs.Values.{Fits, IsMadeError}
+use Rattle.code_keeping.specs.Laws.{IsDone, OnlyOf}
 
 -- what comes later than something that comes later comes later
 abbrev pub LaterFollows : Type 0
@@ -19,6 +26,31 @@ abbrev pub BlockingKeeps : Type 0
 BlockingKeeps =
     (code : Code) (c : Common) (need : Need) → GoodCommon code c Running → NeedIsThere code c need → met c need ≡ false →
     GoodCommon code (strand_blocked need c) Picking × ((q : Option Role) → IsLater q c (strand_blocked need c))
+
+-- what held of frames, results, errors and strands holds later
+abbrev pub WhatHeldHolds : Type 0
+WhatHeldHolds =
+    (code : Code) (c d : Common) →
+    ((f : Frame Standing) → IsLater f.role c d → TopFits code c f → TopFits code d f)
+    × ((f : Frame Standing) (callee : ℕ) → IsLater f.role c d → AwaitsResult code c f callee → AwaitsResult code d f callee)
+    × (IsLater None c d →
+    ((v : Value) (unit : ℕ) → UnitAt code unit (λ u. Fits code c v u.result) → UnitAt code unit (λ u. Fits code d v u.result))
+    × ((e : Value) → IsMadeError code c e → IsMadeError code d e)
+    × ((n unit : ℕ) → IsLowest code c n unit → IsLowest code d n unit)
+    × ((n : ℕ) → IsTrue (has_ended c n) → IsTrue (has_ended d n))
+    × ((n : ℕ) (role : Option Role) → RunsOn c n role → RunsOn d n role))
+
+-- a panic ends a worker, or nothing: what is shared stays good, and nothing changes of any other worker
+abbrev pub ClosingKeeps : Type 0
+ClosingKeeps =
+    (code : Code) (c : Common) (e : Value) (role : Option Role) → NearlyCommon code c Running → IsMadeError code c e →
+    let d = worker_ended (Panicked e) role c in NearlyCommon code d Running × OnlyOf role c d
+
+-- a ready strand is picked: it is there and runs, and all that is shared is good
+abbrev pub PickingKeeps : Type 0
+PickingKeeps =
+    (code : Code) (c : Common) (place n : ℕ) → GoodCommon code c Picking → slice_get c.ready place ≡ Some n →
+    (GoodCommon code (taken_up c place n) Running × ((q : Option Role) → IsLater q c (taken_up c place n))) × (n < length c.strands)
 
 -- messages are received, and flushes and synchronous sends wait until theirs are
 abbrev pub ReceivesAreDone : Answers → Type 0

@@ -1,11 +1,22 @@
 //! Laws of steps that speak to workers, wait or end. These calls do nothing: their clauses are laws.
-ghost use Rattle.code_keeping_talk.specs.Laws.{BlockingKeeps, LaterFollows, ReceivesAreDone};
+ghost use Rattle.code_keeping_talk.specs.Laws.{BlockingKeeps, ClosingKeeps, LaterFollows, PickingKeeps, ReceivesAreDone, WhatHeldHolds};
 
 use run_model::Meaning;
 
 /// What comes later than something that comes later comes later.
 pub fn later_follows()
     ensures { LaterFollows }
+{}
+
+/// What held of frames, of results and errors, and of strands holds later.
+pub fn what_held_holds()
+    ensures { WhatHeldHolds }
+{}
+
+/// A ready strand is picked, or a panic ends a worker: what is shared stays good.
+pub fn strands_keep()
+    ensures picks { PickingKeeps }
+    ensures closes { ClosingKeeps }
 {}
 
 /// Where the running strand blocks for something that is there and not met, all that is shared is good.
