@@ -7,7 +7,7 @@ ghost use Rattle.type_diagrams.specs.Members.{atoms_in};
 ghost use Rattle.type_diagrams.specs.Questions.{mappings, readonly};
 ghost use Rattle.type_diagrams.specs.Tables.{IsDiagram, condition};
 ghost use Rattle.type_diagrams.specs.Turns.{IsReady, Turns};
-ghost use Rattle.type_diagrams.specs.Whole.{Extends, Gives, HasOneNumberEach};
+ghost use Rattle.type_diagrams.specs.Whole.{Extends, Gives};
 ghost use Rattle.empty_arrow.specs.Parts.{HasPart, part_of};
 
 use crate::parts::part;
@@ -28,7 +28,6 @@ pub fn err_shape<M: Member>(
 ) -> Result<Turn, Memory>
     requires { IsReady env.now dia.old (M.kept m.now) Errors path.now }
     ensures extends { Extends (length env.now) dia.old dia.new }
-    ensures one { OnOk result (HasOneNumberEach dia.new) }
     ensures turns { IfOk result (Turns env.now dia.new (M.kept m.now) Errors path.now) }
 {
     let question = detail_question(alloc, env, dia, path)?;
@@ -55,7 +54,6 @@ fn detail_question(
     requires unwanted { All (HasPart env.now) (atoms_in path.now.neg) }
     ensures few { OnOk result (length env.now ≤ the_mark) }
     ensures extends { Extends (length env.now) dia.old dia.new }
-    ensures one { OnOk result (HasOneNumberEach dia.new) }
     ensures made { IfOk result (Gives dia.new (asks (map (part_of env.now) (atoms_in path.now.pos) ++ mappings env.now ∷ readonly env.now ∷ []) (map (part_of env.now) (atoms_in path.now.neg)))) }
 {
     let wanted = path.wanted(alloc)?;
@@ -69,10 +67,8 @@ fn detail_question(
 /// The shapes of a diagram that none of these atoms asks for.
 fn outside_parts(env: &TypeEnv, dia: &mut Diagrams, a: u32, atoms: &[u32]) -> Result<u32, Memory>
     requires diagram { IsDiagram dia.old a }
-    requires one { HasOneNumberEach dia.old }
     requires atoms { All (HasPart env.now) atoms.now }
     ensures extends { Extends (length env.now) dia.old dia.new }
-    ensures one { OnOk result (HasOneNumberEach dia.new) }
     ensures made { IfOk result (Gives dia.new (asks (condition dia.old a ∷ []) (map (part_of env.now) atoms.now))) }
 {
     let defs = env.defs();

@@ -1,16 +1,14 @@
 //! Function paths.
 ghost use Rattle.std.specs.Prelude.{◌≡◌, ◌<◌, ◌≤◌, true, length, All, IfOk, OnOk};
-ghost use Rattle.std.specs.List.{list_any};
 ghost use Rattle.bal_base.specs.Stops.{IfFault};
 ghost use Rattle.type_model.specs.declared.answers.TypeLimit.TheVariants.{Arrows};
 ghost use Rattle.type_diagrams.specs.declared.kind.Kind.TheVariants.{Function as Functions};
 ghost use Rattle.type_diagrams.specs.Kinds.{the_mark};
-ghost use Rattle.type_diagrams.specs.Conditions.{asks};
 ghost use Rattle.type_diagrams.specs.Members.{atoms_in};
-ghost use Rattle.type_diagrams.specs.Questions.{lists, readonly};
+ghost use Rattle.type_diagrams.specs.Questions.{lists};
 ghost use Rattle.type_diagrams.specs.Reach.{most_arrows};
 ghost use Rattle.type_diagrams.specs.Turns.{IsReady, IsSound, Turns};
-ghost use Rattle.type_diagrams.specs.Whole.{Extends, Gives, HasOneNumberEach};
+ghost use Rattle.type_diagrams.specs.Whole.{Extends};
 ghost use Rattle.empty_arrow.specs.Arrows.{IsArrow};
 ghost use Rattle.empty_arrow.specs.Graphs.{IsBase, TellsGraph, arguments_sought, results_sought};
 ghost use Rattle.empty_arrow.specs.Pairs.{TellsPair};
@@ -36,7 +34,6 @@ pub fn fun_shape<M: Member>(
 ) -> Result<Turn, Stop<TypeLimit>>
     requires { IsReady env.now dia.old (M.kept m.now) Functions path.now }
     ensures extends { Extends (length env.now) dia.old dia.new }
-    ensures one { OnOk result (HasOneNumberEach dia.new) }
     ensures turns { IfOk result (Turns env.now dia.new (M.kept m.now) Functions path.now) }
     ensures few { OnOk result (length (atoms_in path.now.pos) ≤ most_arrows) }
     ensures only { IfFault result (λ limit. limit ≡ Arrows) }
@@ -66,7 +63,6 @@ struct Base {
 
 fn base_of(env: &TypeEnv, dia: &mut Diagrams) -> Result<Base, Memory>
     ensures extends { Extends (length env.now) dia.old dia.new }
-    ensures one { OnOk result (HasOneNumberEach dia.new) }
     ensures base { IfOk result (λ b. IsBase env.now dia.new b.arguments b.results) }
 {
     let results = dia.every()?;
@@ -87,13 +83,11 @@ fn graph<M: Member>(
     m: &M,
 ) -> Result<Turn, Memory>
     requires base { IsBase env.now dia.old base.arguments base.results }
-    requires one { HasOneNumberEach dia.old }
     requires wanted { All (IsArrow env.now) wanted.now }
     requires unwanted { All (IsArrow env.now) unwanted.now }
     requires sound { All (IsSound env.now dia.old) (M.kept m.now) }
     ensures few { OnOk result (length env.now ≤ the_mark) }
     ensures extends { Extends (length env.now) dia.old dia.new }
-    ensures one { OnOk result (HasOneNumberEach dia.new) }
     ensures tells { IfOk result (TellsGraph env.now dia.new (M.kept m.now) wanted.now unwanted.now) }
 {
     let defs = env.defs();
@@ -127,12 +121,10 @@ fn avoiding_pair<M: Member>(
     m: &M,
 ) -> Result<Found, Memory>
     requires base { IsBase env.now dia.old base.arguments base.results }
-    requires one { HasOneNumberEach dia.old }
     requires wanted { All (IsArrow env.now) wanted.now }
     requires unwanted { IsArrow env.now unwanted }
     requires sound { All (IsSound env.now dia.old) (M.kept m.now) }
     ensures extends { Extends (length env.now) dia.old dia.new }
-    ensures one { OnOk result (HasOneNumberEach dia.new) }
     ensures tells { IfOk result (TellsPair env.now dia.new (M.kept m.now) (arguments_sought env.now unwanted) (results_sought env.now unwanted) true wanted.now) }
 {
     let arrow = arrow_of(env.defs(), unwanted);

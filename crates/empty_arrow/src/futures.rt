@@ -1,10 +1,9 @@
 //! Future paths.
-ghost use Rattle.std.specs.Prelude.{◌≤◌, length, All, IfOk, OnOk};
+ghost use Rattle.std.specs.Prelude.{◌≤◌, length, All, IfOk};
 ghost use Rattle.type_diagrams.specs.declared.kind.Kind.TheVariants.{Future as Futures};
-ghost use Rattle.type_diagrams.specs.Kinds.{the_mark};
 ghost use Rattle.type_diagrams.specs.Tables.{IsDiagram, condition};
 ghost use Rattle.type_diagrams.specs.Turns.{IsReady, IsSound, Turns};
-ghost use Rattle.type_diagrams.specs.Whole.{Extends, HasOneNumberEach};
+ghost use Rattle.type_diagrams.specs.Whole.{Extends};
 ghost use Rattle.empty_arrow.specs.Parts.{HasPart};
 ghost use Rattle.empty_arrow.specs.Results.{TellsResults};
 
@@ -26,7 +25,6 @@ pub fn fut_shape<M: Member>(
 ) -> Result<Turn, Memory>
     requires { IsReady env.now dia.old (M.kept m.now) Futures path.now }
     ensures extends { Extends (length env.now) dia.old dia.new }
-    ensures one { OnOk result (HasOneNumberEach dia.new) }
     ensures turns { IfOk result (Turns env.now dia.new (M.kept m.now) Futures path.now) }
 {
     let wanted = path.wanted(alloc)?;
@@ -49,11 +47,9 @@ fn results<M: Member>(
     m: &M,
 ) -> Result<Turn, Memory>
     requires diagram { IsDiagram dia.old all }
-    requires one { HasOneNumberEach dia.old }
     requires atoms { All (HasPart env.now) unwanted.now }
     requires sound { All (IsSound env.now dia.old) (M.kept m.now) }
     ensures extends { Extends (length env.now) dia.old dia.new }
-    ensures one { OnOk result (HasOneNumberEach dia.new) }
     ensures tells { IfOk result (TellsResults env.now dia.new (M.kept m.now) (condition dia.old all) unwanted.now) }
 {
     let defs = env.defs();

@@ -1,8 +1,8 @@
 //! Pairs of arguments and answers that all wanted arrows allow.
-ghost use Rattle.std.specs.Prelude.{◌≡◌, [], false, length, All, IfOk, IfSome, OnOk, List, ℕ};
+ghost use Rattle.std.specs.Prelude.{◌≡◌, [], false, length, All, IfOk, IfSome, List, ℕ};
 ghost use Rattle.type_diagrams.specs.Tables.{IsDiagram, condition};
 ghost use Rattle.type_diagrams.specs.Turns.{IsSound};
-ghost use Rattle.type_diagrams.specs.Whole.{Extends, HasOneNumberEach};
+ghost use Rattle.type_diagrams.specs.Whole.{Extends};
 ghost use Rattle.empty_arrow.specs.Arrows.{IsArrow};
 ghost use Rattle.empty_arrow.specs.Pairs.{AreArguments, IsArguments, TellsPair};
 ghost use Rattle.bal_base.specs.declared.shape.Shape.{List as ListOf};
@@ -52,9 +52,7 @@ pub(crate) fn find_pair<M: Member>(
     requires lists { AreArguments env.now (condition dia.old sought.args) }
     requires arrows { All (IsArrow env.now) arrows.now }
     requires sound { All (IsSound env.now dia.old) (M.kept m.now) }
-    requires one { HasOneNumberEach dia.old }
     ensures extends { Extends (length env.now) dia.old dia.new }
-    ensures one { OnOk result (HasOneNumberEach dia.new) }
     ensures tells { IfOk result (TellsPair env.now dia.new (M.kept m.now) (condition dia.old sought.args) (condition dia.old sought.result) sought.may_fail arrows.now) }
 {
     if let Some(found) = settled(dia, sought, m) {

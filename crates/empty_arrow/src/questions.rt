@@ -4,7 +4,7 @@ ghost use Rattle.type_model.specs.Defined.{IsDefined};
 ghost use Rattle.type_diagrams.specs.Kinds.{the_mark};
 ghost use Rattle.type_diagrams.specs.Conditions.{condition_of, and_of, without, asks};
 ghost use Rattle.type_diagrams.specs.Tables.{IsDiagram, condition};
-ghost use Rattle.type_diagrams.specs.Whole.{Extends, Gives, HasOneNumberEach};
+ghost use Rattle.type_diagrams.specs.Whole.{Extends, Gives};
 ghost use Rattle.empty_arrow.specs.Parts.{HasPart, part_of};
 
 use crate::parts::part;
@@ -17,7 +17,6 @@ pub(crate) fn within(env: &TypeEnv, dia: &mut Diagrams, a: u32, t: &SemType) -> 
     requires diagram { IsDiagram dia.old a }
     requires defined { IsDefined env.now t.now }
     ensures extends { Extends (length env.now) dia.old dia.new }
-    ensures one { OnOk result (HasOneNumberEach dia.new) }
     ensures made { IfOk result (Gives dia.new (and_of (condition dia.old a) (condition_of env.now t.now))) }
 {
     let b = dia.of(env, t)?;
@@ -29,7 +28,6 @@ pub(crate) fn outside(env: &TypeEnv, dia: &mut Diagrams, a: u32, t: &SemType) ->
     requires diagram { IsDiagram dia.old a }
     requires defined { IsDefined env.now t.now }
     ensures extends { Extends (length env.now) dia.old dia.new }
-    ensures one { OnOk result (HasOneNumberEach dia.new) }
     ensures made { IfOk result (Gives dia.new (without (condition dia.old a) (condition_of env.now t.now))) }
 {
     let b = dia.of(env, t)?;
@@ -41,7 +39,6 @@ pub(crate) fn within_parts(env: &TypeEnv, dia: &mut Diagrams, atoms: &[u32]) -> 
     requires { All (HasPart env.now) atoms.now }
     ensures few { OnOk result (length env.now ≤ the_mark) }
     ensures extends { Extends (length env.now) dia.old dia.new }
-    ensures one { OnOk result (HasOneNumberEach dia.new) }
     ensures made { IfOk result (Gives dia.new (asks (map (part_of env.now) atoms.now) [])) }
 {
     let defs = env.defs();

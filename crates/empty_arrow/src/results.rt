@@ -1,18 +1,18 @@
 //! What stands among the results of futures.
-ghost use Rattle.std.specs.Prelude.{◌≡◌, ◌+◌, IfOk, OnOk, length};
+ghost use Rattle.std.specs.Prelude.{◌≡◌, ◌+◌, IfOk, length};
 ghost use Rattle.type_model.specs.declared.answers.Keys.TheVariants.{Results};
 ghost use Rattle.type_diagrams.specs.declared.kind.Kind.TheVariants.{Future as Futures};
 ghost use Rattle.type_diagrams.specs.Members.{atoms_in};
 ghost use Rattle.type_diagrams.specs.Projections.{Projects};
 ghost use Rattle.type_diagrams.specs.Turns.{IsReady};
-ghost use Rattle.type_diagrams.specs.Whole.{Extends, HasOneNumberEach};
+ghost use Rattle.type_diagrams.specs.Whole.{Extends};
 
 use crate::futures::fut_shape;
 use crate::questions::within_parts;
 use bal_base::Memory;
 use std::alloc::Global;
 use type_diagrams::{Diagrams, Member, Path, Projection, Turn};
-use type_model::{BasicSet, SemType, TypeEnv};
+use type_model::TypeEnv;
 
 /// What stands among the results of a future path's shapes: where it has a shape, whatever is a result of all
 /// wanted atoms, since a future of the path stays one with a further such result.
@@ -25,7 +25,6 @@ pub fn fut_parts<M: Member>(
 ) -> Result<Projection, Memory>
     requires { IsReady env.now dia.old (M.kept m.now) Futures path.now }
     ensures extends { Extends (length env.now) dia.old dia.new }
-    ensures one { OnOk result (HasOneNumberEach dia.new) }
     ensures projects { IfOk result (Projects env.now dia.new (M.kept m.now) Futures path.now Results) }
 {
     let _places = places(alloc, path)?;
@@ -36,8 +35,8 @@ pub fn fut_parts<M: Member>(
             Ok(Projection::Parts(parts))
         }
         Turn::Empty => {
-            let never = dia.of(env, &SemType::Basic(BasicSet::Never))?;
-            Ok(Projection::Parts(never))
+            let none = dia.nothing()?;
+            Ok(Projection::Parts(none))
         }
         Turn::Ask(question) => Ok(Projection::Ask(question)),
     }

@@ -35,7 +35,7 @@ pub mod MarkedPaths
 pub mod MemberLists
 pub mod Moved
 pub mod Narrowing
-pub mod Never
+pub mod Nothing
 pub mod NextItems
 pub mod PlacedParts
 pub mod ProductItems

@@ -12,7 +12,7 @@ use Rattle.type_diagrams.specs.Whole.{Keeps}
 use Rattle.empty_product.specs.Lists.{AreAsked, IsApartFrom}
 use Rattle.empty_product.proofs.AtomLists.{Any-contains, below_max, order}
 use Rattle.empty_product.proofs.ItemPlaces.{AreAsked-keeps, at_place}
-use Rattle.empty_product.proofs.Never.{asks_one_before, nothing-along}
+use Rattle.empty_product.proofs.Nothing.{asks_one_before, nothing-along}
 
 module _ (o : Option (List Ty × Option Ty)) (fixed : List Ty) (rest : Option Ty) (is : o ≡ Some (fixed, rest)) where
   pub fixes-parts : (place : ℕ) → IsSomeAnd o (λ d. place < length d.0) ↔ (place < length fixed)

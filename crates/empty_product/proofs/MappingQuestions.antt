@@ -1,10 +1,9 @@
 -- What is asked at keys by mapping atoms, and which of these are out of play.
-use Rattle.std.proofs.Common.{◌≡◌, ◌≢◌, ◌↔◌, ◌⊎◌, ⊎_elim, inl, inr, ℕ, ◌+◌, ◌<◌, ◌&&◌, not, nat_eq, List, [], ◌∷◌, ◌++◌, map, take, length, get_or, All, Contains, Bool, true, false, IsTrue, IfSome, Option, Some, None, slice_get, option_and_then, refl, sym, ap, subst, ◌∙◌, arith}
-use Rattle.std.specs.List.{Any, AllPairs, list_all}
+use Rattle.std.proofs.Common.{◌≡◌, ◌≢◌, ◌↔◌, ◌⊎◌, ⊎_elim, inl, inr, ℕ, ◌+◌, ◌<◌, not, List, [], ◌∷◌, ◌++◌, map, take, length, get_or, All, Contains, Bool, true, false, IsTrue, IfSome, Option, Some, None, slice_get, option_and_then, refl, sym, ap, subst, ◌∙◌, arith}
+use Rattle.std.specs.List.{Any, AllPairs}
 use Rattle.std.specs.Prelude.{if◌then◌else◌}
 use Rattle.std.proofs.lemmas.Bool.{false≢true}
 use Rattle.std.proofs.lemmas.List.{take_more}
-use Rattle.std.proofs.lemmas.Bool.Decides.{Decides-eqb}
 use Rattle.std.proofs.lemmas.List.Elements.{All-nil, All-push, All-weaker, All-contains, Contains-append_left, Contains-push, Contains-push_cases, Contains-get_or, All-contains_itself}
 use Rattle.bal_base.specs.declared.text.Text.{Text}
 use Rattle.type_model.specs.declared.basic.Ty.{Ty}
@@ -14,19 +13,16 @@ use Rattle.type_model.specs.declared.atoms.AtomDef.TheVariants.{List as ListAtom
 use Rattle.type_model.specs.Defined.{IsEnv, DefBelow, TyBelow, IsDefined}
 use Rattle.type_model.specs.Places.{HasDistinctFields, key_type}
 use Rattle.type_diagrams.specs.Atoms.{parts_of, mapping_parts}
-use Rattle.type_diagrams.specs.Conditions.{Condition, AreOne, IsNothing, and_of, asks, nothing}
+use Rattle.type_diagrams.specs.Conditions.{Condition, IsNothing, and_of, asks}
 use Rattle.type_diagrams.specs.Members.{ArePlainlyApart, IsMappingOutOfPlay, Requires, member_of, asked, type_asked}
 use Rattle.type_diagrams.specs.Tables.{Table, IsDiagram, condition}
-use Rattle.type_diagrams.specs.Whole.{Keeps, Gives, HasOneNumberEach}
-use Rattle.type_diagrams.proofs.Asking.{one_back}
-use Rattle.type_diagrams.specs.declared.operation.Operation.TheVariants.{And}
-use Rattle.type_diagrams.proofs.AskedDiagrams.{gives_itself}
-use Rattle.type_diagrams.proofs.Keeping.{keeps-further}
-use Rattle.type_diagrams.proofs.Shapes.{one-further, combined-Gives, gives-keeps}
+use Rattle.type_diagrams.specs.Whole.{Keeps, Gives}
+use Rattle.type_diagrams.proofs.Shapes.{gives-keeps}
 use Rattle.empty_product.specs.declared.mapping_atoms.KeyBase.{KeyBase}
 use Rattle.empty_product.specs.Keys.{Names, AreInOrder, HasAdded, HasNamedKeys}
 use Rattle.empty_product.specs.KeyBases.{IsBase, AreBases, IsApartAt, IsApartBy, fields_in, fields_of}
 use Rattle.empty_product.specs.Play.{AreInPlay}
+use Rattle.empty_product.proofs.Nothing.{asks_one_before, common-Gives, is-nothing, nothing-along}
 use Rattle.empty_product.proofs.AtomFields.{IsNamed, IsNeeded, field_of, field_of-Some, field_of-None, key_type-found, key_type-none, Requires-fields, Names-fields, Requires-Names}
 use Rattle.empty_product.proofs.Zipped.{none_some, some_same, All-slice_get, AllPairs-at, Contains-at, Any-none, Any-of, Any-is, Any-more, Any-first, Any-later, Any-weaker}
 
@@ -112,30 +108,6 @@ module _ (env : List AtomDef) (a : ℕ) (key : Text) (fields : List FieldDef) (r
   rest-defined None h = tt
   rest-defined (Some u) h = h.0
 
--- ---- the number for no shape
-
-module _ (t : Table) (c : Condition) (never n : ℕ) (one : HasOneNumberEach t) (nothing_is : Gives t nothing never) (made : Gives t c n) where
-  pub is-never : IsTrue (nat_eq n never) ↔ IsNothing c
-  is-never = (
-    λ h. one-further c (condition t n) nothing (one_back (condition t n) c made.condition) (subst (λ k. AreOne (condition t k) nothing) (sym ((Decides-eqb n never).0 h)) nothing_is.condition),
-    λ z. (Decides-eqb n never).1 (one n never made.diagram nothing_is.diagram
-        (one-further (condition t n) c (condition t never) made.condition (one-further c nothing (condition t never) z (one_back (condition t never) nothing nothing_is.condition)))),
-  )
-
--- what an atom and others ask together
-pub and_first : (q c : Condition) (cs : List Condition) → AreOne q (asks cs []) → AreOne (and_of c q) (asks (c ∷ cs) [])
-and_first q c cs e = record {
-  simple = λ x s v. by (c.simple x) (q.simple x) (list_all (λ f. f.simple x) cs) (e.simple x s v);
-  by_kind = λ k v. by (c.by_kind k v) (q.by_kind k v) (list_all (λ f. f.by_kind k v) cs) (e.by_kind k v);
-}
-  where
-    by : (a z b : Bool) → z ≡ (b && true) → (a && z) ≡ ((a && b) && true)
-    by true z b h = h
-    by false z b h = refl
-
-pub nothing-along : (c d : Condition) → AreOne c d → IsNothing c ↔ IsNothing d
-nothing-along c d e = (λ h. one-further d c nothing (one_back c d e) h, λ h. one-further c d nothing e h)
-
 -- ---- out of play
 
 module _ (env : List AtomDef) (wanted : List ℕ) (a : ℕ) where
@@ -152,7 +124,7 @@ module _ (env : List AtomDef) (wanted : List ℕ) (a : ℕ) where
     apart-base : (b : KeyBase) → IsBase env table wanted b → IsNothing (and_of (member_of env b.key a) (condition table b.question)) ↔ ArePlainlyApart (map (member_of env b.key) (a ∷ wanted))
     apart-base b is =
         nothing-along (and_of (member_of env b.key a) (condition table b.question)) (asks (map (member_of env b.key) (a ∷ wanted)) [])
-        (and_first (condition table b.question) (member_of env b.key a) (map (member_of env b.key) wanted) is.question.condition)
+        (asks_one_before (member_of env b.key a) (condition table b.question) (map (member_of env b.key) wanted) is.question.condition)
 
     pub named-out : Any (IsApartAt env table a) bases → IsOut
     named-out h =
@@ -292,11 +264,9 @@ atom-added env a fields rest is old new added = record {
 }
 
 -- whether what is asked at a key and a base have no shape in common
-pub apart-made : (old mid new : Table) (never asked q n : ℕ) (c : Condition) → Keeps old mid → Keeps mid new → HasOneNumberEach new → Gives old nothing never → IsDiagram old q → Gives mid c asked → Gives new (and_of (condition mid asked) (condition mid q)) n
-    → IsTrue (nat_eq n never) ↔ IsNothing (and_of c (condition old q))
-apart-made old mid new never number q n c begun later one nothing_is is made both =
-    is-never new (and_of c (condition old q)) never n one (gives-keeps old new nothing never (keeps-further old mid new begun later) nothing_is)
-    (combined-Gives mid new And c (condition old q) number q n made (gives-keeps old mid (condition old q) q begun (gives_itself old q is)) both)
+pub apart-made : (old mid new : Table) (asked q n : ℕ) (c : Condition) (b : Bool) → Keeps old mid → IsDiagram old q → Gives mid c asked → Gives new (and_of (condition mid asked) (condition mid q)) n
+    → IsTrue b ↔ IsNothing (condition new n) → IsTrue b ↔ IsNothing (and_of c (condition old q))
+apart-made old mid new asked q n c b begun is made both told = is-nothing new (and_of c (condition old q)) n b (common-Gives old mid new c asked q n is begun made both) told
 
 -- a name that is added, from either side
 pub same-added : (name : Text) (old new : List Text) → HasAdded (λ k. k ≡ name) old new → HasAdded (λ k. name ≡ k) old new

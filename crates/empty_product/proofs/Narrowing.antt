@@ -1,5 +1,5 @@
 -- Single places of a product, made narrower so that an atom is avoided there.
-use Rattle.std.proofs.Common.{◌≡◌, ◌≢◌, ◌↔◌, ◌⊎◌, ⊎_elim, ℕ, List, true, false, Option, Some, None, All, refl, sym, subst, ◌∙◌}
+use Rattle.std.proofs.Common.{◌≡◌, ◌↔◌, ◌⊎◌, ⊎_elim, ℕ, List, true, false, Option, Some, None, All, refl, sym, subst, ◌∙◌}
 use Rattle.std.proofs.lemmas.Bool.{false≢true}
 use Rattle.bal_base.specs.declared.shape.Shape.{Shape}
 use Rattle.type_model.specs.declared.atoms.AtomDef.{AtomDef}
@@ -8,24 +8,13 @@ use Rattle.type_diagrams.specs.declared.finding.Finding.{Finding}
 use Rattle.type_diagrams.specs.declared.finding.Finding.TheVariants.{Part as FoundPart, Held as FoundHeld, Unknown as FoundUnknown}
 use Rattle.type_diagrams.specs.Finding.{IsFinding}
 use Rattle.type_diagrams.specs.Kept.{IsHeldEmpty}
-use Rattle.type_diagrams.specs.Tables.{Table, IsDiagram, condition}
+use Rattle.type_diagrams.specs.Tables.{Table, condition}
 use Rattle.type_diagrams.specs.Turns.{IsSound}
-use Rattle.type_diagrams.specs.Whole.{Gives, HasOneNumberEach}
-use Rattle.type_diagrams.proofs.Asking.{one_back}
 use Rattle.type_diagrams.proofs.Meeting.{Meets-nothing, Meets-same, Meets-without}
-use Rattle.type_diagrams.proofs.Shapes.{one-further}
 use Rattle.type_diagrams.proofs.Tellings.{told-IsShapeOf}
 use Rattle.empty_product.specs.declared.slots.Slot.{Slot}
 use Rattle.empty_product.specs.declared.slots.Slot.TheVariants.{Optional, Present}
 use Rattle.empty_product.specs.Slots.{Place, MayHave, HasNone, MustHave, Asking, IsAt, AvoidsAt, IsAbsentAs, IsInHeld, IsNarrower, IsVoidAt, TellsPart, condition_at, place_of}
-
--- the question for no shape has one number
-pub not-IsNothing : (t : Table) (never q : ℕ) → HasOneNumberEach t → Gives t nothing never → IsDiagram t q → q ≢ never → ¬ IsNothing (condition t q)
-not-IsNothing t never q one gives is other none =
-    other (one q never is gives.diagram (one-further (condition t q) nothing (condition t never) none (one_back (condition t never) nothing gives.condition)))
-
-pub is-IsNothing : (t : Table) (never q : ℕ) → Gives t nothing never → q ≡ never → IsNothing (condition t q)
-is-IsNothing t never q gives e = subst (λ n. IsNothing (condition t n)) (sym e) gives.condition
 
 -- nothing has no shape
 pub nothing-IsShapeOf : (env : List AtomDef) (c : Condition) (x : Shape) → IsNothing c → ¬ IsShapeOf env c x
@@ -152,11 +141,10 @@ slot-condition t slot q from is same = ⊎_elim
 
 -- ---- what is found of a question
 
-pub found : (env : List AtomDef) (t : Table) (kept : List (ℕ × Option Shape)) (never q : ℕ) → HasOneNumberEach t → Gives t nothing never → IsDiagram t q → q ≢ never
-    → All (IsSound env t) kept → (finding : Finding) → IsFinding kept q finding → TellsPart env t kept q finding
-found env t kept never q one gives is other sound (FoundPart y) h = told-IsShapeOf env t kept q sound h.0 y h.1 h.2
-found env t kept never q one gives is other sound FoundHeld h = λ x s. record { question = q; held = h; inside = s }
-found env t kept never q one gives is other sound FoundUnknown h = (h, not-IsNothing t never q one gives is other)
+pub found : (env : List AtomDef) (t : Table) (kept : List (ℕ × Option Shape)) (q : ℕ) → ¬ IsNothing (condition t q) → All (IsSound env t) kept → (finding : Finding) → IsFinding kept q finding → TellsPart env t kept q finding
+found env t kept q some sound (FoundPart y) h = told-IsShapeOf env t kept q sound h.0 y h.1 h.2
+found env t kept q some sound FoundHeld h = λ x s. record { question = q; held = h; inside = s }
+found env t kept q some sound FoundUnknown h = (h, some)
 
 -- ---- a place that must have a part
 

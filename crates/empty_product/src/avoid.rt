@@ -1,10 +1,9 @@
 //! Products that avoid atoms.
-ghost use Rattle.std.specs.Prelude.{[], ◌<◌, ◌≡◌, All, IfOk, IsTrue, List, OnOk, Option, length, map};
+ghost use Rattle.std.specs.Prelude.{[], ◌<◌, ◌≡◌, All, IfOk, IsTrue, List, Option, length, map};
 ghost use Rattle.bal_base.specs.declared.shape.Shape.{Shape as AnyShape};
 ghost use Rattle.type_model.specs.declared.atoms.AtomDef.{AtomDef};
-ghost use Rattle.type_diagrams.specs.Conditions.{nothing};
 ghost use Rattle.type_diagrams.specs.Turns.{IsSound};
-ghost use Rattle.type_diagrams.specs.Whole.{Extends, Gives, HasOneNumberEach};
+ghost use Rattle.type_diagrams.specs.Whole.{Extends};
 ghost use Rattle.empty_product.specs.Products.{AreSlots, AreUnwanted, Avoids, IsIn, TellsFilling, TellsKept, TellsNext, all_askings, places_of};
 ghost use Rattle.empty_product.specs.Slots.{IsDemand, IsSlot, asking_of, place_of};
 
@@ -36,42 +35,29 @@ enum Next {
 pub(crate) fn avoid<M: Member>(
     alloc: Global,
     dia: &mut Diagrams,
-    never: u32,
     slots: &[Slot],
     unwanted: &[Unwanted],
     m: &M,
 ) -> Result<Filling, Memory>
-    requires never { Gives dia.old nothing never }
     requires slots { AreSlots dia.old slots.now }
     requires unwanted { AreUnwanted dia.old (length slots.now) unwanted.now }
-    requires one { HasOneNumberEach dia.old }
     ensures extends { Extends 0 dia.old dia.new }
-    ensures one { OnOk result (HasOneNumberEach dia.new) }
     ensures tells { IfOk result (λ filling. (env : List AtomDef) → All (IsSound env dia.old) (M.kept m.now) → TellsFilling env dia.new (M.kept m.now) (places_of dia.old slots.now) (all_askings dia.old unwanted.now) filling) }
 {
     match unwanted {
-        [] => filled(alloc, dia, never, slots, m),
+        [] => filled(alloc, dia, slots, m),
         [first, rest @ ..] => {
             if is_avoided(dia, slots, &first.demands)? {
-                return avoid(alloc, dia, never, slots, rest, m);
+                return avoid(alloc, dia, slots, rest, m);
             }
             for step in 0..2 * first.demands.len() {
                 let (place, absent) = (step / 2, step % 2 == 0);
-                let next = match narrow(
-                    alloc,
-                    dia,
-                    never,
-                    slots,
-                    &first.demands,
-                    place,
-                    absent,
-                    m,
-                )? {
+                let next = match narrow(alloc, dia, slots, &first.demands, place, absent, m)? {
                     Next::Slots(next) => next,
                     Next::Nothing => continue,
                     Next::Ask(question) => return Ok(Filling::Ask(question)),
                 };
-                match avoid(alloc, dia, never, &next, rest, m)? {
+                match avoid(alloc, dia, &next, rest, m)? {
                     Filling::Empty => {}
                     Filling::Parts(parts) => return Ok(Filling::Parts(parts)),
                     Filling::Ask(question) => return Ok(Filling::Ask(question)),
@@ -87,9 +73,7 @@ fn is_avoided(dia: &mut Diagrams, slots: &[Slot], demands: &[Demand]) -> Result<
     requires slots { AreSlots dia.old slots.now }
     requires demands { All (IsDemand dia.old) demands.now }
     requires lengths { length demands.now ≡ length slots.now }
-    requires one { HasOneNumberEach dia.old }
     ensures extends { Extends 0 dia.old dia.new }
-    ensures one { OnOk result (HasOneNumberEach dia.new) }
     ensures avoided { IfOk result (λ is. IsTrue is → (env : List AtomDef) (parts : List (Option AnyShape)) → IsIn env (places_of dia.old slots.now) parts → Avoids env (map (asking_of dia.old) demands.now) parts) }
 {
     for place in 0..demands.len() {
@@ -104,24 +88,20 @@ fn is_avoided(dia: &mut Diagrams, slots: &[Slot], demands: &[Demand]) -> Result<
 fn narrow<M: Member>(
     alloc: Global,
     dia: &mut Diagrams,
-    never: u32,
     slots: &[Slot],
     demands: &[Demand],
     place: usize,
     absent: bool,
     m: &M,
 ) -> Result<Next, Memory>
-    requires never { Gives dia.old nothing never }
     requires slots { AreSlots dia.old slots.now }
     requires demands { All (IsDemand dia.old) demands.now }
     requires lengths { length demands.now ≡ length slots.now }
     requires place { place < length slots.now }
-    requires one { HasOneNumberEach dia.old }
     ensures extends { Extends 0 dia.old dia.new }
-    ensures one { OnOk result (HasOneNumberEach dia.new) }
     ensures tells { IfOk result (TellsNext dia.new (M.kept m.now) (places_of dia.old slots.now) (map (asking_of dia.old) demands.now) place absent) }
 {
-    match narrow_slot(dia, never, slots[place], demands[place], absent, m)? {
+    match narrow_slot(dia, slots[place], demands[place], absent, m)? {
         Narrowed::Slot(slot) => {
             let mut next = Vec::from_slice(alloc, slots)?;
             next[place] = slot;
@@ -136,18 +116,15 @@ fn narrow<M: Member>(
 fn filled<M: Member>(
     alloc: Global,
     dia: &Diagrams,
-    never: u32,
     slots: &[Slot],
     m: &M,
 ) -> Result<Filling, Memory>
-    requires never { Gives dia.now nothing never }
     requires slots { AreSlots dia.now slots.now }
-    requires one { HasOneNumberEach dia.now }
     ensures { IfOk result (λ filling. (env : List AtomDef) → All (IsSound env dia.now) (M.kept m.now) → TellsFilling env dia.now (M.kept m.now) (places_of dia.now slots.now) [] filling) }
 {
     let mut parts = Vec::new(alloc);
     for slot in slots {
-        match kept_part(alloc, dia, never, *slot, m)? {
+        match kept_part(alloc, dia, *slot, m)? {
             Kept::Part(part) => parts.push(part)?,
             Kept::Void => return Ok(Filling::Empty),
             Kept::Unknown(question) => return Ok(Filling::Ask(question)),
@@ -164,23 +141,15 @@ enum Kept {
     Unknown(u32),
 }
 
-fn kept_part<M: Member>(
-    alloc: Global,
-    dia: &Diagrams,
-    never: u32,
-    slot: Slot,
-    m: &M,
-) -> Result<Kept, Memory>
-    requires never { Gives dia.now nothing never }
+fn kept_part<M: Member>(alloc: Global, dia: &Diagrams, slot: Slot, m: &M) -> Result<Kept, Memory>
     requires slot { IsSlot dia.now slot }
-    requires one { HasOneNumberEach dia.now }
     ensures { IfOk result (λ kept. (env : List AtomDef) → All (IsSound env dia.now) (M.kept m.now) → TellsKept env dia.now (M.kept m.now) (place_of dia.now slot) kept) }
 {
     let question = match slot {
         Slot::Optional(_) | Slot::Absent => return Ok(Kept::Part(None)),
         Slot::Present(question) => question,
     };
-    match find_part(alloc, dia, never, question, m)? {
+    match find_part(alloc, dia, question, m)? {
         Finding::Part(part) => Ok(Kept::Part(Some(part))),
         Finding::Held => Ok(Kept::Void),
         Finding::Unknown => Ok(Kept::Unknown(question)),

@@ -1,10 +1,10 @@
 //! Questions about the parts of marked shapes.
-ghost use Rattle.std.specs.Prelude.{◌≡◌, ◌==◌, ◌↔◌, IfOk, IsTrue, OnOk, length, true};
+ghost use Rattle.std.specs.Prelude.{◌≡◌, ◌==◌, ◌↔◌, IfOk, IsTrue, length, true};
 ghost use Rattle.std.specs.List.{list_any};
 ghost use Rattle.type_diagrams.specs.Conditions.{frozen};
 ghost use Rattle.type_diagrams.specs.Kinds.{the_mark};
 ghost use Rattle.type_diagrams.specs.Tables.{IsDiagram, condition};
-ghost use Rattle.type_diagrams.specs.Whole.{Extends, Gives, HasOneNumberEach};
+ghost use Rattle.type_diagrams.specs.Whole.{Extends, Gives};
 ghost use Rattle.empty_product.specs.Bases.{frozen_where};
 
 use bal_base::{AtomList, Memory};
@@ -14,7 +14,6 @@ use type_model::{BasicSet, SemType, TypeEnv};
 /// Nil, booleans, ints, strings, marked lists and marked mappings.
 pub(crate) fn frozen_parts(env: &TypeEnv, dia: &mut Diagrams) -> Result<u32, Memory>
     ensures extends { Extends (length env.now) dia.old dia.new }
-    ensures one { OnOk result (HasOneNumberEach dia.new) }
     ensures made { IfOk result (Gives dia.new frozen) }
 {
     let readonly = dia.of(env, &SemType::Basic(BasicSet::Readonly))?;
@@ -32,9 +31,7 @@ pub(crate) fn frozen_if(
     question: u32,
 ) -> Result<u32, Memory>
     requires question { IsDiagram dia.old question }
-    requires one { HasOneNumberEach dia.old }
     ensures extends { Extends (length env.now) dia.old dia.new }
-    ensures one { OnOk result (HasOneNumberEach dia.new) }
     ensures made { IfOk result (Gives dia.new (frozen_where marked (condition dia.old question))) }
 {
     if marked {

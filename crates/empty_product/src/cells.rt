@@ -1,11 +1,11 @@
 //! What stands at one place of products that avoid atoms.
-ghost use Rattle.std.specs.Prelude.{◌≡◌, ◌++◌, ◌∷◌, [], ◌<◌, All, IfOk, List, OnOk, length};
+ghost use Rattle.std.specs.Prelude.{◌≡◌, ◌++◌, ◌∷◌, [], ◌<◌, All, IfOk, List, length};
 ghost use Rattle.std.specs.List.{AllZip};
 ghost use Rattle.type_model.specs.declared.atoms.AtomDef.{AtomDef};
-ghost use Rattle.type_diagrams.specs.Conditions.{LooksAtKinds, nothing};
+ghost use Rattle.type_diagrams.specs.Conditions.{LooksAtKinds};
 ghost use Rattle.type_diagrams.specs.Tables.{IsDiagram, condition};
 ghost use Rattle.type_diagrams.specs.Turns.{IsSound};
-ghost use Rattle.type_diagrams.specs.Whole.{Extends, Gives, HasOneNumberEach};
+ghost use Rattle.type_diagrams.specs.Whole.{Extends};
 ghost use Rattle.empty_product.specs.Cells.{GivesDiagram, IsAimOf, IsAimed, LooksAtParts, TellsCells, aims_of, demands_in};
 ghost use Rattle.empty_product.specs.Products.{AreSlots, AreUnwanted, all_askings, places_of};
 ghost use Rattle.empty_product.specs.Standing.{AreLooking, TellsStanding, question_of};
@@ -30,7 +30,6 @@ pub(crate) struct Aimed {
 pub(crate) fn cells<M: Member>(
     alloc: Global,
     dia: &mut Diagrams,
-    never: u32,
     slots: &[Slot],
     undecided: &[Aimed],
     decided: &[Unwanted],
@@ -38,23 +37,21 @@ pub(crate) fn cells<M: Member>(
     found: u32,
     m: &M,
 ) -> Result<Projection, Memory>
-    requires never { Gives dia.old nothing never }
     requires slots { AreSlots dia.old slots.now }
     requires undecided { All (IsAimed dia.old (length slots.now)) undecided.now }
     requires decided { AreUnwanted dia.old (length slots.now) decided.now }
     requires part { IsDiagram dia.old part }
     requires found { IsDiagram dia.old found }
-    requires one { HasOneNumberEach dia.old }
     ensures extends { Extends 0 dia.old dia.new }
-    ensures one { OnOk result (HasOneNumberEach dia.new) }
     ensures diagram { IfOk result (GivesDiagram dia.new) }
     ensures looks { IfOk result (λ p. (env : List AtomDef) → LooksAtKinds env (condition dia.old part) → LooksAtKinds env (condition dia.old found) → All (λ a. LooksAtKinds env (condition dia.old a.there)) undecided.now → LooksAtParts env dia.new p) }
     ensures tells { IfOk result (λ p. (env : List AtomDef) → All (IsSound env dia.old) (M.kept m.now) → TellsCells env (places_of dia.old slots.now) dia.new (M.kept m.now) (aims_of dia.old undecided.now) (all_askings dia.old decided.now) (condition dia.old part) (condition dia.old found) p) }
 {
-    if dia.diff(part, found)? == never {
+    let left = dia.diff(part, found)?;
+    if dia.is_nothing(left) {
         return Ok(Projection::Parts(found));
     }
-    match avoid(alloc, dia, never, slots, decided, m)? {
+    match avoid(alloc, dia, slots, decided, m)? {
         Filling::Parts(_) => {}
         Filling::Empty => return Ok(Projection::Parts(found)),
         Filling::Ask(question) => return Ok(Projection::Ask(question)),
@@ -63,12 +60,12 @@ pub(crate) fn cells<M: Member>(
         [] => Ok(Projection::Parts(dia.union(found, part)?)),
         [first, rest @ ..] => {
             let more = with_one(alloc, decided, &first.elsewhere)?;
-            let found = match cells(alloc, dia, never, slots, rest, &more, part, found, m)? {
+            let found = match cells(alloc, dia, slots, rest, &more, part, found, m)? {
                 Projection::Parts(found) => found,
                 Projection::Ask(question) => return Ok(Projection::Ask(question)),
             };
             let outside = dia.diff(part, first.there)?;
-            cells(alloc, dia, never, slots, rest, decided, outside, found, m)
+            cells(alloc, dia, slots, rest, decided, outside, found, m)
         }
     }
 }
@@ -97,21 +94,17 @@ fn copy(alloc: Global, atom: &Unwanted) -> Result<Unwanted, Memory>
 pub(crate) fn parts_at<M: Member>(
     alloc: Global,
     dia: &mut Diagrams,
-    never: u32,
     slots: Vec<Slot>,
     unwanted: Vec<Unwanted>,
     target: usize,
     found: u32,
     m: &M,
 ) -> Result<Projection, Memory>
-    requires never { Gives dia.old nothing never }
     requires slots { AreSlots dia.old slots.items }
     requires unwanted { AreUnwanted dia.old (length slots.items) unwanted.items }
     requires target { target < length slots.items }
     requires found { IsDiagram dia.old found }
-    requires one { HasOneNumberEach dia.old }
     ensures extends { Extends 0 dia.old dia.new }
-    ensures one { OnOk result (HasOneNumberEach dia.new) }
     ensures diagram { IfOk result (GivesDiagram dia.new) }
     ensures looks { IfOk result (λ p. (env : List AtomDef) → AreLooking env dia.old slots.items unwanted.items → LooksAtKinds env (condition dia.old found) → LooksAtParts env dia.new p) }
     ensures tells { IfOk result (λ p. (env : List AtomDef) → All (IsSound env dia.old) (M.kept m.now) → TellsStanding env dia.new (M.kept m.now) (places_of dia.old slots.items) (all_askings dia.old unwanted.items) target (condition dia.old found) p) }
@@ -123,9 +116,7 @@ pub(crate) fn parts_at<M: Member>(
     others[target] = Slot::Absent;
     let undecided = aim(unwanted, target, alloc)?;
     let none = Vec::new(alloc);
-    cells(
-        alloc, dia, never, &others, &undecided, &none, part, found, m,
-    )
+    cells(alloc, dia, &others, &undecided, &none, part, found, m)
 }
 
 /// The question of the part that a slot may have.

@@ -1,10 +1,9 @@
 //! Parts behind all places that atoms tell apart.
-ghost use Rattle.std.specs.Prelude.{All, IfOk, List, OnOk};
+ghost use Rattle.std.specs.Prelude.{All, IfOk, List};
 ghost use Rattle.type_model.specs.declared.atoms.AtomDef.{AtomDef};
-ghost use Rattle.type_diagrams.specs.Conditions.{nothing};
 ghost use Rattle.type_diagrams.specs.Tables.{IsDiagram, condition};
 ghost use Rattle.type_diagrams.specs.Turns.{IsSound};
-ghost use Rattle.type_diagrams.specs.Whole.{Extends, Gives, HasOneNumberEach};
+ghost use Rattle.type_diagrams.specs.Whole.{Extends};
 ghost use Rattle.empty_product.specs.Further.{TellsFurther, rest_askings_of};
 
 use crate::slots::find_part;
@@ -38,24 +37,20 @@ pub(crate) struct FurtherParts {
 pub(crate) fn further_parts<M: Member>(
     alloc: Global,
     dia: &mut Diagrams,
-    never: u32,
     rest: u32,
     demands: &[RestDemand],
     m: &M,
 ) -> Result<Further, Memory>
-    requires never { Gives dia.old nothing never }
     requires rest { IsDiagram dia.old rest }
     requires demands { All (λ d. IsDiagram dia.old d.question) demands.now }
-    requires one { HasOneNumberEach dia.old }
     ensures extends { Extends 0 dia.old dia.new }
-    ensures one { OnOk result (HasOneNumberEach dia.new) }
     ensures tells { IfOk result (λ further. (env : List AtomDef) → All (IsSound env dia.old) (M.kept m.now) → TellsFurther env dia.new (M.kept m.now) (condition dia.old rest) (rest_askings_of dia.old demands.now) further) }
 {
     let mut parts = Vec::new(alloc);
     let mut staying = Vec::new(alloc);
     for demand in demands {
         let question = dia.diff(rest, demand.question)?;
-        match find_part(alloc, dia, never, question, m)? {
+        match find_part(alloc, dia, question, m)? {
             Finding::Part(part) => parts.push(part)?,
             Finding::Held => staying.push(demand.atom)?,
             Finding::Unknown => return Ok(Further::Ask(question)),

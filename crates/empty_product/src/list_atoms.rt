@@ -1,11 +1,10 @@
 //! What list atoms say of lengths and places, and which of them are out of play.
-ghost use Rattle.std.specs.Prelude.{ℕ, ◌∷◌, ◌↔◌, ◌≡◌, ◌<◌, ◌≤◌, All, Any, IfOk, IsTrue, OnOk, Option, Some, [], false, length, map};
+ghost use Rattle.std.specs.Prelude.{ℕ, ◌∷◌, ◌↔◌, ◌≡◌, ◌<◌, ◌≤◌, All, Any, IfOk, IsTrue, Option, Some, [], false, length, map};
 ghost use Rattle.std.specs.Option.{option_copied};
-ghost use Rattle.type_model.specs.Defined.{IsClosed};
 ghost use Rattle.type_diagrams.specs.Atoms.{parts_of, list_parts as parts};
-ghost use Rattle.type_diagrams.specs.Conditions.{asks, nothing};
+ghost use Rattle.type_diagrams.specs.Conditions.{asks};
 ghost use Rattle.type_diagrams.specs.Members.{AllowsLength, Fixes, IsListOutOfPlay, item_of};
-ghost use Rattle.type_diagrams.specs.Whole.{Extends, Gives, HasOneNumberEach};
+ghost use Rattle.type_diagrams.specs.Whole.{Extends, Gives};
 ghost use Rattle.type_diagrams.specs.Tables.{IsDiagram};
 ghost use Rattle.empty_product.specs.Lists.{AreAsked, IsApartFrom};
 ghost use Rattle.empty_product.specs.Play.{AreInPlay, IsListAtom};
@@ -74,21 +73,17 @@ pub(crate) fn longest_prefix(defs: &[AtomDef], atoms: &[u32]) -> usize
 pub(crate) fn item_question(
     env: &TypeEnv,
     dia: &mut Diagrams,
-    never: u32,
     atom: u32,
     place: usize,
 ) -> Result<u32, Memory>
     requires atom { IsListAtom env.now atom }
-    requires never { Gives dia.old nothing never }
-    requires one { HasOneNumberEach dia.old }
     ensures extends { Extends (length env.now) dia.old dia.new }
-    ensures one { OnOk result (HasOneNumberEach dia.new) }
     ensures made { IfOk result (Gives dia.new (item_of env.now place atom)) }
 {
     let parts = list_parts(env.defs(), atom);
     match parts.fixed.get(place).or(parts.rest) {
         Some(ty) => dia.of(env, &ty.sem),
-        None => Ok(never),
+        None => dia.nothing(),
     }
 }
 
@@ -96,20 +91,16 @@ pub(crate) fn item_question(
 pub(crate) fn items_question(
     env: &TypeEnv,
     dia: &mut Diagrams,
-    never: u32,
     atoms: &[u32],
     place: usize,
 ) -> Result<u32, Memory>
     requires atoms { All (IsListAtom env.now) atoms.now }
-    requires never { Gives dia.old nothing never }
-    requires one { HasOneNumberEach dia.old }
     ensures extends { Extends (length env.now) dia.old dia.new }
-    ensures one { OnOk result (HasOneNumberEach dia.new) }
     ensures made { IfOk result (Gives dia.new (asks (map (item_of env.now place) atoms.now) [])) }
 {
     let mut question = dia.every()?;
     for atom in atoms {
-        let asked = item_question(env, dia, never, *atom, place)?;
+        let asked = item_question(env, dia, *atom, place)?;
         question = dia.inter(question, asked)?;
     }
     Ok(question)
@@ -121,25 +112,21 @@ pub(crate) fn lists_in_play(
     alloc: Global,
     env: &TypeEnv,
     dia: &mut Diagrams,
-    never: u32,
     wanted: &[u32],
     unwanted: &[u32],
 ) -> Result<Vec<u32>, Memory>
     requires wanted { All (IsListAtom env.now) wanted.now }
     requires unwanted { All (IsListAtom env.now) unwanted.now }
-    requires never { Gives dia.old nothing never }
-    requires one { HasOneNumberEach dia.old }
     ensures extends { Extends (length env.now) dia.old dia.new }
-    ensures one { OnOk result (HasOneNumberEach dia.new) }
     ensures playing { IfOk result (λ playing. AreInPlay (IsListOutOfPlay env.now wanted.now) unwanted.now playing.items) }
 {
-    let fixed = fixed_questions(alloc, env, dia, never, wanted)?;
+    let fixed = fixed_questions(alloc, env, dia, wanted)?;
     let mut playing = Vec::new(alloc);
     for atom in unwanted {
         if !has_common_length(env.defs(), wanted, *atom) {
             continue;
         }
-        if is_plainly_apart(env, dia, never, &fixed, *atom)? {
+        if is_plainly_apart(env, dia, &fixed, *atom)? {
             continue;
         }
         playing.push(*atom)?;
@@ -152,20 +139,16 @@ fn fixed_questions(
     alloc: Global,
     env: &TypeEnv,
     dia: &mut Diagrams,
-    never: u32,
     atoms: &[u32],
 ) -> Result<Vec<u32>, Memory>
     requires atoms { All (IsListAtom env.now) atoms.now }
-    requires never { Gives dia.old nothing never }
-    requires one { HasOneNumberEach dia.old }
     ensures extends { Extends (length env.now) dia.old dia.new }
-    ensures one { OnOk result (HasOneNumberEach dia.new) }
     ensures count { IfOk result (λ fixed. (place : ℕ) → (place < length fixed.items) ↔ Any (Fixes env.now place) atoms.now) }
     ensures made { IfOk result (λ fixed. AreAsked dia.new (λ place. asks (map (item_of env.now place) atoms.now) []) fixed.items) }
 {
     let mut fixed = Vec::new(alloc);
     for place in 0..longest_prefix(env.defs(), atoms) {
-        fixed.push(items_question(env, dia, never, atoms, place)?)?;
+        fixed.push(items_question(env, dia, atoms, place)?)?;
     }
     Ok(fixed)
 }
@@ -187,21 +170,18 @@ fn has_common_length(defs: &[AtomDef], wanted: &[u32], atom: u32) -> bool
 fn is_plainly_apart(
     env: &TypeEnv,
     dia: &mut Diagrams,
-    never: u32,
     fixed: &[u32],
     atom: u32,
 ) -> Result<bool, Memory>
     requires atom { IsListAtom env.now atom }
-    requires never { Gives dia.old nothing never }
     requires fixed { All (IsDiagram dia.old) fixed.now }
-    requires one { HasOneNumberEach dia.old }
     ensures extends { Extends (length env.now) dia.old dia.new }
-    ensures one { OnOk result (HasOneNumberEach dia.new) }
     ensures apart { IfOk result (λ is. IsTrue is ↔ IsApartFrom env.now dia.old fixed.now atom) }
 {
     for place in 0..fixed.len() {
-        let asked = item_question(env, dia, never, atom, place)?;
-        if dia.inter(asked, fixed[place])? == never {
+        let asked = item_question(env, dia, atom, place)?;
+        let common = dia.inter(asked, fixed[place])?;
+        if dia.is_nothing(common) {
             return Ok(true);
         }
     }

@@ -6,7 +6,7 @@ ghost use Rattle.type_diagrams.specs.Kinds.{the_mark};
 ghost use Rattle.type_diagrams.specs.Projections.{Projects};
 ghost use Rattle.type_diagrams.specs.Tables.{condition};
 ghost use Rattle.type_diagrams.specs.Turns.{IsReady, IsSound};
-ghost use Rattle.type_diagrams.specs.Whole.{Extends, Gives, HasOneNumberEach};
+ghost use Rattle.type_diagrams.specs.Whole.{Extends, Gives};
 ghost use Rattle.empty_product.specs.Items.{GivesLooking, HasShape, IsLooking, TellsIndex, TellsItemsAt, TellsListsAt, TellsListsBefore};
 ghost use Rattle.empty_product.specs.Lists.{AreAsked, FixesBefore, IsSameFrom, item_asked};
 ghost use Rattle.empty_product.specs.Parts.{index_keys};
@@ -21,7 +21,7 @@ use crate::slots::{Known, standing};
 use bal_base::Memory;
 use std::alloc::Global;
 use type_diagrams::{Diagrams, Member, Path, Projection};
-use type_model::{BasicSet, SemType, TypeEnv};
+use type_model::TypeEnv;
 
 /// No list has an item at this index or behind it.
 const NO_INDEX: u64 = 0x7fff_ffff_ffff_ffff;
@@ -37,16 +37,15 @@ pub fn list_parts<M: Member>(
 ) -> Result<Projection, Memory>
     requires { IsReady env.now dia.old (M.kept m.now) Lists path.now }
     ensures extends { Extends (length env.now) dia.old dia.new }
-    ensures one { OnOk result (HasOneNumberEach dia.new) }
     ensures projects { IfOk result (Projects env.now dia.new (M.kept m.now) Lists path.now (index_keys place)) }
 {
     let wanted = path.wanted(alloc)?;
     let named = path.unwanted(alloc)?;
-    let never = dia.of(env, &SemType::Basic(BasicSet::Never))?;
+    let never = dia.nothing()?;
     if has_both_marks(path) {
         return Ok(Projection::Parts(never));
     }
-    let unwanted = lists_in_play(alloc, env, dia, never, &wanted, &named)?;
+    let unwanted = lists_in_play(alloc, env, dia, &wanted, &named)?;
     let marked = path.is_marked();
     path_items(alloc, env, dia, never, &wanted, &unwanted, marked, place, m)
 }
@@ -66,10 +65,8 @@ fn path_items<M: Member>(
     requires wanted { All (IsListAtom env.now) wanted.now }
     requires unwanted { All (IsListAtom env.now) unwanted.now }
     requires never { Gives dia.old nothing never }
-    requires one { HasOneNumberEach dia.old }
     requires sound { All (IsSound env.now dia.old) (M.kept m.now) }
     ensures extends { Extends (length env.now) dia.old dia.new }
-    ensures one { OnOk result (HasOneNumberEach dia.new) }
     ensures few { OnOk result (length env.now ≤ the_mark) }
     ensures question { IfOk result (GivesLooking env.now dia.new) }
     ensures tells { IfOk result (TellsIndex env.now (item_asked env.now wanted.now marked) dia.new (M.kept m.now) wanted.now unwanted.now place) }
@@ -77,7 +74,7 @@ fn path_items<M: Member>(
     let longest = longest_prefix(env.defs(), wanted);
     let other = longest_prefix(env.defs(), unwanted);
     let prefix = longest.max(other);
-    let made = further_bases(alloc, env, dia, never, wanted, marked, prefix)?;
+    let made = further_bases(alloc, env, dia, wanted, marked, prefix)?;
     let bases = made.as_slice();
     match place {
         Some(index) => items_at_index(alloc, env, dia, never, bases, wanted, unwanted, index, m),
@@ -94,21 +91,17 @@ fn further_bases(
     alloc: Global,
     env: &TypeEnv,
     dia: &mut Diagrams,
-    never: u32,
     wanted: &[u32],
     marked: bool,
     prefix: usize,
 ) -> Result<Vec<u32>, Memory>
     requires wanted { All (IsListAtom env.now) wanted.now }
-    requires never { Gives dia.old nothing never }
-    requires one { HasOneNumberEach dia.old }
     ensures extends { Extends (length env.now) dia.old dia.new }
-    ensures one { OnOk result (HasOneNumberEach dia.new) }
     ensures count { IfOk result (λ bases. length bases.items ≡ prefix + 2) }
     ensures made { IfOk result (λ bases. AreAsked dia.new (item_asked env.now wanted.now marked) bases.items) }
 {
-    let mut all = bases(alloc, env, dia, never, wanted, marked, prefix)?;
-    let further = base(env, dia, never, wanted, marked, all.len())?;
+    let mut all = bases(alloc, env, dia, wanted, marked, prefix)?;
+    let further = base(env, dia, wanted, marked, all.len())?;
     all.push(further)?;
     Ok(all)
 }
@@ -132,10 +125,8 @@ fn items_at_index<M: Member>(
     requires wanted_before { All (FixesBefore env.now (length bases.now - 2)) wanted.now }
     requires unwanted_before { All (FixesBefore env.now (length bases.now - 2)) unwanted.now }
     requires never { Gives dia.old nothing never }
-    requires one { HasOneNumberEach dia.old }
     requires sound { All (IsSound env.now dia.old) (M.kept m.now) }
     ensures extends { Extends (length env.now) dia.old dia.new }
-    ensures one { OnOk result (HasOneNumberEach dia.new) }
     ensures question { IfOk result (GivesLooking env.now dia.new) }
     ensures tells { IfOk result (λ p. (base : ℕ → Condition) → AreAsked dia.old base bases.now → IsSameFrom (length bases.now - 2) base → TellsIndex env.now base dia.new (M.kept m.now) wanted.now unwanted.now (Some index) p) }
 {
@@ -143,9 +134,7 @@ fn items_at_index<M: Member>(
         return Ok(Projection::Parts(never));
     }
     let place = index.min((bases.len() - 2) as u64) as usize;
-    items_at(
-        alloc, env, dia, never, bases, wanted, unwanted, place, never, m,
-    )
+    items_at(alloc, env, dia, bases, wanted, unwanted, place, never, m)
 }
 
 /// What stands at the first places, in lists of each length.
@@ -167,18 +156,14 @@ fn items_before<M: Member>(
     requires wanted_before { All (FixesBefore env.now (length bases.now - 1)) wanted.now }
     requires unwanted_before { All (FixesBefore env.now (length bases.now - 1)) unwanted.now }
     requires never { Gives dia.old nothing never }
-    requires one { HasOneNumberEach dia.old }
     requires sound { All (IsSound env.now dia.old) (M.kept m.now) }
     ensures extends { Extends (length env.now) dia.old dia.new }
-    ensures one { OnOk result (HasOneNumberEach dia.new) }
     ensures question { IfOk result (GivesLooking env.now dia.new) }
     ensures tells { IfOk result (λ p. (base : ℕ → Condition) → AreAsked dia.old base bases.now → IsSameFrom (length bases.now - 1) base → TellsListsBefore env.now base dia.new (M.kept m.now) wanted.now unwanted.now (λ n. n < 2 ^ 63) places nothing p) }
 {
     let mut found = never;
     for place in 0..places {
-        match items_at(
-            alloc, env, dia, never, bases, wanted, unwanted, place, found, m,
-        )? {
+        match items_at(alloc, env, dia, bases, wanted, unwanted, place, found, m)? {
             Projection::Parts(parts) => found = parts,
             Projection::Ask(question) => return Ok(Projection::Ask(question)),
         }
@@ -191,7 +176,6 @@ fn items_at<M: Member>(
     alloc: Global,
     env: &TypeEnv,
     dia: &mut Diagrams,
-    never: u32,
     bases: &[u32],
     wanted: &[u32],
     unwanted: &[u32],
@@ -205,20 +189,15 @@ fn items_at<M: Member>(
     requires place { place < length bases.now - 1 }
     requires wanted_before { All (FixesBefore env.now (length bases.now - 1)) wanted.now }
     requires unwanted_before { All (FixesBefore env.now (length bases.now - 1)) unwanted.now }
-    requires never { Gives dia.old nothing never }
     requires found { IsLooking env.now dia.old found }
-    requires one { HasOneNumberEach dia.old }
     requires sound { All (IsSound env.now dia.old) (M.kept m.now) }
     ensures extends { Extends (length env.now) dia.old dia.new }
-    ensures one { OnOk result (HasOneNumberEach dia.new) }
     ensures question { IfOk result (GivesLooking env.now dia.new) }
     ensures tells { IfOk result (λ p. (base : ℕ → Condition) → AreAsked dia.old base bases.now → IsSameFrom (length bases.now - 1) base → TellsListsAt env.now base dia.new (M.kept m.now) wanted.now unwanted.now (λ n. n < 2 ^ 63) place (condition dia.old found) p) }
 {
-    match short_items(
-        alloc, env, dia, never, bases, wanted, unwanted, place, found, m,
-    )? {
+    match short_items(alloc, env, dia, bases, wanted, unwanted, place, found, m)? {
         Projection::Parts(parts) => items_of_longer(
-            alloc, env, dia, never, bases, wanted, unwanted, place, parts, m,
+            alloc, env, dia, bases, wanted, unwanted, place, parts, m,
         ),
         Projection::Ask(question) => Ok(Projection::Ask(question)),
     }
@@ -229,7 +208,6 @@ fn short_items<M: Member>(
     alloc: Global,
     env: &TypeEnv,
     dia: &mut Diagrams,
-    never: u32,
     bases: &[u32],
     wanted: &[u32],
     unwanted: &[u32],
@@ -241,12 +219,9 @@ fn short_items<M: Member>(
     requires unwanted { All (IsListAtom env.now) unwanted.now }
     requires bases { All (IsLooking env.now dia.old) bases.now }
     requires place { place < length bases.now }
-    requires never { Gives dia.old nothing never }
     requires found { IsLooking env.now dia.old found }
-    requires one { HasOneNumberEach dia.old }
     requires sound { All (IsSound env.now dia.old) (M.kept m.now) }
     ensures extends { Extends (length env.now) dia.old dia.new }
-    ensures one { OnOk result (HasOneNumberEach dia.new) }
     ensures question { IfOk result (GivesLooking env.now dia.new) }
     ensures tells { IfOk result (λ p. (base : ℕ → Condition) → AreAsked dia.old base bases.now → TellsListsAt env.now base dia.new (M.kept m.now) wanted.now unwanted.now (λ n. n < length bases.now) place (condition dia.old found) p) }
 {
@@ -256,7 +231,6 @@ fn short_items<M: Member>(
             alloc,
             env,
             dia,
-            never,
             &bases[..length],
             wanted,
             unwanted,
@@ -276,7 +250,6 @@ fn items_with_length<M: Member>(
     alloc: Global,
     env: &TypeEnv,
     dia: &mut Diagrams,
-    never: u32,
     bases: &[u32],
     wanted: &[u32],
     unwanted: &[u32],
@@ -288,12 +261,9 @@ fn items_with_length<M: Member>(
     requires unwanted { All (IsListAtom env.now) unwanted.now }
     requires bases { All (IsLooking env.now dia.old) bases.now }
     requires place { place < length bases.now }
-    requires never { Gives dia.old nothing never }
     requires found { IsLooking env.now dia.old found }
-    requires one { HasOneNumberEach dia.old }
     requires sound { All (IsSound env.now dia.old) (M.kept m.now) }
     ensures extends { Extends (length env.now) dia.old dia.new }
-    ensures one { OnOk result (HasOneNumberEach dia.new) }
     ensures question { IfOk result (GivesLooking env.now dia.new) }
     ensures tells { IfOk result (λ p. (base : ℕ → Condition) → AreAsked dia.old base bases.now → TellsListsAt env.now base dia.new (M.kept m.now) wanted.now unwanted.now (λ n. n ≡ length bases.now) place (condition dia.old found) p) }
 {
@@ -301,7 +271,7 @@ fn items_with_length<M: Member>(
         return Ok(Projection::Parts(found));
     }
     let atoms = with_length(alloc, env.defs(), unwanted, bases.len())?;
-    items_of(alloc, env, dia, never, bases, &atoms, place, found, m)
+    items_of(alloc, env, dia, bases, &atoms, place, found, m)
 }
 
 /// Besides `found` what stands at a place in lists that are longer than each fixed prefix.
@@ -309,7 +279,6 @@ fn items_of_longer<M: Member>(
     alloc: Global,
     env: &TypeEnv,
     dia: &mut Diagrams,
-    never: u32,
     bases: &[u32],
     wanted: &[u32],
     unwanted: &[u32],
@@ -323,12 +292,9 @@ fn items_of_longer<M: Member>(
     requires place { place < length bases.now - 1 }
     requires wanted_before { All (FixesBefore env.now (length bases.now - 1)) wanted.now }
     requires unwanted_before { All (FixesBefore env.now (length bases.now - 1)) unwanted.now }
-    requires never { Gives dia.old nothing never }
     requires found { IsLooking env.now dia.old found }
-    requires one { HasOneNumberEach dia.old }
     requires sound { All (IsSound env.now dia.old) (M.kept m.now) }
     ensures extends { Extends (length env.now) dia.old dia.new }
-    ensures one { OnOk result (HasOneNumberEach dia.new) }
     ensures question { IfOk result (GivesLooking env.now dia.new) }
     ensures tells { IfOk result (λ p. (base : ℕ → Condition) → AreAsked dia.old base bases.now → IsSameFrom (length bases.now - 1) base → TellsListsAt env.now base dia.new (M.kept m.now) wanted.now unwanted.now (λ n. (length bases.now ≤ n) × (n < 2 ^ 63)) place (condition dia.old found) p) }
 {
@@ -337,8 +303,8 @@ fn items_of_longer<M: Member>(
     }
     let rest = bases[bases.len() - 1];
     let atoms = with_length(alloc, env.defs(), unwanted, bases.len())?;
-    match standing(dia, never, rest, m) {
-        Known::Full => longer_items(alloc, env, dia, never, bases, &atoms, place, found, m),
+    match standing(dia, rest, m) {
+        Known::Full => longer_items(alloc, env, dia, bases, &atoms, place, found, m),
         Known::Void => Ok(Projection::Parts(found)),
         Known::Unknown => Ok(Projection::Ask(rest)),
     }
@@ -350,7 +316,6 @@ fn longer_items<M: Member>(
     alloc: Global,
     env: &TypeEnv,
     dia: &mut Diagrams,
-    never: u32,
     bases: &[u32],
     atoms: &[u32],
     place: usize,
@@ -362,18 +327,15 @@ fn longer_items<M: Member>(
     requires bases { All (IsLooking env.now dia.old) bases.now }
     requires place { place < length bases.now - 1 }
     requires last { HasShape env.now (condition dia.old (slice_index bases.now (length bases.now - 1))) }
-    requires never { Gives dia.old nothing never }
     requires found { IsLooking env.now dia.old found }
-    requires one { HasOneNumberEach dia.old }
     requires sound { All (IsSound env.now dia.old) (M.kept m.now) }
     ensures extends { Extends (length env.now) dia.old dia.new }
-    ensures one { OnOk result (HasOneNumberEach dia.new) }
     ensures question { IfOk result (GivesLooking env.now dia.new) }
     ensures tells { IfOk result (λ p. (base : ℕ → Condition) → AreAsked dia.old base bases.now → IsSameFrom (length bases.now - 1) base → TellsItemsAt env.now base dia.new (M.kept m.now) (λ n. (length bases.now ≤ n) × (n < 2 ^ 63)) atoms.now place (condition dia.old found) p) }
 {
     let prefix = bases.len() - 1;
-    let demands = rest_demands(alloc, env, dia, never, atoms, prefix)?;
-    match further_parts(alloc, dia, never, bases[prefix], &demands, m)? {
+    let demands = rest_demands(alloc, env, dia, atoms, prefix)?;
+    match further_parts(alloc, dia, bases[prefix], &demands, m)? {
         Further::Parts(split) => {
             // A list can be as long as the bases with all further parts behind them.
             let _room: Vec<u32> = Vec::with_capacity(alloc, bases.len() + split.parts.len())?;
@@ -381,7 +343,6 @@ fn longer_items<M: Member>(
                 alloc,
                 env,
                 dia,
-                never,
                 &bases[..prefix],
                 &split.staying,
                 place,
@@ -398,7 +359,6 @@ fn items_of<M: Member>(
     alloc: Global,
     env: &TypeEnv,
     dia: &mut Diagrams,
-    never: u32,
     bases: &[u32],
     atoms: &[u32],
     place: usize,
@@ -408,16 +368,13 @@ fn items_of<M: Member>(
     requires atoms { All (IsListAtom env.now) atoms.now }
     requires bases { All (IsLooking env.now dia.old) bases.now }
     requires place { place < length bases.now }
-    requires never { Gives dia.old nothing never }
     requires found { IsLooking env.now dia.old found }
-    requires one { HasOneNumberEach dia.old }
     requires sound { All (IsSound env.now dia.old) (M.kept m.now) }
     ensures extends { Extends (length env.now) dia.old dia.new }
-    ensures one { OnOk result (HasOneNumberEach dia.new) }
     ensures question { IfOk result (GivesLooking env.now dia.new) }
     ensures tells { IfOk result (λ p. (base : ℕ → Condition) → AreAsked dia.old base bases.now → TellsItemsAt env.now base dia.new (M.kept m.now) (λ n. n ≡ length bases.now) atoms.now place (condition dia.old found) p) }
 {
     let slots = bases_slots(alloc, bases)?;
-    let asked = all_demands(alloc, env, dia, never, atoms, bases.len())?;
-    parts_at(alloc, dia, never, slots, asked, place, found, m)
+    let asked = all_demands(alloc, env, dia, atoms, bases.len())?;
+    parts_at(alloc, dia, slots, asked, place, found, m)
 }

@@ -1,12 +1,12 @@
 //! List paths.
 ghost use Rattle.std.specs.Prelude.{ℕ, ◌+◌, ◌-◌, ◌<◌, ◌≤◌, ◌++◌, ◌∷◌, ◌≡◌, All, IfOk, IfSome, List, OnOk, Some, ⊤, length, map, slice_index};
 ghost use Rattle.type_diagrams.specs.declared.kind.Kind.TheVariants.{List as Lists};
-ghost use Rattle.type_diagrams.specs.Conditions.{Condition, IsShapeOf, nothing};
+ghost use Rattle.type_diagrams.specs.Conditions.{Condition, IsShapeOf};
 ghost use Rattle.type_diagrams.specs.Kinds.{the_mark};
 ghost use Rattle.type_diagrams.specs.Members.{AllowsLength, item_of};
 ghost use Rattle.type_diagrams.specs.Tables.{IsDiagram, condition};
 ghost use Rattle.type_diagrams.specs.Turns.{IsReady, IsSound, Turns};
-ghost use Rattle.type_diagrams.specs.Whole.{Extends, Gives, HasOneNumberEach};
+ghost use Rattle.type_diagrams.specs.Whole.{Extends, Gives};
 ghost use Rattle.type_model.specs.declared.atoms.AtomDef.{AtomDef as AnyAtom};
 ghost use Rattle.empty_product.specs.declared.avoid.Filling.TheVariants.{Parts};
 ghost use Rattle.empty_product.specs.declared.slots.Slot.TheVariants.{Present};
@@ -23,7 +23,7 @@ use crate::slots::{Demand, Known, Slot, Unwanted, find_part, standing};
 use bal_base::{Memory, Shape, Shapes};
 use std::alloc::Global;
 use type_diagrams::{Diagrams, Finding, Member, Path, Turn};
-use type_model::{AtomDef, BasicSet, SemType, TypeEnv};
+use type_model::{AtomDef, TypeEnv};
 
 /// A shape of a list path, that there is none, or a question about an item: for each length up to the longest
 /// fixed prefix, and then for all longer lists. A path that doesn't say whether its lists are marked is
@@ -37,18 +37,16 @@ pub fn list_shape<M: Member>(
 ) -> Result<Turn, Memory>
     requires { IsReady env.now dia.old (M.kept m.now) Lists path.now }
     ensures extends { Extends (length env.now) dia.old dia.new }
-    ensures one { OnOk result (HasOneNumberEach dia.new) }
     ensures turns { IfOk result (Turns env.now dia.new (M.kept m.now) Lists path.now) }
 {
     let wanted = path.wanted(alloc)?;
     let named = path.unwanted(alloc)?;
-    let never = dia.of(env, &SemType::Basic(BasicSet::Never))?;
     if has_both_marks(path) {
         return Ok(Turn::Empty);
     }
-    let unwanted = lists_in_play(alloc, env, dia, never, &wanted, &named)?;
+    let unwanted = lists_in_play(alloc, env, dia, &wanted, &named)?;
     let marked = path.is_marked();
-    let filling = path_lists(alloc, env, dia, never, &wanted, &unwanted, marked, m)?;
+    let filling = path_lists(alloc, env, dia, &wanted, &unwanted, marked, m)?;
     turn_of(alloc, marked, filling)
 }
 
@@ -57,7 +55,6 @@ fn path_lists<M: Member>(
     alloc: Global,
     env: &TypeEnv,
     dia: &mut Diagrams,
-    never: u32,
     wanted: &[u32],
     unwanted: &[u32],
     marked: bool,
@@ -65,17 +62,14 @@ fn path_lists<M: Member>(
 ) -> Result<Filling, Memory>
     requires wanted { All (IsListAtom env.now) wanted.now }
     requires unwanted { All (IsListAtom env.now) unwanted.now }
-    requires never { Gives dia.old nothing never }
-    requires one { HasOneNumberEach dia.old }
     requires sound { All (IsSound env.now dia.old) (M.kept m.now) }
     ensures extends { Extends (length env.now) dia.old dia.new }
-    ensures one { OnOk result (HasOneNumberEach dia.new) }
     ensures few { OnOk result (length env.now ≤ the_mark) }
     ensures tells { IfOk result (TellsLists env.now (item_asked env.now wanted.now marked) dia.new (M.kept m.now) wanted.now unwanted.now (λ n. ⊤)) }
 {
     let prefix = longest_prefix(env.defs(), wanted).max(longest_prefix(env.defs(), unwanted));
-    let bases = bases(alloc, env, dia, never, wanted, marked, prefix)?;
-    all_lists(alloc, env, dia, never, &bases, wanted, unwanted, m)
+    let bases = bases(alloc, env, dia, wanted, marked, prefix)?;
+    all_lists(alloc, env, dia, &bases, wanted, unwanted, m)
 }
 
 /// What is said of the path, where its lists are marked or not.
@@ -114,24 +108,20 @@ pub(crate) fn bases(
     alloc: Global,
     env: &TypeEnv,
     dia: &mut Diagrams,
-    never: u32,
     wanted: &[u32],
     marked: bool,
     prefix: usize,
 ) -> Result<Vec<u32>, Memory>
     requires wanted { All (IsListAtom env.now) wanted.now }
-    requires never { Gives dia.old nothing never }
-    requires one { HasOneNumberEach dia.old }
     ensures extends { Extends (length env.now) dia.old dia.new }
-    ensures one { OnOk result (HasOneNumberEach dia.new) }
     ensures count { IfOk result (λ bases. length bases.items ≡ prefix + 1) }
     ensures made { IfOk result (λ bases. AreAsked dia.new (item_asked env.now wanted.now marked) bases.items) }
 {
     let mut bases = Vec::new(alloc);
     for place in 0..prefix {
-        bases.push(base(env, dia, never, wanted, marked, place)?)?;
+        bases.push(base(env, dia, wanted, marked, place)?)?;
     }
-    bases.push(base(env, dia, never, wanted, marked, prefix)?)?;
+    bases.push(base(env, dia, wanted, marked, prefix)?)?;
     Ok(bases)
 }
 
@@ -139,19 +129,15 @@ pub(crate) fn bases(
 pub(crate) fn base(
     env: &TypeEnv,
     dia: &mut Diagrams,
-    never: u32,
     wanted: &[u32],
     marked: bool,
     place: usize,
 ) -> Result<u32, Memory>
     requires wanted { All (IsListAtom env.now) wanted.now }
-    requires never { Gives dia.old nothing never }
-    requires one { HasOneNumberEach dia.old }
     ensures extends { Extends (length env.now) dia.old dia.new }
-    ensures one { OnOk result (HasOneNumberEach dia.new) }
     ensures made { IfOk result (Gives dia.new (item_asked env.now wanted.now marked place)) }
 {
-    let question = items_question(env, dia, never, wanted, place)?;
+    let question = items_question(env, dia, wanted, place)?;
     frozen_if(env, dia, marked, question)
 }
 
@@ -160,7 +146,6 @@ fn all_lists<M: Member>(
     alloc: Global,
     env: &TypeEnv,
     dia: &mut Diagrams,
-    never: u32,
     bases: &[u32],
     wanted: &[u32],
     unwanted: &[u32],
@@ -172,15 +157,12 @@ fn all_lists<M: Member>(
     requires some { 0 < length bases.now }
     requires wanted_before { All (FixesBefore env.now (length bases.now - 1)) wanted.now }
     requires unwanted_before { All (FixesBefore env.now (length bases.now - 1)) unwanted.now }
-    requires never { Gives dia.old nothing never }
-    requires one { HasOneNumberEach dia.old }
     requires sound { All (IsSound env.now dia.old) (M.kept m.now) }
     ensures extends { Extends (length env.now) dia.old dia.new }
-    ensures one { OnOk result (HasOneNumberEach dia.new) }
     ensures tells { IfOk result (λ filling. (base : ℕ → Condition) → AreAsked dia.old base bases.now → IsSameFrom (length bases.now - 1) base → TellsLists env.now base dia.new (M.kept m.now) wanted.now unwanted.now (λ n. ⊤) filling) }
 {
-    match short_lists(alloc, env, dia, never, bases, wanted, unwanted, m)? {
-        Filling::Empty => long_lists(alloc, env, dia, never, bases, wanted, unwanted, m),
+    match short_lists(alloc, env, dia, bases, wanted, unwanted, m)? {
+        Filling::Empty => long_lists(alloc, env, dia, bases, wanted, unwanted, m),
         Filling::Parts(parts) => Ok(Filling::Parts(parts)),
         Filling::Ask(question) => Ok(Filling::Ask(question)),
     }
@@ -191,7 +173,6 @@ fn short_lists<M: Member>(
     alloc: Global,
     env: &TypeEnv,
     dia: &mut Diagrams,
-    never: u32,
     bases: &[u32],
     wanted: &[u32],
     unwanted: &[u32],
@@ -200,24 +181,12 @@ fn short_lists<M: Member>(
     requires wanted { All (IsListAtom env.now) wanted.now }
     requires unwanted { All (IsListAtom env.now) unwanted.now }
     requires bases { All (IsDiagram dia.old) bases.now }
-    requires never { Gives dia.old nothing never }
-    requires one { HasOneNumberEach dia.old }
     requires sound { All (IsSound env.now dia.old) (M.kept m.now) }
     ensures extends { Extends (length env.now) dia.old dia.new }
-    ensures one { OnOk result (HasOneNumberEach dia.new) }
     ensures tells { IfOk result (λ filling. (base : ℕ → Condition) → AreAsked dia.old base bases.now → TellsLists env.now base dia.new (M.kept m.now) wanted.now unwanted.now (λ n. n < length bases.now) filling) }
 {
     for length in 0..bases.len() {
-        match lists_with_length(
-            alloc,
-            env,
-            dia,
-            never,
-            &bases[..length],
-            wanted,
-            unwanted,
-            m,
-        )? {
+        match lists_with_length(alloc, env, dia, &bases[..length], wanted, unwanted, m)? {
             Filling::Empty => {}
             Filling::Parts(parts) => return Ok(Filling::Parts(parts)),
             Filling::Ask(question) => return Ok(Filling::Ask(question)),
@@ -231,7 +200,6 @@ fn lists_with_length<M: Member>(
     alloc: Global,
     env: &TypeEnv,
     dia: &mut Diagrams,
-    never: u32,
     bases: &[u32],
     wanted: &[u32],
     unwanted: &[u32],
@@ -240,18 +208,15 @@ fn lists_with_length<M: Member>(
     requires wanted { All (IsListAtom env.now) wanted.now }
     requires unwanted { All (IsListAtom env.now) unwanted.now }
     requires bases { All (IsDiagram dia.old) bases.now }
-    requires never { Gives dia.old nothing never }
-    requires one { HasOneNumberEach dia.old }
     requires sound { All (IsSound env.now dia.old) (M.kept m.now) }
     ensures extends { Extends (length env.now) dia.old dia.new }
-    ensures one { OnOk result (HasOneNumberEach dia.new) }
     ensures tells { IfOk result (λ filling. (base : ℕ → Condition) → AreAsked dia.old base bases.now → TellsLists env.now base dia.new (M.kept m.now) wanted.now unwanted.now (λ n. n ≡ length bases.now) filling) }
 {
     if !all_allow_length(env.defs(), wanted, bases.len()) {
         return Ok(Filling::Empty);
     }
     let atoms = with_length(alloc, env.defs(), unwanted, bases.len())?;
-    lists_of(alloc, env, dia, never, bases, &atoms, m)
+    lists_of(alloc, env, dia, bases, &atoms, m)
 }
 
 /// The atoms that have lists of this length.
@@ -279,37 +244,31 @@ fn lists_of<M: Member>(
     alloc: Global,
     env: &TypeEnv,
     dia: &mut Diagrams,
-    never: u32,
     bases: &[u32],
     atoms: &[u32],
     m: &M,
 ) -> Result<Filling, Memory>
     requires atoms { All (IsListAtom env.now) atoms.now }
     requires bases { All (IsDiagram dia.old) bases.now }
-    requires never { Gives dia.old nothing never }
-    requires one { HasOneNumberEach dia.old }
     requires sound { All (IsSound env.now dia.old) (M.kept m.now) }
     ensures extends { Extends (length env.now) dia.old dia.new }
-    ensures one { OnOk result (HasOneNumberEach dia.new) }
     ensures tells { IfOk result (λ filling. (base : ℕ → Condition) → AreAsked dia.old base bases.now → TellsItems env.now base dia.new (M.kept m.now) (λ n. n ≡ length bases.now) atoms.now filling) }
 {
-    if let Some(found) = unsettled(dia, never, bases, m) {
+    if let Some(found) = unsettled(dia, bases, m) {
         return Ok(found);
     }
     let slots = bases_slots(alloc, bases)?;
-    let unwanted = all_demands(alloc, env, dia, never, atoms, bases.len())?;
-    avoid(alloc, dia, never, &slots, &unwanted, m)
+    let unwanted = all_demands(alloc, env, dia, atoms, bases.len())?;
+    avoid(alloc, dia, &slots, &unwanted, m)
 }
 
 /// What is told where not each base has a shape that the table knows.
-fn unsettled<M: Member>(dia: &Diagrams, never: u32, bases: &[u32], m: &M) -> Option<Filling>
-    requires never { Gives dia.now nothing never }
-    requires one { HasOneNumberEach dia.now }
+fn unsettled<M: Member>(dia: &Diagrams, bases: &[u32], m: &M) -> Option<Filling>
     requires bases { All (IsDiagram dia.now) bases.now }
     ensures { IfSome result (λ filling. (env : List AnyAtom) (base : ℕ → Condition) (atoms : List ℕ) → AreAsked dia.now base bases.now → TellsItems env base dia.now (M.kept m.now) (λ n. n ≡ length bases.now) atoms filling) }
 {
     for base in bases {
-        match standing(dia, never, *base, m) {
+        match standing(dia, *base, m) {
             Known::Full => {}
             Known::Void => return Some(Filling::Empty),
             Known::Unknown => return Some(Filling::Ask(*base)),
@@ -334,20 +293,16 @@ pub(crate) fn all_demands(
     alloc: Global,
     env: &TypeEnv,
     dia: &mut Diagrams,
-    never: u32,
     atoms: &[u32],
     places: usize,
 ) -> Result<Vec<Unwanted>, Memory>
     requires atoms { All (IsListAtom env.now) atoms.now }
-    requires never { Gives dia.old nothing never }
-    requires one { HasOneNumberEach dia.old }
     ensures extends { Extends (length env.now) dia.old dia.new }
-    ensures one { OnOk result (HasOneNumberEach dia.new) }
     ensures made { IfOk result (λ us. AreDemandsOf env.now dia.new places atoms.now us.items) }
 {
     let mut unwanted = Vec::new(alloc);
     for atom in atoms {
-        unwanted.push(demands(alloc, env, dia, never, *atom, places)?)?;
+        unwanted.push(demands(alloc, env, dia, *atom, places)?)?;
     }
     Ok(unwanted)
 }
@@ -357,20 +312,16 @@ fn demands(
     alloc: Global,
     env: &TypeEnv,
     dia: &mut Diagrams,
-    never: u32,
     atom: u32,
     places: usize,
 ) -> Result<Unwanted, Memory>
     requires atom { IsListAtom env.now atom }
-    requires never { Gives dia.old nothing never }
-    requires one { HasOneNumberEach dia.old }
     ensures extends { Extends (length env.now) dia.old dia.new }
-    ensures one { OnOk result (HasOneNumberEach dia.new) }
     ensures made { IfOk result (λ u. IsDemandOf env.now dia.new places atom u.demands.items) }
 {
     let mut demands = Vec::new(alloc);
     for place in 0..places {
-        let question = item_question(env, dia, never, atom, place)?;
+        let question = item_question(env, dia, atom, place)?;
         demands.push(Demand {
             question,
             required: false,
@@ -384,7 +335,6 @@ fn long_lists<M: Member>(
     alloc: Global,
     env: &TypeEnv,
     dia: &mut Diagrams,
-    never: u32,
     bases: &[u32],
     wanted: &[u32],
     unwanted: &[u32],
@@ -396,24 +346,21 @@ fn long_lists<M: Member>(
     requires some { 0 < length bases.now }
     requires wanted_before { All (FixesBefore env.now (length bases.now - 1)) wanted.now }
     requires unwanted_before { All (FixesBefore env.now (length bases.now - 1)) unwanted.now }
-    requires never { Gives dia.old nothing never }
-    requires one { HasOneNumberEach dia.old }
     requires sound { All (IsSound env.now dia.old) (M.kept m.now) }
     ensures extends { Extends (length env.now) dia.old dia.new }
-    ensures one { OnOk result (HasOneNumberEach dia.new) }
     ensures tells { IfOk result (λ filling. (base : ℕ → Condition) → AreAsked dia.old base bases.now → IsSameFrom (length bases.now - 1) base → TellsLists env.now base dia.new (M.kept m.now) wanted.now unwanted.now (λ n. length bases.now ≤ n) filling) }
 {
     if !all_allow_length(env.defs(), wanted, bases.len()) {
         return Ok(Filling::Empty);
     }
     let rest = bases[bases.len() - 1];
-    let first = match find_part(alloc, dia, never, rest, m)? {
+    let first = match find_part(alloc, dia, rest, m)? {
         Finding::Part(first) => first,
         Finding::Held => return Ok(Filling::Empty),
         Finding::Unknown => return Ok(Filling::Ask(rest)),
     };
     let atoms = with_length(alloc, env.defs(), unwanted, bases.len())?;
-    longer_lists(alloc, env, dia, never, bases, &atoms, first, m)
+    longer_lists(alloc, env, dia, bases, &atoms, first, m)
 }
 
 /// Items for all bases, of which the first item of the last one is given, and further items of that.
@@ -421,7 +368,6 @@ fn longer_lists<M: Member>(
     alloc: Global,
     env: &TypeEnv,
     dia: &mut Diagrams,
-    never: u32,
     bases: &[u32],
     atoms: &[u32],
     first: Shape,
@@ -432,17 +378,14 @@ fn longer_lists<M: Member>(
     requires bases { All (IsDiagram dia.old) bases.now }
     requires some { 0 < length bases.now }
     requires first { IsShapeOf env.now (condition dia.old (slice_index bases.now (length bases.now - 1))) first }
-    requires never { Gives dia.old nothing never }
-    requires one { HasOneNumberEach dia.old }
     requires sound { All (IsSound env.now dia.old) (M.kept m.now) }
     ensures extends { Extends (length env.now) dia.old dia.new }
-    ensures one { OnOk result (HasOneNumberEach dia.new) }
     ensures tells { IfOk result (λ filling. (base : ℕ → Condition) → AreAsked dia.old base bases.now → IsSameFrom (length bases.now - 1) base → TellsItems env.now base dia.new (M.kept m.now) (λ n. length bases.now ≤ n) atoms.now filling) }
 {
     let prefix = bases.len() - 1;
     let rest = bases[prefix];
-    let demands = rest_demands(alloc, env, dia, never, atoms, prefix)?;
-    let split = match further_parts(alloc, dia, never, rest, &demands, m)? {
+    let demands = rest_demands(alloc, env, dia, atoms, prefix)?;
+    let split = match further_parts(alloc, dia, rest, &demands, m)? {
         Further::Parts(split) => split,
         Further::Ask(question) => return Ok(Filling::Ask(question)),
     };
@@ -450,7 +393,7 @@ fn longer_lists<M: Member>(
         parts: further,
         staying,
     } = split;
-    match lists_of(alloc, env, dia, never, &bases[..prefix], &staying, m)? {
+    match lists_of(alloc, env, dia, &bases[..prefix], &staying, m)? {
         Filling::Parts(parts) => with_further(parts, first, further),
         Filling::Empty => Ok(Filling::Empty),
         Filling::Ask(question) => Ok(Filling::Ask(question)),
@@ -462,21 +405,17 @@ pub(crate) fn rest_demands(
     alloc: Global,
     env: &TypeEnv,
     dia: &mut Diagrams,
-    never: u32,
     atoms: &[u32],
     prefix: usize,
 ) -> Result<Vec<RestDemand>, Memory>
     requires atoms { All (IsListAtom env.now) atoms.now }
-    requires never { Gives dia.old nothing never }
-    requires one { HasOneNumberEach dia.old }
     ensures extends { Extends (length env.now) dia.old dia.new }
-    ensures one { OnOk result (HasOneNumberEach dia.new) }
     ensures atoms { IfOk result (λ demands. map (λ d. d.atom) demands.items ≡ atoms.now) }
     ensures made { IfOk result (λ demands. All (λ d. Gives dia.new (item_of env.now prefix d.atom) d.question) demands.items) }
 {
     let mut demands = Vec::new(alloc);
     for atom in atoms {
-        let question = item_question(env, dia, never, *atom, prefix)?;
+        let question = item_question(env, dia, *atom, prefix)?;
         demands.push(RestDemand {
             atom: *atom,
             question,

@@ -1,5 +1,5 @@
 //! What stands at the keys of mappings.
-ghost use Rattle.std.specs.Prelude.{◌≡◌, ◌==◌, ◌++◌, ◌<◌, ◌≤◌, All, IfOk, OnOk, length, true};
+ghost use Rattle.std.specs.Prelude.{◌≡◌, ◌==◌, ◌++◌, ◌<◌, ◌≤◌, All, IfOk, length, true};
 ghost use Rattle.std.specs.List.{list_any};
 ghost use Rattle.std.specs.Option.{option_copied};
 ghost use Rattle.type_diagrams.specs.declared.kind.Kind.TheVariants.{Mapping as Mappings};
@@ -9,7 +9,7 @@ ghost use Rattle.type_diagrams.specs.Members.{IsMappingOutOfPlay, atoms_in};
 ghost use Rattle.type_diagrams.specs.Projections.{Projects};
 ghost use Rattle.type_diagrams.specs.Tables.{IsDiagram, condition};
 ghost use Rattle.type_diagrams.specs.Turns.{HasLiteralsOf, IsReady, IsSound};
-ghost use Rattle.type_diagrams.specs.Whole.{Extends, Gives, HasOneNumberEach};
+ghost use Rattle.type_diagrams.specs.Whole.{Extends, Gives};
 ghost use Rattle.empty_product.specs.Cells.{LooksAtParts};
 ghost use Rattle.empty_product.specs.Keys.{AreInOrder};
 ghost use Rattle.empty_product.specs.MemberParts.{AreAskedKeys, IsRoom, TellsMembers, TellsParts, TellsPlaced};
@@ -24,7 +24,7 @@ use crate::mappings::{all_demands, base, keys_of, rest_demands, slots};
 use bal_base::{Memory, Shape, Text};
 use std::alloc::Global;
 use type_diagrams::{Diagrams, Member, Path, Projection};
-use type_model::{BasicSet, SemType, TypeEnv};
+use type_model::TypeEnv;
 
 /// What stands at a key of a mapping path's shapes, or at any.
 pub fn map_parts<M: Member>(
@@ -37,17 +37,16 @@ pub fn map_parts<M: Member>(
 ) -> Result<Projection, Memory>
     requires { IsReady env.now dia.old (M.kept m.now) Mappings path.now }
     ensures extends { Extends (length env.now) dia.old dia.new }
-    ensures one { OnOk result (HasOneNumberEach dia.new) }
     ensures projects { IfOk result (Projects env.now dia.new (M.kept m.now) Mappings path.now (field_keys (option_copied name.entry))) }
 {
     let holding = path.wanted(alloc)?;
     let wanted = holding.as_slice();
     let failing = path.unwanted(alloc)?;
-    let never = dia.of(env, &SemType::Basic(BasicSet::Never))?;
+    let never = dia.nothing()?;
     if has_both_marks(path) {
         return Ok(Projection::Parts(never));
     }
-    let playing = mappings_in_play(alloc, env, dia, never, wanted, failing.as_slice())?;
+    let playing = mappings_in_play(alloc, env, dia, wanted, failing.as_slice())?;
     let unwanted = playing.as_slice();
     let keys = asked_keys(alloc, env, wanted, unwanted, name)?;
     parts_at_keys(alloc, env, dia, never, path, unwanted, keys.as_slice(), m)
@@ -96,10 +95,8 @@ fn parts_at_keys<M: Member>(
     requires play { AreInPlay (IsMappingOutOfPlay env.now (atoms_in path.now.pos)) (atoms_in path.now.neg) unwanted.now }
     requires one_way { ¬ ((list_any (λ l. l == the_mark) path.now.pos ≡ true) × (list_any (λ l. l == the_mark) path.now.neg ≡ true)) }
     requires never { Gives dia.old nothing never }
-    requires one { HasOneNumberEach dia.old }
     requires sound { All (IsSound env.now dia.old) (M.kept m.now) }
     ensures extends { Extends (length env.now) dia.old dia.new }
-    ensures one { OnOk result (HasOneNumberEach dia.new) }
     ensures tells { IfOk result (TellsParts env.now dia.new (M.kept m.now) path.now unwanted.now keys.now) }
 {
     let holding = path.wanted(alloc)?;
@@ -107,9 +104,7 @@ fn parts_at_keys<M: Member>(
     let marked = path.is_marked();
     let mut found = never;
     for key in keys {
-        let next = parts_at_key(
-            alloc, env, dia, never, wanted, marked, unwanted, key, found, m,
-        )?;
+        let next = parts_at_key(alloc, env, dia, wanted, marked, unwanted, key, found, m)?;
         match next {
             Projection::Parts(parts) => found = parts,
             Projection::Ask(question) => return Ok(Projection::Ask(question)),
@@ -123,7 +118,6 @@ fn parts_at_key<M: Member>(
     alloc: Global,
     env: &TypeEnv,
     dia: &mut Diagrams,
-    never: u32,
     wanted: &[u32],
     marked: bool,
     unwanted: &[u32],
@@ -133,12 +127,9 @@ fn parts_at_key<M: Member>(
 ) -> Result<Projection, Memory>
     requires wanted { All (IsMappingAtom env.now) wanted.now }
     requires unwanted { All (IsMappingAtom env.now) unwanted.now }
-    requires never { Gives dia.old nothing never }
     requires found { IsDiagram dia.old found }
-    requires one { HasOneNumberEach dia.old }
     requires sound { All (IsSound env.now dia.old) (M.kept m.now) }
     ensures extends { Extends (length env.now) dia.old dia.new }
-    ensures one { OnOk result (HasOneNumberEach dia.new) }
     ensures looks { IfOk result (λ p. LooksAtKinds env.now (condition dia.old found) → LooksAtParts env.now dia.new p) }
     ensures tells { IfOk result (TellsMembers env.now wanted.now marked dia.new (M.kept m.now) unwanted.now key.now (condition dia.old found)) }
 {
@@ -146,16 +137,16 @@ fn parts_at_key<M: Member>(
     let target = add_key(&mut keys, key)?;
     let all = keys.as_slice();
     let fresh = key_behind(alloc, all)?;
-    let rest = base(env, dia, never, wanted, marked, &fresh)?;
-    let made = rest_demands(alloc, env, dia, never, unwanted, &fresh)?;
+    let rest = base(env, dia, wanted, marked, &fresh)?;
+    let made = rest_demands(alloc, env, dia, unwanted, &fresh)?;
     let demands = made.as_slice();
-    let split = further_parts(alloc, dia, never, rest, demands, m)?;
+    let split = further_parts(alloc, dia, rest, demands, m)?;
     match split {
         Further::Parts(FurtherParts { parts, staying }) => {
             let _room = keys_behind(alloc, all, parts.as_slice())?;
             let atoms = staying.as_slice();
             placed_parts(
-                alloc, env, dia, never, wanted, marked, atoms, all, target, found, m,
+                alloc, env, dia, wanted, marked, atoms, all, target, found, m,
             )
         }
         Further::Ask(question) => Ok(Projection::Ask(question)),
@@ -191,7 +182,6 @@ fn placed_parts<M: Member>(
     alloc: Global,
     env: &TypeEnv,
     dia: &mut Diagrams,
-    never: u32,
     wanted: &[u32],
     marked: bool,
     atoms: &[u32],
@@ -203,16 +193,13 @@ fn placed_parts<M: Member>(
     requires wanted { All (IsMappingAtom env.now) wanted.now }
     requires atoms { All (IsMappingAtom env.now) atoms.now }
     requires target { target < length keys.now }
-    requires never { Gives dia.old nothing never }
     requires found { IsDiagram dia.old found }
-    requires one { HasOneNumberEach dia.old }
     requires sound { All (IsSound env.now dia.old) (M.kept m.now) }
     ensures extends { Extends (length env.now) dia.old dia.new }
-    ensures one { OnOk result (HasOneNumberEach dia.new) }
     ensures looks { IfOk result (λ p. LooksAtKinds env.now (condition dia.old found) → LooksAtParts env.now dia.new p) }
     ensures tells { IfOk result (TellsPlaced env.now wanted.now marked dia.new (M.kept m.now) keys.now target atoms.now (condition dia.old found)) }
 {
-    let places = slots(alloc, env, dia, never, wanted, marked, keys)?;
-    let asked = all_demands(alloc, env, dia, never, atoms, keys)?;
-    parts_at(alloc, dia, never, places, asked, target, found, m)
+    let places = slots(alloc, env, dia, wanted, marked, keys)?;
+    let asked = all_demands(alloc, env, dia, atoms, keys)?;
+    parts_at(alloc, dia, places, asked, target, found, m)
 }

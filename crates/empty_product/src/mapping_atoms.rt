@@ -6,11 +6,11 @@ ghost use Rattle.bal_base.specs.Valid.{IsText};
 ghost use Rattle.type_model.specs.Defined.{IsDefined, IsEnv};
 ghost use Rattle.type_model.specs.Places.{is_same_text};
 ghost use Rattle.type_diagrams.specs.Atoms.{parts_of, mapping_parts as parts};
-ghost use Rattle.type_diagrams.specs.Conditions.{asks, nothing};
+ghost use Rattle.type_diagrams.specs.Conditions.{asks};
 ghost use Rattle.type_diagrams.specs.Kinds.{the_mark};
 ghost use Rattle.type_diagrams.specs.Members.{IsMappingOutOfPlay, Requires, member_of, type_asked};
 ghost use Rattle.type_diagrams.specs.Tables.{IsDiagram};
-ghost use Rattle.type_diagrams.specs.Whole.{Extends, Gives, HasOneNumberEach};
+ghost use Rattle.type_diagrams.specs.Whole.{Extends, Gives};
 ghost use Rattle.empty_product.specs.Play.{AreInPlay, IsMappingAtom};
 ghost use Rattle.empty_product.specs.Keys.{AreInOrder, HasNamedKeys, HasAdded, IsBehind, Rise};
 ghost use Rattle.empty_product.specs.KeyBases.{AreBases, IsApartAt, IsApartBy, fields_of};
@@ -92,20 +92,16 @@ pub(crate) fn any_requires(defs: &[AtomDef], atoms: &[u32], key: &Text) -> bool
 pub(crate) fn member_question(
     env: &TypeEnv,
     dia: &mut Diagrams,
-    never: u32,
     atom: u32,
     key: &Text,
 ) -> Result<u32, Memory>
     requires atom { IsMappingAtom env.now atom }
-    requires never { Gives dia.old nothing never }
-    requires one { HasOneNumberEach dia.old }
     ensures extends { Extends (length env.now) dia.old dia.new }
-    ensures one { OnOk result (HasOneNumberEach dia.new) }
     ensures made { IfOk result (Gives dia.new (member_of env.now key.now atom)) }
 {
     match key_ty(env.defs(), atom, key) {
         Some(ty) => dia.of(env, &ty.sem),
-        None => Ok(never),
+        None => dia.nothing(),
     }
 }
 
@@ -113,20 +109,16 @@ pub(crate) fn member_question(
 pub(crate) fn members_question(
     env: &TypeEnv,
     dia: &mut Diagrams,
-    never: u32,
     atoms: &[u32],
     key: &Text,
 ) -> Result<u32, Memory>
     requires atoms { All (IsMappingAtom env.now) atoms.now }
-    requires never { Gives dia.old nothing never }
-    requires one { HasOneNumberEach dia.old }
     ensures extends { Extends (length env.now) dia.old dia.new }
-    ensures one { OnOk result (HasOneNumberEach dia.new) }
     ensures made { IfOk result (Gives dia.new (asks (map (member_of env.now key.now) atoms.now) [])) }
 {
     let mut question = dia.every()?;
     for atom in atoms {
-        let asked = member_question(env, dia, never, *atom, key)?;
+        let asked = member_question(env, dia, *atom, key)?;
         question = dia.inter(question, asked)?;
     }
     Ok(question)
@@ -213,24 +205,20 @@ pub(crate) fn mappings_in_play(
     alloc: Global,
     env: &TypeEnv,
     dia: &mut Diagrams,
-    never: u32,
     wanted: &[u32],
     unwanted: &[u32],
 ) -> Result<Vec<u32>, Memory>
     requires wanted { All (IsMappingAtom env.now) wanted.now }
     requires unwanted { All (IsMappingAtom env.now) unwanted.now }
-    requires never { Gives dia.old nothing never }
-    requires one { HasOneNumberEach dia.old }
     ensures extends { Extends (length env.now) dia.old dia.new }
-    ensures one { OnOk result (HasOneNumberEach dia.new) }
     ensures few { OnOk result (length env.now ≤ the_mark) }
     ensures playing { IfOk result (λ playing. AreInPlay (IsMappingOutOfPlay env.now wanted.now) unwanted.now playing.items) }
 {
-    let found = key_bases(alloc, env, dia, never, wanted)?;
+    let found = key_bases(alloc, env, dia, wanted)?;
     let bases = found.as_slice();
     let mut playing = Vec::new(alloc);
     for atom in unwanted {
-        let out = is_out_of_play(env, dia, never, bases, wanted, *atom)?;
+        let out = is_out_of_play(env, dia, bases, wanted, *atom)?;
         add_unless(&mut playing, out, *atom)?;
     }
     Ok(playing)
@@ -252,14 +240,10 @@ fn key_bases(
     alloc: Global,
     env: &TypeEnv,
     dia: &mut Diagrams,
-    never: u32,
     wanted: &[u32],
 ) -> Result<Vec<KeyBase>, Memory>
     requires wanted { All (IsMappingAtom env.now) wanted.now }
-    requires never { Gives dia.old nothing never }
-    requires one { HasOneNumberEach dia.old }
     ensures extends { Extends (length env.now) dia.old dia.new }
-    ensures one { OnOk result (HasOneNumberEach dia.new) }
     ensures few { OnOk result (length env.now ≤ the_mark) }
     ensures bases { IfOk result (λ bases. AreBases env.now dia.new wanted.now bases.items) }
 {
@@ -268,7 +252,7 @@ fn key_bases(
     let keys = named.as_slice();
     let mut bases = Vec::new(alloc);
     for key in keys {
-        let question = members_question(env, dia, never, wanted, key)?;
+        let question = members_question(env, dia, wanted, key)?;
         let required = any_requires(defs, wanted, key);
         bases.push(KeyBase {
             key: key.share(),
@@ -283,7 +267,6 @@ fn key_bases(
 fn is_out_of_play(
     env: &TypeEnv,
     dia: &mut Diagrams,
-    never: u32,
     bases: &[KeyBase],
     wanted: &[u32],
     atom: u32,
@@ -291,36 +274,29 @@ fn is_out_of_play(
     requires wanted { All (IsMappingAtom env.now) wanted.now }
     requires atom { IsMappingAtom env.now atom }
     requires bases { AreBases env.now dia.old wanted.now bases.now }
-    requires never { Gives dia.old nothing never }
-    requires one { HasOneNumberEach dia.old }
     ensures extends { Extends (length env.now) dia.old dia.new }
-    ensures one { OnOk result (HasOneNumberEach dia.new) }
     ensures out { IfOk result (λ out. IsTrue out ↔ IsMappingOutOfPlay env.now wanted.now atom) }
 {
-    if is_apart_at_named(env, dia, never, bases, atom)? {
+    if is_apart_at_named(env, dia, bases, atom)? {
         return Ok(true);
     }
-    is_apart_at_own(env, dia, never, wanted, atom)
+    is_apart_at_own(env, dia, wanted, atom)
 }
 
 /// Whether the atom has no shape in common with the wanted ones at a key that one of them requires.
 fn is_apart_at_named(
     env: &TypeEnv,
     dia: &mut Diagrams,
-    never: u32,
     bases: &[KeyBase],
     atom: u32,
 ) -> Result<bool, Memory>
     requires atom { IsMappingAtom env.now atom }
     requires bases { All (λ b. IsDiagram dia.old b.question) bases.now }
-    requires never { Gives dia.old nothing never }
-    requires one { HasOneNumberEach dia.old }
     ensures extends { Extends (length env.now) dia.old dia.new }
-    ensures one { OnOk result (HasOneNumberEach dia.new) }
     ensures apart { IfOk result (λ apart. IsTrue apart ↔ Any (IsApartAt env.now dia.old atom) bases.now) }
 {
     for base in bases {
-        if is_apart_at(env, dia, never, base, atom)? {
+        if is_apart_at(env, dia, base, atom)? {
             return Ok(true);
         }
     }
@@ -328,47 +304,35 @@ fn is_apart_at_named(
 }
 
 /// Whether the atom has no shape in common with the wanted ones at a key, where one of these requires it.
-fn is_apart_at(
-    env: &TypeEnv,
-    dia: &mut Diagrams,
-    never: u32,
-    base: &KeyBase,
-    atom: u32,
-) -> Result<bool, Memory>
+fn is_apart_at(env: &TypeEnv, dia: &mut Diagrams, base: &KeyBase, atom: u32) -> Result<bool, Memory>
     requires atom { IsMappingAtom env.now atom }
     requires base { IsDiagram dia.old base.now.question }
-    requires never { Gives dia.old nothing never }
-    requires one { HasOneNumberEach dia.old }
     ensures extends { Extends (length env.now) dia.old dia.new }
-    ensures one { OnOk result (HasOneNumberEach dia.new) }
     ensures apart { IfOk result (λ apart. IsTrue apart ↔ IsApartAt env.now dia.old atom base.now) }
 {
     if !base.required {
         return Ok(false);
     }
-    let asked = member_question(env, dia, never, atom, &base.key)?;
-    Ok(dia.inter(asked, base.question)? == never)
+    let asked = member_question(env, dia, atom, &base.key)?;
+    let common = dia.inter(asked, base.question)?;
+    Ok(dia.is_nothing(common))
 }
 
 /// Whether the atom has no shape in common with the wanted ones at a key that it requires.
 fn is_apart_at_own(
     env: &TypeEnv,
     dia: &mut Diagrams,
-    never: u32,
     wanted: &[u32],
     atom: u32,
 ) -> Result<bool, Memory>
     requires wanted { All (IsMappingAtom env.now) wanted.now }
     requires atom { IsMappingAtom env.now atom }
-    requires never { Gives dia.old nothing never }
-    requires one { HasOneNumberEach dia.old }
     ensures extends { Extends (length env.now) dia.old dia.new }
-    ensures one { OnOk result (HasOneNumberEach dia.new) }
     ensures apart { IfOk result (λ apart. IsTrue apart ↔ Any (IsApartBy env.now wanted.now atom) (fields_of env.now atom)) }
 {
     let fields = mapping_parts(env.defs(), atom).fields;
     for field in fields {
-        if is_apart_by(env, dia, never, wanted, atom, field)? {
+        if is_apart_by(env, dia, wanted, atom, field)? {
             return Ok(true);
         }
     }
@@ -379,23 +343,20 @@ fn is_apart_at_own(
 fn is_apart_by(
     env: &TypeEnv,
     dia: &mut Diagrams,
-    never: u32,
     wanted: &[u32],
     atom: u32,
     field: &FieldDef,
 ) -> Result<bool, Memory>
     requires wanted { All (IsMappingAtom env.now) wanted.now }
     requires atom { IsMappingAtom env.now atom }
-    requires never { Gives dia.old nothing never }
-    requires one { HasOneNumberEach dia.old }
     ensures extends { Extends (length env.now) dia.old dia.new }
-    ensures one { OnOk result (HasOneNumberEach dia.new) }
     ensures apart { IfOk result (λ apart. IsTrue apart ↔ IsApartBy env.now wanted.now atom field.now) }
 {
     if field.optional {
         return Ok(false);
     }
-    let question = members_question(env, dia, never, wanted, &field.name)?;
-    let asked = member_question(env, dia, never, atom, &field.name)?;
-    Ok(dia.inter(asked, question)? == never)
+    let question = members_question(env, dia, wanted, &field.name)?;
+    let asked = member_question(env, dia, atom, &field.name)?;
+    let common = dia.inter(asked, question)?;
+    Ok(dia.is_nothing(common))
 }

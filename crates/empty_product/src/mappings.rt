@@ -2,11 +2,10 @@
 ghost use Rattle.std.specs.Prelude.{[], ◌≡◌, ◌++◌, All, IfOk, OnOk, length, option_map};
 ghost use Rattle.std.specs.List.{AllZip, cons_option};
 ghost use Rattle.type_diagrams.specs.declared.kind.Kind.TheVariants.{Mapping as Mappings};
-ghost use Rattle.type_diagrams.specs.Conditions.{nothing};
 ghost use Rattle.type_diagrams.specs.Turns.{IsReady, IsSound, Turns};
-ghost use Rattle.type_diagrams.specs.Whole.{Extends, Gives, HasOneNumberEach};
+ghost use Rattle.type_diagrams.specs.Whole.{Extends, Gives};
 ghost use Rattle.empty_product.specs.Keys.{AreInOrder, HasNamedKeys};
-ghost use Rattle.empty_product.specs.Mappings.{AreDemandsOf, IsDemandOf, IsMappingOf, IsRestDemandOf, IsSlotOf, TellsFilled, TellsMappings, members_at, wanted_at};
+ghost use Rattle.empty_product.specs.Mappings.{AreDemandsOf, IsMappingOf, IsRestDemandOf, IsSlotOf, TellsFilled, TellsMappings, members_at, wanted_at};
 ghost use Rattle.empty_product.specs.Play.{IsMappingAtom};
 
 use crate::avoid::{Filling, avoid};
@@ -20,7 +19,7 @@ use crate::slots::{Demand, Slot, Unwanted};
 use bal_base::{Fields, Memory, Shape, Text};
 use std::alloc::Global;
 use type_diagrams::{Diagrams, Member, Path, Turn};
-use type_model::{BasicSet, SemType, TypeEnv};
+use type_model::TypeEnv;
 
 /// A shape of a mapping path, that there is none, or a question about a member, at a key that an atom of the
 /// path names or at all others. A path that doesn't say whether its mappings are marked is settled by its
@@ -34,28 +33,17 @@ pub fn map_shape<M: Member>(
 ) -> Result<Turn, Memory>
     requires { IsReady env.now dia.old (M.kept m.now) Mappings path.now }
     ensures extends { Extends (length env.now) dia.old dia.new }
-    ensures one { OnOk result (HasOneNumberEach dia.new) }
     ensures turns { IfOk result (Turns env.now dia.new (M.kept m.now) Mappings path.now) }
 {
     let holding = path.wanted(alloc)?;
     let wanted = holding.as_slice();
     let failing = path.unwanted(alloc)?;
-    let never = dia.of(env, &SemType::Basic(BasicSet::Never))?;
     if has_both_marks(path) {
         return Ok(Turn::Empty);
     }
-    let playing = mappings_in_play(alloc, env, dia, never, wanted, failing.as_slice())?;
+    let playing = mappings_in_play(alloc, env, dia, wanted, failing.as_slice())?;
     let unwanted = playing.as_slice();
-    settled(
-        alloc,
-        env,
-        dia,
-        never,
-        wanted,
-        path.is_marked(),
-        unwanted,
-        m,
-    )
+    settled(alloc, env, dia, wanted, path.is_marked(), unwanted, m)
 }
 
 /// A mapping in all wanted atoms and in none of the others, that there is none, or a question about a member.
@@ -63,7 +51,6 @@ fn settled<M: Member>(
     alloc: Global,
     env: &TypeEnv,
     dia: &mut Diagrams,
-    never: u32,
     wanted: &[u32],
     marked: bool,
     unwanted: &[u32],
@@ -71,25 +58,20 @@ fn settled<M: Member>(
 ) -> Result<Turn, Memory>
     requires wanted { All (IsMappingAtom env.now) wanted.now }
     requires unwanted { All (IsMappingAtom env.now) unwanted.now }
-    requires never { Gives dia.old nothing never }
-    requires one { HasOneNumberEach dia.old }
     requires sound { All (IsSound env.now dia.old) (M.kept m.now) }
     ensures extends { Extends (length env.now) dia.old dia.new }
-    ensures one { OnOk result (HasOneNumberEach dia.new) }
     ensures tells { IfOk result (TellsMappings env.now wanted.now marked dia.new (M.kept m.now) unwanted.now) }
 {
     let keys = keys_of(alloc, env, wanted, unwanted)?;
     let fresh = key_behind(alloc, keys.as_slice())?;
-    let rest = base(env, dia, never, wanted, marked, &fresh)?;
-    let made = rest_demands(alloc, env, dia, never, unwanted, &fresh)?;
+    let rest = base(env, dia, wanted, marked, &fresh)?;
+    let made = rest_demands(alloc, env, dia, unwanted, &fresh)?;
     let demands = made.as_slice();
-    let found = further_parts(alloc, dia, never, rest, demands, m)?;
+    let found = further_parts(alloc, dia, rest, demands, m)?;
     match found {
         Further::Parts(FurtherParts { parts, staying }) => {
             let atoms = staying.as_slice();
-            filled(
-                alloc, env, dia, never, wanted, marked, atoms, keys, parts, m,
-            )
+            filled(alloc, env, dia, wanted, marked, atoms, keys, parts, m)
         }
         Further::Ask(question) => Ok(Turn::Ask(question)),
     }
@@ -116,7 +98,6 @@ fn filled<M: Member>(
     alloc: Global,
     env: &TypeEnv,
     dia: &mut Diagrams,
-    never: u32,
     wanted: &[u32],
     marked: bool,
     staying: &[u32],
@@ -127,18 +108,15 @@ fn filled<M: Member>(
     requires wanted { All (IsMappingAtom env.now) wanted.now }
     requires staying { All (IsMappingAtom env.now) staying.now }
     requires ordered { AreInOrder keys.items }
-    requires never { Gives dia.old nothing never }
-    requires one { HasOneNumberEach dia.old }
     requires sound { All (IsSound env.now dia.old) (M.kept m.now) }
     ensures extends { Extends (length env.now) dia.old dia.new }
-    ensures one { OnOk result (HasOneNumberEach dia.new) }
     ensures tells { IfOk result (TellsFilled env.now wanted.now marked dia.new (M.kept m.now) keys.items further.items staying.now) }
 {
-    let places = slots(alloc, env, dia, never, wanted, marked, keys.as_slice())?;
-    let asked = all_demands(alloc, env, dia, never, staying, keys.as_slice())?;
+    let places = slots(alloc, env, dia, wanted, marked, keys.as_slice())?;
+    let asked = all_demands(alloc, env, dia, staying, keys.as_slice())?;
     let slots = places.as_slice();
     let unwanted = asked.as_slice();
-    let filling = avoid(alloc, dia, never, slots, unwanted, m)?;
+    let filling = avoid(alloc, dia, slots, unwanted, m)?;
     match filling {
         Filling::Parts(parts) => Ok(Turn::Shape(mapping(alloc, marked, keys, parts, further)?)),
         Filling::Empty => Ok(Turn::Empty),
@@ -150,19 +128,15 @@ fn filled<M: Member>(
 pub(crate) fn base(
     env: &TypeEnv,
     dia: &mut Diagrams,
-    never: u32,
     wanted: &[u32],
     marked: bool,
     key: &Text,
 ) -> Result<u32, Memory>
     requires wanted { All (IsMappingAtom env.now) wanted.now }
-    requires never { Gives dia.old nothing never }
-    requires one { HasOneNumberEach dia.old }
     ensures extends { Extends (length env.now) dia.old dia.new }
-    ensures one { OnOk result (HasOneNumberEach dia.new) }
     ensures made { IfOk result (Gives dia.new (wanted_at env.now wanted.now marked key.now)) }
 {
-    let question = members_question(env, dia, never, wanted, key)?;
+    let question = members_question(env, dia, wanted, key)?;
     frozen_if(env, dia, marked, question)
 }
 
@@ -171,20 +145,16 @@ pub(crate) fn rest_demands(
     alloc: Global,
     env: &TypeEnv,
     dia: &mut Diagrams,
-    never: u32,
     atoms: &[u32],
     fresh: &Text,
 ) -> Result<Vec<RestDemand>, Memory>
     requires atoms { All (IsMappingAtom env.now) atoms.now }
-    requires never { Gives dia.old nothing never }
-    requires one { HasOneNumberEach dia.old }
     ensures extends { Extends (length env.now) dia.old dia.new }
-    ensures one { OnOk result (HasOneNumberEach dia.new) }
     ensures demands { IfOk result (λ demands. AllZip (IsRestDemandOf env.now dia.new fresh.now) atoms.now demands.items) }
 {
     let mut demands = Vec::new(alloc);
     for atom in atoms {
-        let question = member_question(env, dia, never, *atom, fresh)?;
+        let question = member_question(env, dia, *atom, fresh)?;
         demands.push(RestDemand {
             atom: *atom,
             question,
@@ -198,21 +168,17 @@ pub(crate) fn slots(
     alloc: Global,
     env: &TypeEnv,
     dia: &mut Diagrams,
-    never: u32,
     wanted: &[u32],
     marked: bool,
     keys: &[Text],
 ) -> Result<Vec<Slot>, Memory>
     requires wanted { All (IsMappingAtom env.now) wanted.now }
-    requires never { Gives dia.old nothing never }
-    requires one { HasOneNumberEach dia.old }
     ensures extends { Extends (length env.now) dia.old dia.new }
-    ensures one { OnOk result (HasOneNumberEach dia.new) }
     ensures slots { IfOk result (λ slots. AllZip (IsSlotOf env.now wanted.now marked dia.new) keys.now slots.items) }
 {
     let mut slots = Vec::new(alloc);
     for key in keys {
-        slots.push(slot(env, dia, never, wanted, marked, key)?)?;
+        slots.push(slot(env, dia, wanted, marked, key)?)?;
     }
     Ok(slots)
 }
@@ -221,19 +187,15 @@ pub(crate) fn slots(
 fn slot(
     env: &TypeEnv,
     dia: &mut Diagrams,
-    never: u32,
     wanted: &[u32],
     marked: bool,
     key: &Text,
 ) -> Result<Slot, Memory>
     requires wanted { All (IsMappingAtom env.now) wanted.now }
-    requires never { Gives dia.old nothing never }
-    requires one { HasOneNumberEach dia.old }
     ensures extends { Extends (length env.now) dia.old dia.new }
-    ensures one { OnOk result (HasOneNumberEach dia.new) }
     ensures slot { IfOk result (IsSlotOf env.now wanted.now marked dia.new key.now) }
 {
-    let question = base(env, dia, never, wanted, marked, key)?;
+    let question = base(env, dia, wanted, marked, key)?;
     if any_requires(env.defs(), wanted, key) {
         Ok(Slot::Present(question))
     } else {
@@ -246,20 +208,16 @@ pub(crate) fn all_demands(
     alloc: Global,
     env: &TypeEnv,
     dia: &mut Diagrams,
-    never: u32,
     atoms: &[u32],
     keys: &[Text],
 ) -> Result<Vec<Unwanted>, Memory>
     requires atoms { All (IsMappingAtom env.now) atoms.now }
-    requires never { Gives dia.old nothing never }
-    requires one { HasOneNumberEach dia.old }
     ensures extends { Extends (length env.now) dia.old dia.new }
-    ensures one { OnOk result (HasOneNumberEach dia.new) }
     ensures demands { IfOk result (λ demands. AllZip (AreDemandsOf env.now dia.new keys.now) atoms.now demands.items) }
 {
     let mut unwanted = Vec::new(alloc);
     for atom in atoms {
-        unwanted.push(demands(alloc, env, dia, never, *atom, keys)?)?;
+        unwanted.push(demands(alloc, env, dia, *atom, keys)?)?;
     }
     Ok(unwanted)
 }
@@ -269,20 +227,16 @@ fn demands(
     alloc: Global,
     env: &TypeEnv,
     dia: &mut Diagrams,
-    never: u32,
     atom: u32,
     keys: &[Text],
 ) -> Result<Unwanted, Memory>
     requires atom { IsMappingAtom env.now atom }
-    requires never { Gives dia.old nothing never }
-    requires one { HasOneNumberEach dia.old }
     ensures extends { Extends (length env.now) dia.old dia.new }
-    ensures one { OnOk result (HasOneNumberEach dia.new) }
     ensures demands { IfOk result (AreDemandsOf env.now dia.new keys.now atom) }
 {
     let mut demands = Vec::new(alloc);
     for key in keys {
-        let question = member_question(env, dia, never, atom, key)?;
+        let question = member_question(env, dia, atom, key)?;
         let required = is_required(env.defs(), atom, key);
         demands.push(Demand { question, required })?;
     }

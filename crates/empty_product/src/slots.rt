@@ -1,11 +1,10 @@
 //! The places of a product, one by one.
-ghost use Rattle.std.specs.Prelude.{ℕ, All, IfOk, IsTrue, List, OnOk, Option, true, false};
+ghost use Rattle.std.specs.Prelude.{ℕ, All, IfOk, IsTrue, List, Option, true, false};
 ghost use Rattle.bal_base.specs.declared.shape.Shape.{Shape};
 ghost use Rattle.type_model.specs.declared.atoms.AtomDef.{AtomDef};
-ghost use Rattle.type_diagrams.specs.Conditions.{nothing};
 ghost use Rattle.type_diagrams.specs.Tables.{IsDiagram};
 ghost use Rattle.type_diagrams.specs.Turns.{IsSound};
-ghost use Rattle.type_diagrams.specs.Whole.{Extends, Gives, HasOneNumberEach};
+ghost use Rattle.type_diagrams.specs.Whole.{Extends};
 ghost use Rattle.empty_product.specs.Slots.{AvoidsAt, IsAt, IsDemand, IsKnown, IsSlot, TellsNarrowed, TellsPart, asking_of, place_of};
 
 use bal_base::Memory;
@@ -42,20 +41,18 @@ pub(crate) struct Unwanted {
 pub(crate) enum Known {
     /// The table has a shape of it.
     Full,
-    /// It is held to be empty, or it is the question for no shape.
+    /// It is held to be empty, or no shape is in it.
     Void,
     /// The table doesn't know it.
     Unknown,
 }
 
-/// What is known of a question, where `never` is the one for no shape.
-pub(crate) fn standing<M: Member>(dia: &Diagrams, never: u32, question: u32, m: &M) -> Known
-    requires never { Gives dia.now nothing never }
+/// What is known of a question.
+pub(crate) fn standing<M: Member>(dia: &Diagrams, question: u32, m: &M) -> Known
     requires question { IsDiagram dia.now question }
-    requires one { HasOneNumberEach dia.now }
     ensures { IsKnown dia.now (M.kept m.now) question result }
 {
-    if question == never {
+    if dia.is_nothing(question) {
         return Known::Void;
     }
     match m.seen(question) {
@@ -70,16 +67,13 @@ pub(crate) fn standing<M: Member>(dia: &Diagrams, never: u32, question: u32, m: 
 pub(crate) fn find_part<M: Member>(
     alloc: Global,
     dia: &Diagrams,
-    never: u32,
     question: u32,
     m: &M,
 ) -> Result<Finding, Memory>
-    requires never { Gives dia.now nothing never }
     requires question { IsDiagram dia.now question }
-    requires one { HasOneNumberEach dia.now }
     ensures { IfOk result (λ finding. (env : List AtomDef) → All (IsSound env dia.now) (M.kept m.now) → TellsPart env dia.now (M.kept m.now) question finding) }
 {
-    if question == never {
+    if dia.is_nothing(question) {
         return Ok(Finding::Held);
     }
     look_up(alloc, m, question)
@@ -116,17 +110,13 @@ fn without_part(dia: &Diagrams, slot: Slot, demand: Demand) -> Narrowed
 /// The slot with a part outside the demand.
 fn with_other_part<M: Member>(
     dia: &mut Diagrams,
-    never: u32,
     slot: Slot,
     demand: Demand,
     m: &M,
 ) -> Result<Narrowed, Memory>
-    requires never { Gives dia.old nothing never }
     requires slot { IsSlot dia.old slot }
     requires demand { IsDemand dia.old demand }
-    requires one { HasOneNumberEach dia.old }
     ensures extends { Extends 0 dia.old dia.new }
-    ensures one { OnOk result (HasOneNumberEach dia.new) }
     ensures tells { IfOk result (TellsNarrowed dia.new (M.kept m.now) (place_of dia.old slot) (asking_of dia.old demand) false) }
 {
     let from = match slot {
@@ -134,7 +124,7 @@ fn with_other_part<M: Member>(
         Slot::Optional(question) | Slot::Present(question) => question,
     };
     let question = dia.diff(from, demand.question)?;
-    match standing(dia, never, question, m) {
+    match standing(dia, question, m) {
         Known::Full => Ok(Narrowed::Slot(Slot::Present(question))),
         Known::Void => Ok(Narrowed::Nothing),
         Known::Unknown => Ok(Narrowed::Ask(question)),
@@ -144,24 +134,20 @@ fn with_other_part<M: Member>(
 /// The slot where the demand is avoided, by having no part or by having another one.
 pub(crate) fn narrow_slot<M: Member>(
     dia: &mut Diagrams,
-    never: u32,
     slot: Slot,
     demand: Demand,
     absent: bool,
     m: &M,
 ) -> Result<Narrowed, Memory>
-    requires never { Gives dia.old nothing never }
     requires slot { IsSlot dia.old slot }
     requires demand { IsDemand dia.old demand }
-    requires one { HasOneNumberEach dia.old }
     ensures extends { Extends 0 dia.old dia.new }
-    ensures one { OnOk result (HasOneNumberEach dia.new) }
     ensures tells { IfOk result (TellsNarrowed dia.new (M.kept m.now) (place_of dia.old slot) (asking_of dia.old demand) absent) }
 {
     if absent {
         Ok(without_part(dia, slot, demand))
     } else {
-        with_other_part(dia, never, slot, demand, m)
+        with_other_part(dia, slot, demand, m)
     }
 }
 
@@ -169,9 +155,7 @@ pub(crate) fn narrow_slot<M: Member>(
 pub(crate) fn is_outside(dia: &mut Diagrams, slot: Slot, demand: Demand) -> Result<bool, Memory>
     requires slot { IsSlot dia.old slot }
     requires demand { IsDemand dia.old demand }
-    requires one { HasOneNumberEach dia.old }
     ensures extends { Extends 0 dia.old dia.new }
-    ensures one { OnOk result (HasOneNumberEach dia.new) }
     ensures outside { IfOk result (λ is. IsTrue is → (env : List AtomDef) (x : Option Shape) → IsAt env (place_of dia.old slot) x → AvoidsAt env (asking_of dia.old demand) x) }
 {
     match slot {

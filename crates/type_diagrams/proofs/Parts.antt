@@ -1,23 +1,17 @@
 -- What is said of the parts of the shapes of a path that has none.
 use Rattle.std.proofs.Common.{inr, ℕ, List, Option}
 use Rattle.bal_base.specs.declared.shape.Shape.{Shape}
-use Rattle.type_model.specs.declared.basic.SemType.{Basic}
-use Rattle.type_model.specs.declared.basic.BasicSet.TheVariants.{Never}
 use Rattle.type_model.specs.declared.atoms.AtomDef.{AtomDef}
 use Rattle.type_model.specs.declared.answers.Keys.{Keys}
 use Rattle.type_diagrams.specs.declared.kind.Kind.{Kind}
 use Rattle.type_diagrams.specs.declared.path.Path.{Path}
-use Rattle.type_diagrams.specs.Conditions.{condition_of, nothing}
+use Rattle.type_diagrams.specs.Conditions.{nothing}
 use Rattle.type_diagrams.specs.Projections.{AreParts}
 use Rattle.type_diagrams.specs.Tables.{Table, condition}
 use Rattle.type_diagrams.specs.Turns.{HasLower, IsShapeOn}
 use Rattle.type_diagrams.specs.Whole.{Gives}
 use Rattle.type_diagrams.proofs.Meeting.{Meets-nothing, Meets-same}
 use Rattle.type_diagrams.proofs.Reaching.{nothing-Looks, one-Looks}
-
--- the question for no shape
-pub never-nothing : (env : List AtomDef) (table : Table) (q : ℕ) → Gives table (condition_of env (Basic Never)) q → Gives table nothing q
-never-nothing env table q g = record { diagram = g.diagram; condition = record { simple = λ x s v. g.condition.simple x s v; by_kind = λ k v. g.condition.by_kind k v } }
 
 module _ (env : List AtomDef) (table : Table) (kept : List (ℕ × Option Shape)) (k : Kind) (p : Path) (keys : Keys) (q : ℕ) where
   -- where each shape of the path has a lower one in a question that is held to be empty

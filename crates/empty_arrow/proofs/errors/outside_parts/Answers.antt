@@ -11,6 +11,5 @@ returns-in_err-question-clause-extends c = then_all _ _ _ _ c.loop-atom.invarian
 pub loop-atom-preserved : goal.loop-atom-preserved
 loop-atom-preserved c = (
   then_all _ _ _ _ c.loop-atom.invariant.0 c.outside.ensures.extends,
-  c.in_ok-question.ensures.one,
-  one_more_unwanted (part_of c.args.env.now) c.args.atoms.now c.loop-atom.atom-index (omega arith) (condition_of c.args.env.now c.part.result.now) (subst (λ e. part_of e (get_or c.args.atoms.now c.loop-atom.atom-index 0) ≡ condition_of e c.part.result.now) c.defs-defs.ensures.value c.part.ensures.asks) c.loop-atom.dia c.outside.new.dia c.loop-atom.question c.in_ok-question.question (condition c.args.dia.now c.args.a ∷ []) c.loop-atom.invariant.2 c.in_ok-question.ensures.made,
+  one_more_unwanted (part_of c.args.env.now) c.args.atoms.now c.loop-atom.atom-index (omega arith) (condition_of c.args.env.now c.part.result.now) (subst (λ e. part_of e (get_or c.args.atoms.now c.loop-atom.atom-index 0) ≡ condition_of e c.part.result.now) c.defs-defs.ensures.value c.part.ensures.asks) c.loop-atom.dia c.outside.new.dia c.loop-atom.question c.in_ok-question.question (condition c.args.dia.now c.args.a ∷ []) c.loop-atom.invariant.1 c.in_ok-question.ensures.made,
 )

@@ -18,8 +18,7 @@ loop-atom-preserved-then-is_free g c =
     let atom = get_or c.args.unwanted.now c.loop-atom.atom-index 0 in
     let free = is-IsFree env c.defs-defs.result.now c.defs-defs.ensures.value c.args.wanted.now atom c.any_isolated-isolated.result c.is_free.result c.any_isolated-isolated.ensures c.is_free.ensures c.if-is_free.true in (
       c.loop-atom.invariant.0,
-      c.loop-atom.invariant.1,
-      one_free env c.args.wanted.now c.args.unwanted.now c.loop-atom.atom-index c.loop-atom.cases.items (omega arith) c.loop-atom.invariant.2 free,
+      one_free env c.args.wanted.now c.args.unwanted.now c.loop-atom.atom-index c.loop-atom.cases.items (omega arith) c.loop-atom.invariant.1 free,
     )
 
 pub avoiding_pair-requires-clause-base : goal.avoiding_pair-requires-clause-base
@@ -67,14 +66,13 @@ loop-atom-preserved g c =
     let atom = get_or c.args.unwanted.now i 0 in
     let told = subst (TellsPair env c.avoiding_pair.new.dia (g.M.Member.kept c.args.m.now) (arguments_sought env atom) (results_sought env atom) true c.args.wanted.now) c.in-Pair.is c.in_ok-case.ensures.tells in (
       then_all _ c.args.dia.now c.loop-atom.dia c.avoiding_pair.new.dia c.loop-atom.invariant.0 c.avoiding_pair.ensures.extends,
-      c.in_ok-case.ensures.one,
       subst (AreCases env c.args.wanted.now (take (i + 1) c.args.unwanted.now)) (sym c.in_ok-push.ensures.items)
-          (one_more_case env c.args.wanted.now c.args.unwanted.now i c.loop-atom.cases.items c.in-Pair.case (omega arith) c.loop-atom.invariant.2 told),
+          (one_more_case env c.args.wanted.now c.args.unwanted.now i c.loop-atom.cases.items c.in-Pair.case (omega arith) c.loop-atom.invariant.1 told),
     )
 
 pub returns-clause-tells : goal.returns-clause-tells
 returns-clause-tells g c =
     let env = c.args.env.now in
-    let done = subst (λ us. AreCases env c.args.wanted.now us c.loop-atom.cases.items) (take_all c.loop-atom.atom-index c.args.unwanted.now (omega arith)) c.loop-atom.invariant.2 in
+    let done = subst (λ us. AreCases env c.args.wanted.now us c.loop-atom.cases.items) (take_all c.loop-atom.atom-index c.args.unwanted.now (omega arith)) c.loop-atom.invariant.1 in
     let alone = c.any_isolated-isolated.ensures ∙ (λ j. list_any (is_isolated (c.defs-defs.ensures.value j)) c.args.wanted.now) in
     (c.of.result, ap (λ b. Function b c.of.result) alone, subst (AreCases env c.args.wanted.now c.args.unwanted.now) (sym c.of.ensures) done)

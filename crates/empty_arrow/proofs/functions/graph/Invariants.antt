@@ -1,8 +1,8 @@
 use Rattle.std.proofs.Common.{length, take}
-use Rattle.type_diagrams.specs.Whole.{Extends, HasOneNumberEach}
+use Rattle.type_diagrams.specs.Whole.{Extends}
 use Rattle.empty_arrow.specs.Graphs.{AreCases}
 use Rattle.empty_arrow.proofs.functions.graph.Given as goal
 
 abbrev pub invariant-loop-atom : goal.invariant-loop-atom
 invariant-loop-atom g l =
-    Extends (length l.env) l.fn.dia l.dia × HasOneNumberEach l.dia × AreCases l.env l.wanted (take l.atom-index l.unwanted) l.cases.items
+    Extends (length l.env) l.fn.dia l.dia × AreCases l.env l.wanted (take l.atom-index l.unwanted) l.cases.items

@@ -57,14 +57,13 @@ loop-atom-preserved g c =
     let gives = avoidance-Gives env c.defs-defs.result.now c.defs-defs.ensures.value c.args.dia.now c.loop-atom.dia c.outside.new.dia c.args.all q atom c.part.result.now c.part.ensures.asks c.requires.diagram c.loop-atom.invariant.0.keeps c.in_ok-question.ensures.made in
     let is = kept-IsShapeOf env c.args.dia.now c.outside.new.dia kept (without all (part_of env atom)) q gives c.requires.sound extends.keeps told.0 c.in-Part.result told.1 told.2 in (
       extends,
-      c.in_ok-question.ensures.one,
       subst (AreResults env all (take (i + 1) c.args.unwanted.now)) (sym c.in_ok-push.ensures.items)
-          (one_more_result env all c.args.unwanted.now i c.loop-atom.found.items c.in-Part.result (omega arith) c.loop-atom.invariant.2 is),
+          (one_more_result env all c.args.unwanted.now i c.loop-atom.found.items c.in-Part.result (omega arith) c.loop-atom.invariant.1 is),
     )
 
 pub returns-clause-tells : goal.returns-clause-tells
 returns-clause-tells g c =
     let env = c.args.env.now in
     let all = condition c.args.dia.now c.args.all in
-    let done : AreResults env all c.args.unwanted.now c.loop-atom.found.items = subst (λ us. AreResults env all us c.loop-atom.found.items) (take_all c.loop-atom.atom-index c.args.unwanted.now (omega arith)) c.loop-atom.invariant.2 in
+    let done : AreResults env all c.args.unwanted.now c.loop-atom.found.items = subst (λ us. AreResults env all us c.loop-atom.found.items) (take_all c.loop-atom.atom-index c.args.unwanted.now (omega arith)) c.loop-atom.invariant.1 in
     (c.of.result, refl, subst (AreResults env all c.args.unwanted.now) (sym c.of.ensures) done)

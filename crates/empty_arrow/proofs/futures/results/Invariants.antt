@@ -1,9 +1,9 @@
 use Rattle.std.proofs.Common.{length, take}
 use Rattle.type_diagrams.specs.Tables.{condition}
-use Rattle.type_diagrams.specs.Whole.{Extends, HasOneNumberEach}
+use Rattle.type_diagrams.specs.Whole.{Extends}
 use Rattle.empty_arrow.specs.Results.{AreResults}
 use Rattle.empty_arrow.proofs.futures.results.Given as goal
 
 abbrev pub invariant-loop-atom : goal.invariant-loop-atom
 invariant-loop-atom g l =
-    Extends (length l.env) l.fn.dia l.dia × HasOneNumberEach l.dia × AreResults l.env (condition l.fn.dia l.all) (take l.atom-index l.unwanted) l.found.items
+    Extends (length l.env) l.fn.dia l.dia × AreResults l.env (condition l.fn.dia l.all) (take l.atom-index l.unwanted) l.found.items

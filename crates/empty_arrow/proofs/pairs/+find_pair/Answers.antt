@@ -31,7 +31,7 @@ find_pair-requires g t c = λ κs h.
               fewer-arguments env (condition c.args.dia.now c.args.sought.args) (condition c.outside.new.dia c.in_ok-args-in-len1-up.args) (arguments_of env (get_or arrows 0 0)) left c.requires.lists,
               (
                 All-tail (IsArrow env) (get_or arrows 0 0) (rest_of arrows) (subst (All (IsArrow env)) (first-rest arrows some) c.requires.arrows),
-                (sound-keeps env c.args.dia.now c.outside.new.dia (g.M.Member.kept c.args.m.now) keeps c.requires.sound, c.in_ok-args-in-len1-up.ensures.one),
+                sound-keeps env c.args.dia.now c.outside.new.dia (g.M.Member.kept c.args.m.now) keeps c.requires.sound,
               ),
             ),
           ),
@@ -58,7 +58,7 @@ find_pair-requires-in-len1-up g t c = λ κs h.
               subst (AreArguments env) (sym (keeps.conditions c.args.sought.args c.requires.args)) c.requires.lists,
               (
                 All-tail (IsArrow env) (get_or arrows 0 0) (rest_of arrows) (subst (All (IsArrow env)) (first-rest arrows some) c.requires.arrows),
-                (sound-keeps env c.args.dia.now c.within.new.dia (g.M.Member.kept c.args.m.now) keeps c.requires.sound, c.in_ok-result-in-len1-up.ensures.one),
+                sound-keeps env c.args.dia.now c.within.new.dia (g.M.Member.kept c.args.m.now) keeps c.requires.sound,
               ),
             ),
           ),

@@ -12,7 +12,6 @@ returns-in_err-question-clause-extends c = extends-more _ _ _ c.every.ensures.ex
 pub loop-atom-init : goal.loop-atom-init
 loop-atom-init c = (
   extends-more _ c.args.dia.now c.every.new.self c.every.ensures.extends,
-  c.in_ok-question.ensures.one,
   gives_as c.every.new.self everything (asks [] []) c.in_ok-question.question asks_nothing c.in_ok-question.ensures.condition,
 )
 
@@ -22,6 +21,5 @@ returns-in_err-question-2-clause-extends c = then_all _ _ _ _ c.loop-atom.invari
 pub loop-atom-preserved : goal.loop-atom-preserved
 loop-atom-preserved c = (
   then_all _ _ _ _ c.loop-atom.invariant.0 c.within.ensures.extends,
-  c.in_ok-question-2.ensures.one,
-  one_more_wanted (part_of c.args.env.now) c.args.atoms.now c.loop-atom.atom-index (omega arith) (condition_of c.args.env.now c.part.result.now) (subst (λ e. part_of e (get_or c.args.atoms.now c.loop-atom.atom-index 0) ≡ condition_of e c.part.result.now) c.defs-defs.ensures.value c.part.ensures.asks) c.loop-atom.dia c.within.new.dia c.loop-atom.question c.in_ok-question-2.question [] c.loop-atom.invariant.2 c.in_ok-question-2.ensures.made,
+  one_more_wanted (part_of c.args.env.now) c.args.atoms.now c.loop-atom.atom-index (omega arith) (condition_of c.args.env.now c.part.result.now) (subst (λ e. part_of e (get_or c.args.atoms.now c.loop-atom.atom-index 0) ≡ condition_of e c.part.result.now) c.defs-defs.ensures.value c.part.ensures.asks) c.loop-atom.dia c.within.new.dia c.loop-atom.question c.in_ok-question-2.question [] c.loop-atom.invariant.1 c.in_ok-question-2.ensures.made,
 )

@@ -1,9 +1,8 @@
 use Rattle.std.proofs.Common.{◌*◌, ◌/◌, ◌%◌, ◌≤◌, All, length, map, nat_eq, refl, sym, subst, ap, ◌∙◌, arith}
 use Rattle.std.proofs.lemmas.List.{length-map}
-use Rattle.type_diagrams.specs.Conditions.{nothing}
 use Rattle.type_diagrams.specs.Tables.{condition}
 use Rattle.type_diagrams.proofs.AskedDiagrams.{then_all}
-use Rattle.type_diagrams.proofs.Shapes.{IfOk-map, gives-keeps}
+use Rattle.type_diagrams.proofs.Shapes.{IfOk-map}
 use Rattle.type_diagrams.proofs.Tellings.{sound-keeps}
 use Rattle.empty_product.specs.Products.{AreSlots, AreUnwanted, AsksPart, Avoids, TellsFilling, TellsNext, all_askings, askings_of, places_of}
 use Rattle.empty_product.specs.Slots.{asking_of, place_of}
@@ -51,8 +50,7 @@ loop-step-preserved-in-Nothing g t c =
     let tells = told-next old mid new kept slots f c.deref-in-loop-step.result.now place absent c.in_ok-next-in-len1-up.field-0 c.loop-step.invariant.0.keeps c.requires.slots over.0 c.deref-in-loop-step.ensures.value c.in_ok-next-in-len1-up.ensures.tells in
     let void = subst (TellsNext new kept (places_of old slots) (askings_of old f) place absent) c.in-Nothing.is tells in (
       then_all 0 old mid new c.loop-step.invariant.0 c.narrow.ensures.extends,
-      c.in_ok-next-in-len1-up.ensures.one,
-      λ env sound. none-Nothing env mid new kept (places_of old slots) (askings_of old f) (all_askings old (rest_of us)) c.loop-step.step (c.loop-step.invariant.2 env sound) c.narrow.ensures.extends.keeps
+      λ env sound. none-Nothing env mid new kept (places_of old slots) (askings_of old f) (all_askings old (rest_of us)) c.loop-step.step (c.loop-step.invariant.1 env sound) c.narrow.ensures.extends.keeps
           (sound-keeps env old mid kept c.loop-step.invariant.0.keeps sound) void,
     )
 
@@ -103,14 +101,8 @@ avoid-requires-in-loop-step g t c κs within =
       (
         within,
         (
-          gives-keeps old new nothing c.args.never on.keeps c.requires.never,
-          (
-            subst (AreSlots new) (sym c.deref-in-loop-step-2.ensures.value) next.slots,
-            (
-              subst (λ n. AreUnwanted new n (rest_of us)) (sym same) (unwanted-keep old new on.keeps (length slots) (rest_of us) are),
-              c.in_ok-next-in-len1-up.ensures.one,
-            ),
-          ),
+          subst (AreSlots new) (sym c.deref-in-loop-step-2.ensures.value) next.slots,
+          subst (λ n. AreUnwanted new n (rest_of us)) (sym same) (unwanted-keep old new on.keeps (length slots) (rest_of us) are),
         ),
       ),
     )
@@ -195,13 +187,12 @@ loop-step-preserved g t c =
     let fin = c.avoid-in-loop-step.new.dia in
     let further = then_all 0 mid new fin c.narrow.ensures.extends c.avoid-in-loop-step.ensures.extends in (
       then_all 0 old mid fin c.loop-step.invariant.0 further,
-      c.in_ok-avoid-in-len1-up.ensures.one,
       λ env sound.
           let told = told-rest env old new fin kept (length slots) c.in-Slots.next.items c.deref-in-loop-step-2.result.now (rest_of us) c.in_ok-avoid-in-len1-up.field-0 on.keeps are c.deref-in-loop-step-2.ensures.value
           (c.in_ok-avoid-in-len1-up.ensures.tells env (sound-keeps env old new kept on.keeps sound)) in
           let empty = subst (TellsFilling env fin kept (places_of new c.in-Slots.next.items) (all_askings old (rest_of us))) c.in-Empty.is told in
           none-Empty env mid new kept (places_of old slots) (askings_of old f) (all_askings old (rest_of us)) c.loop-step.step c.in-Slots.next.items next fin further.keeps
-          (sound-keeps env old mid kept c.loop-step.invariant.0.keeps sound) (c.loop-step.invariant.2 env sound) empty,
+          (sound-keeps env old mid kept c.loop-step.invariant.0.keeps sound) (c.loop-step.invariant.1 env sound) empty,
     )
 
 pub returns-in-empty-clause-tells : goal.returns-in-empty-clause-tells
@@ -222,4 +213,4 @@ returns-after-loop-step-clause-tells g t c =
     let enough : 2 * length f.demands.items ≤ c.loop-step.step = omega (arith, c.len-step-end.ensures, c.loop-step-test.false) in
     λ env sound parts is all.
     none-after env c.loop-step.dia kept (places_of old slots) (askings_of old f) (all_askings old (rest_of us)) c.loop-step.step (length f.demands.items) (length-map f.demands.items (asking_of old)) enough
-    (c.loop-step.invariant.2 env sound) parts is (subst (All (λ a. Avoids env a parts)) (all-first old us f c.in-len1-up.len_at_least c.first-item.is) all)
+    (c.loop-step.invariant.1 env sound) parts is (subst (All (λ a. Avoids env a parts)) (all-first old us f c.in-len1-up.len_at_least c.first-item.is) all)

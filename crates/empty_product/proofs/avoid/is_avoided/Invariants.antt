@@ -1,5 +1,5 @@
-use Rattle.type_diagrams.specs.Whole.{Extends, HasOneNumberEach}
+use Rattle.type_diagrams.specs.Whole.{Extends}
 use Rattle.empty_product.proofs.avoid.is_avoided.Given as goal
 
 abbrev pub invariant-loop-place : goal.invariant-loop-place
-invariant-loop-place l = Extends 0 l.fn.dia l.dia × HasOneNumberEach l.dia
+invariant-loop-place l = Extends 0 l.fn.dia l.dia

@@ -1,6 +1,6 @@
 use Rattle.std.proofs.Common.{[], ◌∷◌, ◌++◌, length, sym, subst, arith}
 use Rattle.type_diagrams.specs.declared.projection.Projection.TheVariants.{Ask}
-use Rattle.type_diagrams.specs.Conditions.{LooksAtKinds, nothing, or_of, without}
+use Rattle.type_diagrams.specs.Conditions.{LooksAtKinds, or_of, without}
 use Rattle.type_diagrams.specs.Tables.{condition}
 use Rattle.type_diagrams.specs.Whole.{Gives}
 use Rattle.type_diagrams.proofs.AskedDiagrams.{gives_itself, then_all}
@@ -12,16 +12,16 @@ use Rattle.empty_product.specs.Products.{AreUnwanted, TellsFilling, all_askings,
 use Rattle.empty_product.proofs.AvoidedFirst.{no_items, rest-shorter, rest_of}
 use Rattle.empty_product.proofs.CellSteps.{aimed-keep, asked-TellsCells, both-TellsCells, elsewhere-TellsCells, empty-AreCells, first-All, first-aims, last-AreCells, looks-keep, one_more-AreUnwanted, or-Looks, rest-Looks, told-TellsFilling, told-elsewhere, told-there, within-AreCells, without-Looks}
 use Rattle.empty_product.proofs.GrownPlaces.{slots-keep, unwanted-keep}
-use Rattle.empty_product.proofs.Never.{is_never}
+use Rattle.empty_product.proofs.Nothing.{is-nothing}
 use Rattle.empty_product.proofs.cells.+cells.Goals as goal
 
-pub returns-then-branch-never-clause-tells : goal.returns-then-branch-never-clause-tells
-returns-then-branch-never-clause-tells g t c =
+pub returns-then-is_nothing-clause-tells : goal.returns-then-is_nothing-clause-tells
+returns-then-is_nothing-clause-tells g t c =
     let old = c.args.dia.now in
     let new = c.diff.new.self in
     let keeps = c.diff.ensures.extends.keeps in
     let d = without (condition old c.args.part) (condition old c.args.found) in
-    let none = (is_never new d c.in_ok-diff.field-0 c.args.never c.in_ok-diff.ensures.one c.in_ok-diff.ensures.condition (gives-keeps old new nothing c.args.never keeps c.requires.never)).0 c.if-branch-never.true in
+    let none = (is-nothing new d c.in_ok-left.left c.is_nothing.result c.in_ok-left.ensures.condition c.is_nothing.ensures).0 c.if-is_nothing.true in
     λ env sound. within-AreCells env (places_of old c.args.slots.now) new (g.M.Member.kept c.args.m.now) (condition old c.args.part) (condition old c.args.found) (aims_of old c.args.undecided.now) (all_askings old c.args.decided.now) c.args.found
     (gives-keeps old new (condition old c.args.found) c.args.found keeps (gives_itself old c.args.found c.requires.found)) none
 
@@ -108,17 +108,14 @@ cells-requires g t c κs within =
       (
         within,
         (
-          gives-keeps old new nothing c.args.never on.keeps c.requires.never,
+          slots-keep old new on.keeps slots c.requires.slots,
           (
-            slots-keep old new on.keeps slots c.requires.slots,
+            both.1,
             (
-              both.1,
+              subst (AreUnwanted new (length slots)) (sym c.deref.ensures.value) decided,
               (
-                subst (AreUnwanted new (length slots)) (sym c.deref.ensures.value) decided,
-                (
-                  length-grows old.diagrams new.diagrams c.args.part on.keeps.diagrams c.requires.part,
-                  (length-grows old.diagrams new.diagrams c.args.found on.keeps.diagrams c.requires.found, c.in_ok-avoid.ensures.one),
-                ),
+                length-grows old.diagrams new.diagrams c.args.part on.keeps.diagrams c.requires.part,
+                length-grows old.diagrams new.diagrams c.args.found on.keeps.diagrams c.requires.found,
               ),
             ),
           ),
@@ -184,17 +181,14 @@ cells-requires-in-len1-up g t c κs within =
       (
         within,
         (
-          gives-keeps old new nothing c.args.never on.keeps c.requires.never,
+          slots-keep old new on.keeps slots c.requires.slots,
           (
-            slots-keep old new on.keeps slots c.requires.slots,
+            both.1,
             (
-              both.1,
+              unwanted-keep old new on.keeps (length slots) c.args.decided.now c.requires.decided,
               (
-                unwanted-keep old new on.keeps (length slots) c.args.decided.now c.requires.decided,
-                (
-                  c.in_ok-outside-in-len1-up.ensures.condition.diagram,
-                  (length-grows mid.diagrams new.diagrams c.in-Parts-2.found c.diff-in-len1-up.ensures.extends.keeps.diagrams found, c.in_ok-outside-in-len1-up.ensures.one),
-                ),
+                c.in_ok-outside-in-len1-up.ensures.condition.diagram,
+                length-grows mid.diagrams new.diagrams c.in-Parts-2.found c.diff-in-len1-up.ensures.extends.keeps.diagrams found,
               ),
             ),
           ),
@@ -241,8 +235,8 @@ returns-in_ok-outside-in-len1-up-clause-tells g t c =
     (both-TellsCells env (places_of old slots) mid new kept last.keeps (sound-keeps env old mid kept to_mid.keeps sound) (aim_of old f) (aims_of old (rest_of us)) (all_askings old decided) part found p cells r rest))
     c.cells-in-len1-up.result c.cells-in-len1-up.ensures.tells
 
-pub returns-then-branch-never-clause-looks : goal.returns-then-branch-never-clause-looks
-returns-then-branch-never-clause-looks g t c =
+pub returns-then-is_nothing-clause-looks : goal.returns-then-is_nothing-clause-looks
+returns-then-is_nothing-clause-looks g t c =
     λ env part found there. looks-keep env c.args.dia.now c.diff.new.self c.args.found c.diff.ensures.extends.keeps c.requires.found found
 
 pub returns-in-Empty-clause-looks : goal.returns-in-Empty-clause-looks

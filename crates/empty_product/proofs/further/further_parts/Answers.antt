@@ -36,7 +36,6 @@ returns-in-Unknown-clause-tells g c = λ env sound.
 pub loop-demand-preserved : goal.loop-demand-preserved
 loop-demand-preserved g c = (
   then_all 0 c.args.dia.now c.loop-demand.dia c.diff.new.self c.loop-demand.invariant.0 c.diff.ensures.extends,
-  c.in_ok-question.ensures.one,
   λ env sound.
       let old = c.args.dia.now in
       let new = c.diff.new.self in
@@ -45,7 +44,7 @@ loop-demand-preserved g c = (
       let askings = rest_askings_of old (take (c.loop-demand.demand-index + 1) c.args.demands.now) in
       let on = then_all 0 old c.loop-demand.dia new c.loop-demand.invariant.0 c.diff.ensures.extends in
       let told = c.in_ok-part.ensures env (sound-keeps env old new kept on.keeps sound) in
-      let split = c.loop-demand.invariant.2 env sound in
+      let split = c.loop-demand.invariant.1 env sound in
       let within : c.loop-demand.demand-index < length c.args.demands.now = omega arith in
       elim c.match-branch-3.branch [
         | in-Part+in_ok-push-in-Part w ↦
@@ -67,4 +66,4 @@ pub returns-clause-tells : goal.returns-clause-tells
 returns-clause-tells g c = λ env sound.
     let kept = g.M.Member.kept c.args.m.now in
     subst (λ ds. AreSplit env c.loop-demand.dia kept (condition c.args.dia.now c.args.rest) (rest_askings_of c.args.dia.now ds) c.loop-demand.parts.items c.loop-demand.staying.items)
-    (take_all c.loop-demand.demand-index c.args.demands.now (omega arith)) (c.loop-demand.invariant.2 env sound)
+    (take_all c.loop-demand.demand-index c.args.demands.now (omega arith)) (c.loop-demand.invariant.1 env sound)

@@ -18,12 +18,11 @@ loop-place-preserved c =
     let q = c.in_ok-items_question.field-0 in
     let items = c.in_ok-push.ensures.items in (
       then_all _ _ _ _ c.loop-place.invariant.0 c.items_question.ensures.extends,
-      c.in_ok-items_question.ensures.one,
-      omega (arith, c.in_ok-push.ensures.len, c.loop-place.invariant.2),
-      subst (AreAsked c.items_question.new.dia base) (sym items) (AreAsked-push c.loop-place.dia c.items_question.new.dia base c.loop-place.fixed.items c.loop-place.place q c.loop-place.invariant.2 c.items_question.ensures.extends.keeps c.loop-place.invariant.3 c.in_ok-items_question.ensures.made),
+      omega (arith, c.in_ok-push.ensures.len, c.loop-place.invariant.1),
+      subst (AreAsked c.items_question.new.dia base) (sym items) (AreAsked-push c.loop-place.dia c.items_question.new.dia base c.loop-place.fixed.items c.loop-place.place q c.loop-place.invariant.1 c.items_question.ensures.extends.keeps c.loop-place.invariant.2 c.in_ok-items_question.ensures.made),
     )
 
 pub returns-clause-count : goal.returns-clause-count
 returns-clause-count c = λ place.
-    let same : length c.loop-place.fixed.items ≡ c.longest_prefix-place-end.result = omega (arith, c.loop-place.invariant.2) in
+    let same : length c.loop-place.fixed.items ≡ c.longest_prefix-place-end.result = omega (arith, c.loop-place.invariant.1) in
     subst (λ n. (place < n) ↔ Any (Fixes c.args.env.now place) c.args.atoms.now) (sym same) (subst (λ e. (place < c.longest_prefix-place-end.result) ↔ Any (Fixes e place) c.args.atoms.now) c.defs.ensures.value (c.longest_prefix-place-end.ensures place))

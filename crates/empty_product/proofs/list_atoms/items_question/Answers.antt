@@ -12,7 +12,6 @@ returns-in_err-question-clause-extends c = extends-more _ _ _ c.every.ensures.ex
 pub loop-atom-init : goal.loop-atom-init
 loop-atom-init c = (
   extends-more _ c.args.dia.now c.every.new.self c.every.ensures.extends,
-  c.in_ok-question.ensures.one,
   gives_as c.every.new.self everything (asks [] []) c.in_ok-question.question asks_nothing c.in_ok-question.ensures.condition,
 )
 
@@ -26,7 +25,6 @@ pub loop-atom-preserved : goal.loop-atom-preserved
 loop-atom-preserved c =
     let d = item_of c.args.env.now c.args.place (get_or c.args.atoms.now c.loop-atom.atom-index 0) in (
       then_on _ _ _ _ (then_all _ _ _ _ c.loop-atom.invariant.0 c.item_question.ensures.extends) c.inter.ensures.extends,
-      c.in_ok-question-2.ensures.one,
-      one_more_wanted (item_of c.args.env.now c.args.place) c.args.atoms.now c.loop-atom.atom-index (omega arith) d refl c.loop-atom.dia c.inter.new.self c.loop-atom.question c.in_ok-question-2.question [] c.loop-atom.invariant.2
-          (and_Gives c.loop-atom.dia c.item_question.new.dia c.inter.new.self d c.loop-atom.question c.in_ok-asked.asked c.in_ok-question-2.question c.loop-atom.invariant.2.diagram c.item_question.ensures.extends.keeps c.in_ok-asked.ensures.made c.in_ok-question-2.ensures.condition),
+      one_more_wanted (item_of c.args.env.now c.args.place) c.args.atoms.now c.loop-atom.atom-index (omega arith) d refl c.loop-atom.dia c.inter.new.self c.loop-atom.question c.in_ok-question-2.question [] c.loop-atom.invariant.1
+          (and_Gives c.loop-atom.dia c.item_question.new.dia c.inter.new.self d c.loop-atom.question c.in_ok-asked.asked c.in_ok-question-2.question c.loop-atom.invariant.1.diagram c.item_question.ensures.extends.keeps c.in_ok-asked.ensures.made c.in_ok-question-2.ensures.condition),
     )

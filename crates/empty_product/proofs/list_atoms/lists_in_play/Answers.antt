@@ -14,8 +14,7 @@ use Rattle.empty_product.proofs.list_atoms.lists_in_play.Goals as goal
 pub loop-atom-preserved-then-not-has_common_length : goal.loop-atom-preserved-then-not-has_common_length
 loop-atom-preserved-then-not-has_common_length c = (
   c.loop-atom.invariant.0,
-  c.loop-atom.invariant.1,
-  AreInPlay-out (IsListOutOfPlay c.args.env.now c.args.wanted.now) c.args.unwanted.now c.loop-atom.atom-index (omega arith) c.loop-atom.playing.items c.loop-atom.invariant.2 (inl (subst (λ e. (n : ℕ) → ¬ All (AllowsLength e n) (get_or c.args.unwanted.now c.loop-atom.atom-index 0 ∷ c.args.wanted.now)) c.defs.ensures.value (c.has_common_length.ensures.none c.if-not-has_common_length.true))),
+  AreInPlay-out (IsListOutOfPlay c.args.env.now c.args.wanted.now) c.args.unwanted.now c.loop-atom.atom-index (omega arith) c.loop-atom.playing.items c.loop-atom.invariant.1 (inl (subst (λ e. (n : ℕ) → ¬ All (AllowsLength e n) (get_or c.args.unwanted.now c.loop-atom.atom-index 0 ∷ c.args.wanted.now)) c.defs.ensures.value (c.has_common_length.ensures.none c.if-not-has_common_length.true))),
 )
 
 pub is_plainly_apart-requires-clause-fixed : goal.is_plainly_apart-requires-clause-fixed
@@ -32,8 +31,7 @@ loop-atom-preserved-then-branch c =
     let fixed = c.in_ok-fixed.fixed.items in
     let here = subst (λ qs. IsApartFrom c.args.env.now c.loop-atom.dia qs a) c.deref.ensures.value (c.in_ok-is_plainly_apart.ensures.apart.0 c.if-branch.true) in (
       then_all _ _ _ _ c.loop-atom.invariant.0 c.is_plainly_apart.ensures.extends,
-      c.in_ok-is_plainly_apart.ensures.one,
-      AreInPlay-out (IsListOutOfPlay c.args.env.now c.args.wanted.now) c.args.unwanted.now c.loop-atom.atom-index (omega arith) c.loop-atom.playing.items c.loop-atom.invariant.2
+      AreInPlay-out (IsListOutOfPlay c.args.env.now c.args.wanted.now) c.args.unwanted.now c.loop-atom.atom-index (omega arith) c.loop-atom.playing.items c.loop-atom.invariant.1
           (apart_is_out c.args.env.now c.args.wanted.now a c.fixed_questions.new.dia c.loop-atom.dia fixed c.in_ok-fixed.ensures.count c.in_ok-fixed.ensures.made c.loop-atom.invariant.0.keeps here),
     )
 
@@ -48,8 +46,7 @@ loop-atom-preserved c =
     let apart : ¬ IsApartFrom c.args.env.now c.loop-atom.dia fixed a = λ h. false≢true (sym c.if-branch.false ∙ c.in_ok-is_plainly_apart.ensures.apart.1 (subst (λ qs. IsApartFrom c.args.env.now c.loop-atom.dia qs a) (sym c.deref.ensures.value) h)) in
     let stays = not_out c.args.env.now c.args.wanted.now a c.fixed_questions.new.dia c.loop-atom.dia fixed c.in_ok-fixed.ensures.count c.in_ok-fixed.ensures.made c.loop-atom.invariant.0.keeps (subst (λ e. (n : ℕ) × All (AllowsLength e n) (a ∷ c.args.wanted.now)) c.defs.ensures.value (c.has_common_length.ensures.some c.if-not-has_common_length.false)) apart in (
       then_all _ _ _ _ c.loop-atom.invariant.0 c.is_plainly_apart.ensures.extends,
-      c.in_ok-is_plainly_apart.ensures.one,
-      subst (AreInPlay IsOut (take (c.loop-atom.atom-index + 1) c.args.unwanted.now)) (sym c.in_ok-push.ensures.items) (AreInPlay-in IsOut c.args.unwanted.now c.loop-atom.atom-index (omega arith) c.loop-atom.playing.items c.loop-atom.invariant.2 stays),
+      subst (AreInPlay IsOut (take (c.loop-atom.atom-index + 1) c.args.unwanted.now)) (sym c.in_ok-push.ensures.items) (AreInPlay-in IsOut c.args.unwanted.now c.loop-atom.atom-index (omega arith) c.loop-atom.playing.items c.loop-atom.invariant.1 stays),
     )
 
 pub returns-clause-extends : goal.returns-clause-extends

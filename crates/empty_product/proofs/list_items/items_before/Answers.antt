@@ -19,7 +19,6 @@ loop-place-init g c =
     let kept = g.M.Member.kept c.args.m.now in
     let never = c.requires.never in (
       not_yet (length env) old,
-      c.requires.one,
       record { diagram = never.diagram; looks = one-Looks env nothing (condition old c.args.never) never.condition (nothing-Looks env) },
       λ base asked same. none-Gathers env old (StandsBefore env base c.args.wanted.now c.args.unwanted.now (λ n. n < 2 ^ 63) 0) (HasHeldItem env old kept) nothing c.args.never never
           (λ items y s. let lt = s.before in absurd (omega (arith, lt))),
@@ -51,15 +50,14 @@ loop-place-preserved g c =
     let first = c.loop-place.invariant.0.keeps in
     let last = keeps-further old mid new first c.items_at.ensures.extends.keeps in (
       then_all _ _ _ _ c.loop-place.invariant.0 c.items_at.ensures.extends,
-      c.in_ok-parts.ensures.one,
       subst (GivesLooking env new) c.in-Parts.is c.in_ok-parts.ensures.question,
       λ base asked same.
           let told = c.in_ok-parts.ensures.tells base (AreAsked-keeps old mid base bases first asked) same in
           let here = subst (TellsListsAt env base new kept wanted unwanted (λ n. n < 2 ^ 63) place (condition mid c.loop-place.found)) c.in-Parts.is told in
-          next-TellsListsBefore env base old mid new kept c.requires.sound first last wanted unwanted nothing c.loop-place.found (λ n. n < 2 ^ 63) place (c.loop-place.invariant.3 base asked same) (Parts c.in-Parts.parts) here,
+          next-TellsListsBefore env base old mid new kept c.requires.sound first last wanted unwanted nothing c.loop-place.found (λ n. n < 2 ^ 63) place (c.loop-place.invariant.2 base asked same) (Parts c.in-Parts.parts) here,
     )
 
 pub returns-clause-tells : goal.returns-clause-tells
 returns-clause-tells g c = λ base asked same.
     let all : c.loop-place.place ≡ c.args.places = omega arith in
-    subst (λ k. TellsListsBefore c.args.env.now base c.loop-place.dia (g.M.Member.kept c.args.m.now) c.args.wanted.now c.args.unwanted.now (λ n. n < 2 ^ 63) k nothing (Parts c.loop-place.found)) all (c.loop-place.invariant.3 base asked same)
+    subst (λ k. TellsListsBefore c.args.env.now base c.loop-place.dia (g.M.Member.kept c.args.m.now) c.args.wanted.now c.args.unwanted.now (λ n. n < 2 ^ 63) k nothing (Parts c.loop-place.found)) all (c.loop-place.invariant.2 base asked same)

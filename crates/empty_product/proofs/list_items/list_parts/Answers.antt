@@ -5,7 +5,8 @@ use Rattle.type_diagrams.specs.declared.kind.Kind.TheVariants.{List as Lists}
 use Rattle.type_diagrams.specs.Conditions.{nothing}
 use Rattle.type_diagrams.specs.Members.{IsListOutOfPlay, atoms_in}
 use Rattle.type_diagrams.proofs.AskedDiagrams.{then_all}
-use Rattle.type_diagrams.proofs.Parts.{nothing-AreParts, never-nothing}
+use Rattle.type_diagrams.proofs.Parts.{nothing-AreParts}
+use Rattle.type_diagrams.proofs.Keeping.{extends-more}
 use Rattle.type_diagrams.proofs.PathShapes.{atoms-are, has_mark}
 use Rattle.type_diagrams.proofs.Shapes.{gives-keeps}
 use Rattle.type_diagrams.proofs.Tellings.{sound-keeps}
@@ -16,12 +17,18 @@ use Rattle.empty_product.proofs.ListParts.{on-ok, result-Projects}
 use Rattle.empty_product.proofs.MarkedPaths.{no_mark_both_ways}
 use Rattle.empty_product.proofs.list_items.list_parts.Goals as goal
 
+pub returns-in_err-never-clause-extends : goal.returns-in_err-never-clause-extends
+returns-in_err-never-clause-extends g c = extends-more _ _ _ c.nothing.ensures.extends
+
+pub returns-then-has_both_marks-clause-extends : goal.returns-then-has_both_marks-clause-extends
+returns-then-has_both_marks-clause-extends g c = extends-more _ _ _ c.nothing.ensures.extends
+
 pub returns-then-has_both_marks-clause-projects : goal.returns-then-has_both_marks-clause-projects
 returns-then-has_both_marks-clause-projects g c =
     let env = c.args.env.now in
     let p = c.args.path.now in
     let both = c.has_both_marks.ensures.0 c.if-has_both_marks.true in
-    nothing-AreParts env c.of.new.self (g.M.Member.kept c.args.m.now) Lists p _ c.in_ok-never.never (never-nothing env c.of.new.self c.in_ok-never.never c.in_ok-never.ensures.condition)
+    nothing-AreParts env c.nothing.new.self (g.M.Member.kept c.args.m.now) Lists p _ c.in_ok-never.never c.in_ok-never.ensures.condition
     (λ x on. absurd (no_mark_both_ways env Lists p x both.0 both.1 on.1))
 
 pub lists_in_play-requires-clause-wanted : goal.lists_in_play-requires-clause-wanted
@@ -33,7 +40,7 @@ lists_in_play-requires-clause-unwanted g c =
     subst (All (IsListAtom c.args.env.now)) (sym (c.deref-2.ensures.value ∙ c.in_ok-named.ensures)) (atoms-are c.args.env.now Lists c.args.path.now.neg c.requires.literals.failing)
 
 pub returns-in_err-unwanted-clause-extends : goal.returns-in_err-unwanted-clause-extends
-returns-in_err-unwanted-clause-extends g c = then_all _ _ _ _ c.of.ensures.extends c.lists_in_play.ensures.extends
+returns-in_err-unwanted-clause-extends g c = then_all _ _ _ _ (extends-more _ _ _ c.nothing.ensures.extends) c.lists_in_play.ensures.extends
 
 pub path_items-requires-clause-wanted : goal.path_items-requires-clause-wanted
 path_items-requires-clause-wanted g c =
@@ -50,15 +57,15 @@ path_items-requires-clause-unwanted g c =
 
 pub path_items-requires-clause-never : goal.path_items-requires-clause-never
 path_items-requires-clause-never g c =
-    gives-keeps c.of.new.self c.lists_in_play.new.dia nothing c.in_ok-never.never c.lists_in_play.ensures.extends.keeps (never-nothing c.args.env.now c.of.new.self c.in_ok-never.never c.in_ok-never.ensures.condition)
+    gives-keeps c.nothing.new.self c.lists_in_play.new.dia nothing c.in_ok-never.never c.lists_in_play.ensures.extends.keeps c.in_ok-never.ensures.condition
 
 pub path_items-requires-clause-sound : goal.path_items-requires-clause-sound
 path_items-requires-clause-sound g c =
-    let both = then_all _ c.args.dia.now c.of.new.self c.lists_in_play.new.dia c.of.ensures.extends c.lists_in_play.ensures.extends in
+    let both = then_all _ c.args.dia.now c.nothing.new.self c.lists_in_play.new.dia (extends-more _ _ _ c.nothing.ensures.extends) c.lists_in_play.ensures.extends in
     sound-keeps c.args.env.now c.args.dia.now c.lists_in_play.new.dia (g.M.Member.kept c.args.m.now) both.keeps c.requires.sound
 
 pub returns-clause-extends : goal.returns-clause-extends
-returns-clause-extends g c = then_all _ _ _ _ c.of.ensures.extends (then_all _ _ _ _ c.lists_in_play.ensures.extends c.path_items.ensures.extends)
+returns-clause-extends g c = then_all _ _ _ _ (extends-more _ _ _ c.nothing.ensures.extends) (then_all _ _ _ _ c.lists_in_play.ensures.extends c.path_items.ensures.extends)
 
 pub returns-clause-projects : goal.returns-clause-projects
 returns-clause-projects g c =

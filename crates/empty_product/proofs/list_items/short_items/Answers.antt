@@ -20,7 +20,6 @@ loop-length-init g c =
     let kept = g.M.Member.kept c.args.m.now in
     let place = c.args.place in (
       not_yet (length env) old,
-      c.requires.one,
       c.requires.found,
       λ base asked. none-Gathers env old (StandsInList env base c.args.wanted.now c.args.unwanted.now (λ n. n < place + 1) place) (HasHeldItem env old kept) (condition old c.args.found) c.args.found (gives_itself old c.args.found c.requires.found.diagram)
           (λ items y s. let long = slice_get_within items place y s.stands in let short = s.count in absurd (omega (arith, long, short))),
@@ -59,7 +58,6 @@ loop-length-preserved g c =
     let taken : length (take k bases) ≡ k = omega (arith, length-take k bases, lt) in
     let last = keeps-further old mid new first c.items_with_length.ensures.extends.keeps in (
       then_all _ _ _ _ c.loop-length.invariant.0 c.items_with_length.ensures.extends,
-      c.in_ok-parts.ensures.one,
       subst (GivesLooking env new) c.in-Parts.is c.in_ok-parts.ensures.question,
       λ base asked.
           let told = c.in_ok-parts.ensures.tells base (AreAsked-take mid base bases k (AreAsked-keeps old mid base bases first asked)) in
@@ -71,11 +69,11 @@ loop-length-preserved g c =
           (λ (a : n < k). inl a)
           (λ (le : k ≤ n). let same : n ≡ length (take k bases) = omega (arith, le, less, taken) in inr same)
           (order n k))
-          (c.loop-length.invariant.3 base asked) (Parts c.in-Parts.parts) here,
+          (c.loop-length.invariant.2 base asked) (Parts c.in-Parts.parts) here,
     )
 
 pub returns-clause-tells : goal.returns-clause-tells
 returns-clause-tells g c = λ base asked.
     let some = c.requires.place in
     let all : c.loop-length.length ≡ length c.args.bases.now = omega (arith, some) in
-    subst (λ k. TellsListsAt c.args.env.now base c.loop-length.dia (g.M.Member.kept c.args.m.now) c.args.wanted.now c.args.unwanted.now (λ n. n < k) c.args.place (condition c.args.dia.now c.args.found) (Parts c.loop-length.all)) all (c.loop-length.invariant.3 base asked)
+    subst (λ k. TellsListsAt c.args.env.now base c.loop-length.dia (g.M.Member.kept c.args.m.now) c.args.wanted.now c.args.unwanted.now (λ n. n < k) c.args.place (condition c.args.dia.now c.args.found) (Parts c.loop-length.all)) all (c.loop-length.invariant.2 base asked)

@@ -17,11 +17,10 @@ loop-atom-preserved c =
     let i = c.loop-atom.atom-index in
     let u = c.in_ok-demands.field-0 in (
       then_all _ _ _ _ c.loop-atom.invariant.0 c.demands.ensures.extends,
-      c.in_ok-demands.ensures.one,
       subst (AreDemandsOf env c.demands.new.dia c.args.places (take (i + 1) c.args.atoms.now)) (sym c.in_ok-push.ensures.items)
-          (AreDemandsOf-more env c.loop-atom.dia c.demands.new.dia c.args.places c.args.atoms.now i c.loop-atom.unwanted.items u (omega arith) c.demands.ensures.extends.keeps c.loop-atom.invariant.2 c.in_ok-demands.ensures.made),
+          (AreDemandsOf-more env c.loop-atom.dia c.demands.new.dia c.args.places c.args.atoms.now i c.loop-atom.unwanted.items u (omega arith) c.demands.ensures.extends.keeps c.loop-atom.invariant.1 c.in_ok-demands.ensures.made),
     )
 
 pub returns-clause-made : goal.returns-clause-made
 returns-clause-made c =
-    subst (λ xs. AreDemandsOf c.args.env.now c.loop-atom.dia c.args.places xs c.loop-atom.unwanted.items) (take_all c.loop-atom.atom-index c.args.atoms.now (omega arith)) c.loop-atom.invariant.2
+    subst (λ xs. AreDemandsOf c.args.env.now c.loop-atom.dia c.args.places xs c.loop-atom.unwanted.items) (take_all c.loop-atom.atom-index c.args.atoms.now (omega arith)) c.loop-atom.invariant.1

@@ -17,9 +17,8 @@ loop-place-preserved c =
     let q = c.in_ok-base.field-0 in
     let qs = c.loop-place.bases.items in (
       then_all _ _ _ _ c.loop-place.invariant.0 c.base.ensures.extends,
-      c.in_ok-base.ensures.one,
-      omega (arith, c.in_ok-push.ensures.len, c.loop-place.invariant.2),
-      subst (AreAsked c.base.new.dia asked) (sym c.in_ok-push.ensures.items) (AreAsked-push c.loop-place.dia c.base.new.dia asked qs c.loop-place.place q c.loop-place.invariant.2 c.base.ensures.extends.keeps c.loop-place.invariant.3 c.in_ok-base.ensures.made),
+      omega (arith, c.in_ok-push.ensures.len, c.loop-place.invariant.1),
+      subst (AreAsked c.base.new.dia asked) (sym c.in_ok-push.ensures.items) (AreAsked-push c.loop-place.dia c.base.new.dia asked qs c.loop-place.place q c.loop-place.invariant.1 c.base.ensures.extends.keeps c.loop-place.invariant.2 c.in_ok-base.ensures.made),
     )
 
 pub returns-in_err-base-2-clause-extends : goal.returns-in_err-base-2-clause-extends
@@ -36,4 +35,4 @@ returns-clause-made c =
     let asked : ℕ → Condition = item_asked c.args.env.now c.args.wanted.now c.args.marked in
     let q = c.in_ok-base-2.field-0 in
     let qs = c.loop-place.bases.items in
-    subst (AreAsked c.base-2.new.dia asked) (sym c.in_ok-push-2.ensures.items) (AreAsked-push c.loop-place.dia c.base-2.new.dia asked qs c.args.prefix q (omega (arith, c.loop-place.invariant.2)) c.base-2.ensures.extends.keeps c.loop-place.invariant.3 c.in_ok-base-2.ensures.made)
+    subst (AreAsked c.base-2.new.dia asked) (sym c.in_ok-push-2.ensures.items) (AreAsked-push c.loop-place.dia c.base-2.new.dia asked qs c.args.prefix q (omega (arith, c.loop-place.invariant.1)) c.base-2.ensures.extends.keeps c.loop-place.invariant.2 c.in_ok-base-2.ensures.made)

@@ -16,7 +16,6 @@ loop-place-preserved c =
     let place = c.loop-place.place in
     let q = c.in_ok-question.question in (
       then_all _ _ _ _ c.loop-place.invariant.0 c.item_question.ensures.extends,
-      c.in_ok-question.ensures.one,
       subst (IsDemandOf env c.item_question.new.dia (place + 1) c.args.atom) (sym c.in_ok-push.ensures.items)
-          (IsDemandOf-push env c.loop-place.dia c.item_question.new.dia place c.args.atom c.loop-place.demands.items (record { question = q; required = false }) c.item_question.ensures.extends.keeps c.loop-place.invariant.2 c.in_ok-question.ensures.made refl),
+          (IsDemandOf-push env c.loop-place.dia c.item_question.new.dia place c.args.atom c.loop-place.demands.items (record { question = q; required = false }) c.item_question.ensures.extends.keeps c.loop-place.invariant.1 c.in_ok-question.ensures.made refl),
     )

@@ -37,15 +37,14 @@ path_lists-requires-clause-unwanted g c =
 
 pub path_lists-requires-clause-sound : goal.path_lists-requires-clause-sound
 path_lists-requires-clause-sound g c =
-    let both = then_all _ c.args.dia.now c.of.new.self c.lists_in_play.new.dia c.of.ensures.extends c.lists_in_play.ensures.extends in
-    sound-keeps c.args.env.now c.args.dia.now c.lists_in_play.new.dia (g.M.Member.kept c.args.m.now) both.keeps c.requires.sound
+    sound-keeps c.args.env.now c.args.dia.now c.lists_in_play.new.dia (g.M.Member.kept c.args.m.now) c.lists_in_play.ensures.extends.keeps c.requires.sound
 
 pub turn_of-requires : goal.turn_of-requires
 turn_of-requires g c =
     lists-IsFilled c.args.env.now (item_asked c.args.env.now c.deref-3.result.now c.is_marked-marked.result) c.path_lists.new.dia (g.M.Member.kept c.args.m.now) c.deref-3.result.now c.deref-4.result.now (λ n. ⊤) c.in_ok-filling.filling c.in_ok-filling.ensures.tells
 
 pub returns-clause-extends : goal.returns-clause-extends
-returns-clause-extends g c = then_all _ _ _ _ c.of.ensures.extends (then_all _ _ _ _ c.lists_in_play.ensures.extends c.path_lists.ensures.extends)
+returns-clause-extends g c = then_all _ _ _ _ c.lists_in_play.ensures.extends c.path_lists.ensures.extends
 
 pub returns-clause-turns : goal.returns-clause-turns
 returns-clause-turns g c =
@@ -75,8 +74,5 @@ returns-then-has_both_marks-clause-turns g c = λ x on.
     let both = c.has_both_marks.ensures.0 c.if-has_both_marks.true in
     absurd (no_mark_both_ways c.args.env.now Lists p x both.0 both.1 on.1)
 
-pub returns-in_err-unwanted-clause-extends : goal.returns-in_err-unwanted-clause-extends
-returns-in_err-unwanted-clause-extends g c = then_all _ _ _ _ c.of.ensures.extends c.lists_in_play.ensures.extends
-
 pub returns-in_err-filling-clause-extends : goal.returns-in_err-filling-clause-extends
-returns-in_err-filling-clause-extends g c = then_all _ _ _ _ c.of.ensures.extends (then_all _ _ _ _ c.lists_in_play.ensures.extends c.path_lists.ensures.extends)
+returns-in_err-filling-clause-extends g c = then_all _ _ _ _ c.lists_in_play.ensures.extends c.path_lists.ensures.extends

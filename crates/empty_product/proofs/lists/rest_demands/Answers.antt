@@ -26,12 +26,11 @@ loop-atom-preserved c =
     let d : RestDemand = record { atom = a; question = c.in_ok-question.question } in
     let ds = c.loop-atom.demands.items in
     let Is : RestDemand → Type 0 = λ e. Gives c.item_question.new.dia (item_of env c.args.prefix e.atom) e.question in
-    let named : map (λ (e : RestDemand). e.atom) (ds ++ d ∷ []) ≡ take (i + 1) c.args.atoms.now = names-push ds d ∙ ap (λ xs. xs ++ a ∷ []) c.loop-atom.invariant.2 ∙ sym (take_more c.args.atoms.now i 0 (omega arith)) in (
+    let named : map (λ (e : RestDemand). e.atom) (ds ++ d ∷ []) ≡ take (i + 1) c.args.atoms.now = names-push ds d ∙ ap (λ xs. xs ++ a ∷ []) c.loop-atom.invariant.1 ∙ sym (take_more c.args.atoms.now i 0 (omega arith)) in (
       then_all _ _ _ _ c.loop-atom.invariant.0 c.item_question.ensures.extends,
-      c.in_ok-question.ensures.one,
       subst (λ xs. map (λ (e : RestDemand). e.atom) xs ≡ take (i + 1) c.args.atoms.now) (sym c.in_ok-push.ensures.items) named,
-      subst (All Is) (sym c.in_ok-push.ensures.items) (All-push Is ds d (rest-demands-keep env c.loop-atom.dia c.item_question.new.dia c.args.prefix ds c.item_question.ensures.extends.keeps c.loop-atom.invariant.3) c.in_ok-question.ensures.made),
+      subst (All Is) (sym c.in_ok-push.ensures.items) (All-push Is ds d (rest-demands-keep env c.loop-atom.dia c.item_question.new.dia c.args.prefix ds c.item_question.ensures.extends.keeps c.loop-atom.invariant.2) c.in_ok-question.ensures.made),
     )
 
 pub returns-clause-atoms : goal.returns-clause-atoms
-returns-clause-atoms c = c.loop-atom.invariant.2 ∙ take_all c.loop-atom.atom-index c.args.atoms.now (omega arith)
+returns-clause-atoms c = c.loop-atom.invariant.1 ∙ take_all c.loop-atom.atom-index c.args.atoms.now (omega arith)

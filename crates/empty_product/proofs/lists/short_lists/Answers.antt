@@ -62,13 +62,12 @@ loop-length-preserved g c =
     let taken : length (take k bases) ≡ k = omega (arith, length-take k bases, lt) in
     let last = keeps-further old mid new first c.lists_with_length.ensures.extends.keeps in (
       then_all _ _ _ _ c.loop-length.invariant.0 c.lists_with_length.ensures.extends,
-      c.in_ok-lists_with_length.ensures.one,
       λ base asked.
           let told = c.in_ok-lists_with_length.ensures.tells base (AreAsked-take mid base bases k (AreAsked-keeps old mid base bases first asked)) in
           let none = subst (TellsLists env base new kept wanted unwanted (λ n. n ≡ length (take k bases))) c.in-Empty.is told in
-          next-TellsLists env base old mid new kept c.requires.sound first last wanted unwanted k (c.loop-length.invariant.2 base asked) (λ items e without. none items (e ∙ sym taken) without),
+          next-TellsLists env base old mid new kept c.requires.sound first last wanted unwanted k (c.loop-length.invariant.1 base asked) (λ items e without. none items (e ∙ sym taken) without),
     )
 
 pub returns-clause-tells : goal.returns-clause-tells
 returns-clause-tells g c = λ base asked items long without.
-    c.loop-length.invariant.2 base asked items (omega (arith, long)) without
+    c.loop-length.invariant.1 base asked items (omega (arith, long)) without

@@ -1,7 +1,7 @@
 use Rattle.std.proofs.Common.{◌≡◌, ◌++◌, All, Some, length, slice_get, sym, subst}
 use Rattle.std.specs.List.{AllZip}
 use Rattle.std.proofs.lemmas.Option.{slice_get_within}
-use Rattle.type_diagrams.specs.Conditions.{LooksAtKinds, nothing}
+use Rattle.type_diagrams.specs.Conditions.{LooksAtKinds}
 use Rattle.type_diagrams.specs.Tables.{condition}
 use Rattle.type_diagrams.proofs.AskedDiagrams.{then_all, then_on}
 use Rattle.type_diagrams.proofs.Shapes.{IfOk-map, gives-keeps}
@@ -73,14 +73,6 @@ placed_parts-requires-clause-target g c =
     let target = c.in_ok-target.target in
     let is_target = subst (λ ks. slice_get ks target ≡ Some key) (sym c.as_slice-all.ensures.value) c.in_ok-target.ensures.place in
     slice_get_within keys target key is_target
-
-pub placed_parts-requires-clause-never : goal.placed_parts-requires-clause-never
-placed_parts-requires-clause-never g c =
-    let old = c.args.dia.now in
-    let new = c.further_parts.new.dia in
-    let to_mid = then_all _ _ _ _ c.base.ensures.extends c.rest_demands.ensures.extends in
-    let to_new = then_on _ _ _ _ to_mid c.further_parts.ensures.extends in
-    gives-keeps old new nothing c.args.never to_new.keeps c.requires.never
 
 pub placed_parts-requires-clause-sound : goal.placed_parts-requires-clause-sound
 placed_parts-requires-clause-sound g c =

@@ -19,7 +19,6 @@ loop-key-init g c =
     let env = c.args.env.now in
     let kept = g.M.Member.kept c.args.m.now in (
       not_yet _ _,
-      c.requires.one,
       no-AreMembers env c.args.dia.now kept c.args.path.now c.args.unwanted.now c.args.never c.requires.never,
     )
 
@@ -69,14 +68,13 @@ loop-key-preserved g c =
     let i = c.loop-key.key-index in
     let found = c.loop-key.found in
     let q = c.in-Parts.parts in
-    let before = c.loop-key.invariant.2 in
+    let before = c.loop-key.invariant.1 in
     let sound = sound-keeps env c.args.dia.now old kept c.loop-key.invariant.0.keeps c.requires.sound in
     let looks = subst (LooksAtParts env new) c.in-Parts.is (c.in_ok-next.ensures.looks before.looks) in
     let told = subst (λ ws. TellsMembers env ws (has_mark p) new kept playing key (condition old found) (Parts q)) (c.as_slice-wanted.ensures.value ∙ c.in_ok-holding.ensures)
     (subst (λ m. TellsMembers env c.as_slice-wanted.result.now m new kept playing key (condition old found) (Parts q)) c.is_marked-marked.ensures
     (subst (TellsMembers env c.as_slice-wanted.result.now c.is_marked-marked.result new kept playing key (condition old found)) c.in-Parts.is c.in_ok-next.ensures.tells)) in (
       then_all _ _ _ _ c.loop-key.invariant.0 c.parts_at_key.ensures.extends,
-      c.in_ok-next.ensures.one,
       subst (λ ks. AreMembers env new kept p playing ks q) (sym (take_more keys i key (omega arith)))
           (more-AreMembers env c.requires.few old new kept c.parts_at_key.ensures.extends.keeps sound p c.requires.literals playing c.requires.play c.requires.one_way (take i keys) (get_or keys i key) found q before looks
           (subst (λ k. TellsMembers env (atoms_in p.pos) (has_mark p) new kept playing k (condition old found) (Parts q)) c.key-item.is told)),

@@ -31,7 +31,6 @@ loop-base-preserved c =
     let diagram = item-All (λ x. IsDiagram c.args.dia.now x.question) bases i b (omega arith) c.base-item.is c.requires.bases in
     let e = apart-keeps env c.args.dia.now c.loop-base.dia c.args.atom b c.loop-base.invariant.0.keeps diagram in (
       then_all _ _ _ _ c.loop-base.invariant.0 c.is_apart_at.ensures.extends,
-      c.in_ok-is_apart_at.ensures.one,
-      none-more (IsApartAt env c.args.dia.now c.args.atom) bases i b (omega arith) c.base-item.is c.loop-base.invariant.2
+      none-more (IsApartAt env c.args.dia.now c.args.atom) bases i b (omega arith) c.base-item.is c.loop-base.invariant.1
           (λ h. false≢true (sym c.if-branch.false ∙ c.in_ok-is_apart_at.ensures.apart.1 (e.1 h))),
     )

@@ -26,8 +26,7 @@ returns-then-branch-clause-apart c =
 pub loop-field-preserved : goal.loop-field-preserved
 loop-field-preserved c = (
   then_all _ _ _ _ c.loop-field.invariant.0 c.is_apart_by.ensures.extends,
-  c.in_ok-is_apart_by.ensures.one,
-  none-more (IsApartBy c.args.env.now c.args.wanted.now c.args.atom) c.mapping_parts.result.fields.now c.loop-field.field-index c.field-item.result (omega arith) c.field-item.is c.loop-field.invariant.2
+  none-more (IsApartBy c.args.env.now c.args.wanted.now c.args.atom) c.mapping_parts.result.fields.now c.loop-field.field-index c.field-item.result (omega arith) c.field-item.is c.loop-field.invariant.1
       (λ h. false≢true (sym c.if-branch.false ∙ c.in_ok-is_apart_by.ensures.apart.1 h)),
 )
 
@@ -36,5 +35,5 @@ returns-clause-apart c =
     let env = c.args.env.now in
     let fields = c.mapping_parts.result.fields.now in
     let parts = subst (λ e. parts_of mapping_parts e c.args.atom ≡ Some (fields, option_copied c.mapping_parts.result.rest)) c.defs.ensures.value c.mapping_parts.ensures in
-    let none = subst (λ fs. Any (IsApartBy env c.args.wanted.now c.args.atom) fs → ⊥) (take_all c.loop-field.field-index fields (omega arith)) c.loop-field.invariant.2 in
+    let none = subst (λ fs. Any (IsApartBy env c.args.wanted.now c.args.atom) fs → ⊥) (take_all c.loop-field.field-index fields (omega arith)) c.loop-field.invariant.1 in
     (λ h. absurd (false≢true h), λ h. absurd (none (subst (Any (IsApartBy env c.args.wanted.now c.args.atom)) (fields-are env c.args.atom fields (option_copied c.mapping_parts.result.rest) parts) h)))

@@ -32,9 +32,8 @@ loop-key-preserved c =
           (subst (λ e. IsTrue c.any_requires-required.result ↔ Any (Requires e key) wanted) c.defs-defs.ensures.value c.any_requires-required.ensures);
     } in (
       then_all _ _ _ _ c.loop-key.invariant.0 c.members_question.ensures.extends,
-      c.in_ok-question.ensures.one,
       subst (AreBasesAt env new wanted (take (c.loop-key.key-index + 1) keys)) (sym c.in_ok-push.ensures.items)
-          (more-bases env wanted keys c.loop-key.bases.items c.loop-key.dia new c.members_question.ensures.extends.keeps c.loop-key.key-index key b (omega arith) c.key-item.is c.share.ensures is c.loop-key.invariant.2),
+          (more-bases env wanted keys c.loop-key.bases.items c.loop-key.dia new c.members_question.ensures.extends.keeps c.loop-key.key-index key b (omega arith) c.key-item.is c.share.ensures is c.loop-key.invariant.1),
     )
 
 pub returns-clause-bases : goal.returns-clause-bases
@@ -44,4 +43,4 @@ returns-clause-bases c =
     let keys = c.as_slice-keys.result.now in
     let named = subst (HasNamedKeys env wanted) (sym c.as_slice-keys.ensures.value) (subst (λ e. HasNamedKeys e wanted c.in_ok-named.named.items) c.defs-defs.ensures.value c.in_ok-named.ensures) in
     all-bases env wanted keys c.loop-key.bases.items c.loop-key.dia named
-    (subst (λ ks. AreBasesAt env c.loop-key.dia wanted ks c.loop-key.bases.items) (take_all c.loop-key.key-index keys (omega arith)) c.loop-key.invariant.2)
+    (subst (λ ks. AreBasesAt env c.loop-key.dia wanted ks c.loop-key.bases.items) (take_all c.loop-key.key-index keys (omega arith)) c.loop-key.invariant.1)

@@ -9,7 +9,6 @@ use Rattle.empty_product.proofs.mapping_atoms.mappings_in_play.Goals as goal
 pub loop-atom-init : goal.loop-atom-init
 loop-atom-init c = (
   c.key_bases.ensures.extends,
-  c.in_ok-found.ensures.one,
   subst (AreInPlay (IsMappingOutOfPlay c.args.env.now c.args.wanted.now) []) (sym c.new-playing.ensures.items) (none-playing (IsMappingOutOfPlay c.args.env.now c.args.wanted.now)),
   subst (AreBases c.args.env.now c.key_bases.new.dia c.args.wanted.now) (sym c.as_slice-bases.ensures.value) c.in_ok-found.ensures.bases,
 )
@@ -26,8 +25,7 @@ loop-atom-preserved c =
     let wanted = c.args.wanted.now in
     let IsOut = IsMappingOutOfPlay env wanted in (
       then_all _ _ _ _ c.loop-atom.invariant.0 c.is_out_of_play.ensures.extends,
-      c.in_ok-out.ensures.one,
       subst (AreInPlay IsOut (take (c.loop-atom.atom-index + 1) c.args.unwanted.now)) (sym c.in_ok-add_unless.ensures)
-          (one-by-one IsOut c.args.unwanted.now c.loop-atom.atom-index (omega arith) c.loop-atom.playing.items c.loop-atom.invariant.2 c.in_ok-out.out c.in_ok-out.ensures.out),
-      AreBases-keeps env c.loop-atom.dia c.is_out_of_play.new.dia wanted c.as_slice-bases.result.now c.is_out_of_play.ensures.extends.keeps c.loop-atom.invariant.3,
+          (one-by-one IsOut c.args.unwanted.now c.loop-atom.atom-index (omega arith) c.loop-atom.playing.items c.loop-atom.invariant.1 c.in_ok-out.out c.in_ok-out.ensures.out),
+      AreBases-keeps env c.loop-atom.dia c.is_out_of_play.new.dia wanted c.as_slice-bases.result.now c.is_out_of_play.ensures.extends.keeps c.loop-atom.invariant.2,
     )

@@ -12,7 +12,6 @@ returns-in_err-question-clause-extends c = extends-more _ _ _ c.every.ensures.ex
 pub loop-atom-init : goal.loop-atom-init
 loop-atom-init c = (
   extends-more _ c.args.dia.now c.every.new.self c.every.ensures.extends,
-  c.in_ok-question.ensures.one,
   gives_as c.every.new.self everything (asks [] []) c.in_ok-question.question asks_nothing c.in_ok-question.ensures.condition,
 )
 
@@ -29,10 +28,9 @@ loop-atom-preserved c =
     let atoms = c.args.atoms.now in
     let i = c.loop-atom.atom-index in
     let q = c.loop-atom.question in
-    let gives = c.loop-atom.invariant.2 in
+    let gives = c.loop-atom.invariant.1 in
     let d = member_of env key (get_or atoms i 0) in
     let both = and_Gives c.loop-atom.dia c.member_question.new.dia c.inter.new.self d q c.in_ok-asked.asked c.in_ok-question-2.question gives.diagram c.member_question.ensures.extends.keeps c.in_ok-asked.ensures.made c.in_ok-question-2.ensures.condition in (
       then_on _ _ _ _ (then_all _ _ _ _ c.loop-atom.invariant.0 c.member_question.ensures.extends) c.inter.ensures.extends,
-      c.in_ok-question-2.ensures.one,
       one_more_wanted (member_of env key) atoms i (omega arith) d refl c.loop-atom.dia c.inter.new.self q c.in_ok-question-2.question [] gives both,
     )

@@ -8,9 +8,6 @@ use Rattle.empty_product.specs.Mappings.{wanted_at}
 use Rattle.empty_product.proofs.FrozenParts.{frozen_where_asks}
 use Rattle.empty_product.proofs.mappings.base.Goals as goal
 
-pub frozen_if-requires-clause-question : goal.frozen_if-requires-clause-question
-frozen_if-requires-clause-question c = c.in_ok-question.ensures.made.diagram
-
 pub returns-clause-extends : goal.returns-clause-extends
 returns-clause-extends c = then_all _ _ _ _ c.members_question.ensures.extends c.frozen_if.ensures.extends
 

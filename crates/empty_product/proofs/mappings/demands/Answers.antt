@@ -1,17 +1,12 @@
 use Rattle.std.proofs.Common.{◌↔◌, ◌+◌, IsTrue, take, sym, subst, arith}
 use Rattle.std.proofs.lemmas.List.{take_all}
 use Rattle.std.specs.List.{AllZip}
-use Rattle.type_diagrams.specs.Conditions.{nothing}
 use Rattle.type_diagrams.specs.Members.{Requires}
 use Rattle.type_diagrams.proofs.AskedDiagrams.{then_all}
-use Rattle.type_diagrams.proofs.Shapes.{gives-keeps}
 use Rattle.empty_product.specs.declared.slots.Demand.{Demand}
 use Rattle.empty_product.specs.Mappings.{IsDemandOf}
 use Rattle.empty_product.proofs.MappingBodies.{demand-keeps, zip-more}
 use Rattle.empty_product.proofs.mappings.demands.Goals as goal
-
-pub member_question-requires-clause-never : goal.member_question-requires-clause-never
-member_question-requires-clause-never c = gives-keeps c.args.dia.now c.loop-key.dia nothing c.args.never c.loop-key.invariant.0.keeps c.requires.never
 
 pub returns-in_err-question-clause-extends : goal.returns-in_err-question-clause-extends
 returns-in_err-question-clause-extends c = then_all _ _ _ _ c.loop-key.invariant.0 c.member_question.ensures.extends
@@ -33,12 +28,11 @@ loop-key-preserved c =
       required = subst (λ e. IsTrue c.is_required-required.result ↔ Requires e key a) c.defs.ensures.value c.is_required-required.ensures;
     } in (
       then_all _ _ _ _ c.loop-key.invariant.0 c.member_question.ensures.extends,
-      c.in_ok-question.ensures.one,
       subst (AllZip (IsDemandOf env new a) (take (i + 1) keys)) (sym c.in_ok-push.ensures.items)
           (zip-more (IsDemandOf env c.loop-key.dia a) (IsDemandOf env new a) (demand-keeps env c.loop-key.dia new c.member_question.ensures.extends.keeps a) keys c.loop-key.demands.items i key d (omega arith)
-          c.loop-key.invariant.2 (subst (λ k. IsDemandOf env new a k d) c.key-item.is is)),
+          c.loop-key.invariant.1 (subst (λ k. IsDemandOf env new a k d) c.key-item.is is)),
     )
 
 pub returns-clause-demands : goal.returns-clause-demands
 returns-clause-demands c =
-    subst (λ xs. AllZip (IsDemandOf c.args.env.now c.loop-key.dia c.args.atom) xs c.loop-key.demands.items) (take_all c.loop-key.key-index c.args.keys.now (omega arith)) c.loop-key.invariant.2
+    subst (λ xs. AllZip (IsDemandOf c.args.env.now c.loop-key.dia c.args.atom) xs c.loop-key.demands.items) (take_all c.loop-key.key-index c.args.keys.now (omega arith)) c.loop-key.invariant.1

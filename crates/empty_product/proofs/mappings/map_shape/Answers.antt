@@ -23,9 +23,6 @@ mappings_in_play-requires-clause-wanted g c = subst (All (IsMappingAtom c.args.e
 pub mappings_in_play-requires-clause-unwanted : goal.mappings_in_play-requires-clause-unwanted
 mappings_in_play-requires-clause-unwanted g c = subst (All (IsMappingAtom c.args.env.now)) (sym (c.as_slice.ensures.value ∙ c.in_ok-failing.ensures)) (atoms-are c.args.env.now Mappings c.args.path.now.neg c.requires.literals.failing)
 
-pub returns-in_err-playing-clause-extends : goal.returns-in_err-playing-clause-extends
-returns-in_err-playing-clause-extends g c = then_all _ _ _ _ c.of.ensures.extends c.mappings_in_play.ensures.extends
-
 pub settled-requires-clause-wanted : goal.settled-requires-clause-wanted
 settled-requires-clause-wanted g c = subst (All (IsMappingAtom c.args.env.now)) (sym (c.as_slice-wanted.ensures.value ∙ c.in_ok-holding.ensures)) (atoms-are c.args.env.now Mappings c.args.path.now.pos c.requires.literals.holding)
 
@@ -36,7 +33,7 @@ settled-requires-clause-unwanted g c =
     subst (All (IsMappingAtom env)) (sym c.as_slice-unwanted.ensures.value) (playing-are (IsMappingAtom env) (IsMappingOutOfPlay env c.as_slice-wanted.result.now) c.as_slice.result.now c.in_ok-playing.playing.items c.in_ok-playing.ensures.playing all)
 
 pub returns-clause-extends : goal.returns-clause-extends
-returns-clause-extends g c = then_all _ _ _ _ (then_all _ _ _ _ c.of.ensures.extends c.mappings_in_play.ensures.extends) c.settled.ensures.extends
+returns-clause-extends g c = then_all _ _ _ _ c.mappings_in_play.ensures.extends c.settled.ensures.extends
 
 pub returns-clause-turns : goal.returns-clause-turns
 returns-clause-turns g c =

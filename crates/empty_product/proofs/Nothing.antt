@@ -1,20 +1,14 @@
--- The question for no shape, and questions of which nothing is left.
-use Rattle.std.proofs.Common.{◌≡◌, ◌↔◌, ℕ, List, [], ◌∷◌, ◌&&◌, Bool, true, false, refl, sym, ap, subst, ◌∙◌}
+-- Questions of which nothing is left.
+use Rattle.std.proofs.Common.{◌≡◌, ◌↔◌, ℕ, List, [], ◌∷◌, ◌&&◌, Bool, true, false, IsTrue, refl, sym, ap, ◌∙◌}
+use Rattle.std.proofs.lemmas.Bool.{false≢true}
 use Rattle.std.specs.List.{list_all}
 use Rattle.type_diagrams.specs.Conditions.{Condition, AreOne, IsNothing, and_of, nothing, asks}
 use Rattle.type_diagrams.specs.declared.operation.Operation.TheVariants.{And}
 use Rattle.type_diagrams.specs.Tables.{Table, IsDiagram, condition}
-use Rattle.type_diagrams.specs.Whole.{Keeps, Gives, HasOneNumberEach}
+use Rattle.type_diagrams.specs.Whole.{Keeps, Gives}
 use Rattle.type_diagrams.proofs.Asking.{one_back}
 use Rattle.type_diagrams.proofs.AskedDiagrams.{gives_itself}
 use Rattle.type_diagrams.proofs.Shapes.{one-further, gives-keeps, combined-Gives}
-
--- the number of a diagram is that of the question for no shape exactly where it has none
-pub is_never : (t : Table) (c : Condition) (n never : ℕ) → HasOneNumberEach t → Gives t c n → Gives t nothing never → (n ≡ never) ↔ IsNothing c
-is_never t c n never one g none = (
-  λ e. one-further c (condition t n) nothing (one_back (condition t n) c g.condition) (subst (λ k. AreOne (condition t k) nothing) (sym e) none.condition),
-  λ h. one n never g.diagram none.diagram (one-further (condition t n) nothing (condition t never) (one-further (condition t n) c nothing g.condition h) (one_back (condition t never) nothing none.condition)),
-)
 
 -- what two diagrams of an older table have in common
 pub common-Gives : (old mid new : Table) (c : Condition) (a b n : ℕ) → IsDiagram old b → Keeps old mid → Gives mid c a → Gives new (and_of (condition mid a) (condition mid b)) n → Gives new (and_of c (condition old b)) n
@@ -37,3 +31,10 @@ asks_one_before c d cs e = record {
 
 pub nothing-along : (c d : Condition) → AreOne c d → IsNothing c ↔ IsNothing d
 nothing-along c d e = (λ h. one-further d c nothing (one_back c d e) h, λ h. one-further c d nothing e h)
+
+-- what is told of a diagram, of the condition that it was made with
+pub is-nothing : (t : Table) (c : Condition) (n : ℕ) (b : Bool) → Gives t c n → IsTrue b ↔ IsNothing (condition t n) → IsTrue b ↔ IsNothing c
+is-nothing t c n b g told = (λ h. (nothing-along (condition t n) c g.condition).0 (told.0 h), λ h. told.1 ((nothing-along (condition t n) c g.condition).1 h))
+
+pub not-nothing : (c : Condition) (b : Bool) → IsTrue b ↔ IsNothing c → b ≡ false → ¬ IsNothing c
+not-nothing c b told is h = false≢true (sym is ∙ told.1 h)
