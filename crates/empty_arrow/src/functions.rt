@@ -18,7 +18,7 @@ use crate::pairs::{Found, Sought, find_pair};
 use crate::questions::{outside, within};
 use bal_base::{Graph, Memory, Shape, Stop};
 use std::alloc::Global;
-use type_diagrams::{Diagrams, MOST_ARROWS, Member, Path, Turn};
+use type_diagrams::{Context, Diagrams, MOST_ARROWS, Member, Path, Turn};
 use type_model::{BasicSet, SemType, TypeEnv, TypeLimit};
 
 /// A shape of a function path, that there is none, or a question about arguments or results of a pair. Each
@@ -39,6 +39,7 @@ pub fn fun_shape<M: Member>(
     ensures only { IfFault result (λ limit. limit ≡ Arrows) }
     ensures limit { IfFault result (λ _. most_arrows < length (atoms_in path.now.pos)) }
 {
+    let context = Context { alloc, env, m };
     let wanted = path.wanted(alloc)?;
     if wanted.len() > MOST_ARROWS {
         return Err(Stop::Fault(TypeLimit::Arrows));
@@ -48,7 +49,7 @@ pub fn fun_shape<M: Member>(
     if path.is_marked() {
         return Ok(Turn::Empty);
     }
-    let turn = graph(alloc, env, dia, base, &wanted, &unwanted, m)?;
+    let turn = graph(&context, dia, base, &wanted, &unwanted)?;
     Ok(turn)
 }
 
@@ -74,30 +75,28 @@ fn base_of(env: &TypeEnv, dia: &mut Diagrams) -> Result<Base, Memory>
 /// A function with a pair for each unwanted arrow that needs one; or that the table has none for an arrow,
 /// or a question about it.
 fn graph<M: Member>(
-    alloc: Global,
-    env: &TypeEnv,
+    context: &Context<'_, M>,
     dia: &mut Diagrams,
     base: Base,
     wanted: &[u32],
     unwanted: &[u32],
-    m: &M,
 ) -> Result<Turn, Memory>
-    requires base { IsBase env.now dia.old base.arguments base.results }
-    requires wanted { All (IsArrow env.now) wanted.now }
-    requires unwanted { All (IsArrow env.now) unwanted.now }
-    requires sound { All (IsSound env.now dia.old) (M.kept m.now) }
-    ensures few { OnOk result (length env.now ≤ the_mark) }
-    ensures extends { Extends (length env.now) dia.old dia.new }
-    ensures tells { IfOk result (TellsGraph env.now dia.new (M.kept m.now) wanted.now unwanted.now) }
+    requires base { IsBase context.now.env.now dia.old base.arguments base.results }
+    requires wanted { All (IsArrow context.now.env.now) wanted.now }
+    requires unwanted { All (IsArrow context.now.env.now) unwanted.now }
+    requires sound { All (IsSound context.now.env.now dia.old) (M.kept context.now.m.now) }
+    ensures few { OnOk result (length context.now.env.now ≤ the_mark) }
+    ensures extends { Extends (length context.now.env.now) dia.old dia.new }
+    ensures tells { IfOk result (TellsGraph context.now.env.now dia.new (M.kept context.now.m.now) wanted.now unwanted.now) }
 {
-    let defs = env.defs();
+    let defs = context.env.defs();
     let isolated = any_isolated(defs, wanted);
-    let mut cases = Vec::new(alloc);
+    let mut cases = Vec::new(context.alloc);
     for atom in unwanted {
         if is_free(defs, *atom, isolated) {
             continue;
         }
-        let case = match avoiding_pair(alloc, env, dia, base, wanted, *atom, m)? {
+        let case = match avoiding_pair(context, dia, base, wanted, *atom)? {
             Found::Pair(case) => case,
             Found::Empty => return Ok(Turn::Empty),
             Found::Ask(question) => return Ok(Turn::Ask(question)),
@@ -112,28 +111,26 @@ fn graph<M: Member>(
 
 /// A pair that all wanted arrows allow, and the unwanted one doesn't.
 fn avoiding_pair<M: Member>(
-    alloc: Global,
-    env: &TypeEnv,
+    context: &Context<'_, M>,
     dia: &mut Diagrams,
     base: Base,
     wanted: &[u32],
     unwanted: u32,
-    m: &M,
 ) -> Result<Found, Memory>
-    requires base { IsBase env.now dia.old base.arguments base.results }
-    requires wanted { All (IsArrow env.now) wanted.now }
-    requires unwanted { IsArrow env.now unwanted }
-    requires sound { All (IsSound env.now dia.old) (M.kept m.now) }
-    ensures extends { Extends (length env.now) dia.old dia.new }
-    ensures tells { IfOk result (TellsPair env.now dia.new (M.kept m.now) (arguments_sought env.now unwanted) (results_sought env.now unwanted) true wanted.now) }
+    requires base { IsBase context.now.env.now dia.old base.arguments base.results }
+    requires wanted { All (IsArrow context.now.env.now) wanted.now }
+    requires unwanted { IsArrow context.now.env.now unwanted }
+    requires sound { All (IsSound context.now.env.now dia.old) (M.kept context.now.m.now) }
+    ensures extends { Extends (length context.now.env.now) dia.old dia.new }
+    ensures tells { IfOk result (TellsPair context.now.env.now dia.new (M.kept context.now.m.now) (arguments_sought context.now.env.now unwanted) (results_sought context.now.env.now unwanted) true wanted.now) }
 {
-    let arrow = arrow_of(env.defs(), unwanted);
-    let args = within(env, dia, base.arguments, arrow.args)?;
-    let result = outside(env, dia, base.results, arrow.result)?;
+    let arrow = arrow_of(context.env.defs(), unwanted);
+    let args = within(context.env, dia, base.arguments, arrow.args)?;
+    let result = outside(context.env, dia, base.results, arrow.result)?;
     let sought = Sought {
         args,
         result,
         may_fail: true,
     };
-    find_pair(alloc, env, dia, wanted, sought, m)
+    find_pair(context, dia, wanted, sought)
 }

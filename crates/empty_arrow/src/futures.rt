@@ -11,7 +11,7 @@ use crate::parts::part;
 use crate::questions::{outside, within_parts};
 use bal_base::{Memory, Shape, Shapes};
 use std::alloc::Global;
-use type_diagrams::{Diagrams, Finding, Member, Path, Turn, look_up};
+use type_diagrams::{Context, Diagrams, Finding, Member, Path, Turn, look_up};
 use type_model::TypeEnv;
 
 /// A shape of a future path, that there is none, or a question about a result: for each unwanted atom, a
@@ -27,36 +27,35 @@ pub fn fut_shape<M: Member>(
     ensures extends { Extends (length env.now) dia.old dia.new }
     ensures turns { IfOk result (Turns env.now dia.new (M.kept m.now) Futures path.now) }
 {
+    let context = Context { alloc, env, m };
     let wanted = path.wanted(alloc)?;
     let unwanted = path.unwanted(alloc)?;
     let all = within_parts(env, dia, &wanted)?;
     if path.is_marked() {
         return Ok(Turn::Empty);
     }
-    results(alloc, env, dia, all, &unwanted, m)
+    results(&context, dia, all, &unwanted)
 }
 
 /// A future with results in the diagram, one outside each atom's results; or that the table has none for
 /// an atom, or the question about it.
 fn results<M: Member>(
-    alloc: Global,
-    env: &TypeEnv,
+    context: &Context<'_, M>,
     dia: &mut Diagrams,
     all: u32,
     unwanted: &[u32],
-    m: &M,
 ) -> Result<Turn, Memory>
     requires diagram { IsDiagram dia.old all }
-    requires atoms { All (HasPart env.now) unwanted.now }
-    requires sound { All (IsSound env.now dia.old) (M.kept m.now) }
-    ensures extends { Extends (length env.now) dia.old dia.new }
-    ensures tells { IfOk result (TellsResults env.now dia.new (M.kept m.now) (condition dia.old all) unwanted.now) }
+    requires atoms { All (HasPart context.now.env.now) unwanted.now }
+    requires sound { All (IsSound context.now.env.now dia.old) (M.kept context.now.m.now) }
+    ensures extends { Extends (length context.now.env.now) dia.old dia.new }
+    ensures tells { IfOk result (TellsResults context.now.env.now dia.new (M.kept context.now.m.now) (condition dia.old all) unwanted.now) }
 {
-    let defs = env.defs();
-    let mut found = Vec::new(alloc);
+    let defs = context.env.defs();
+    let mut found = Vec::new(context.alloc);
     for atom in unwanted {
-        let question = outside(env, dia, all, part(defs, *atom))?;
-        let result = match look_up(alloc, m, question)? {
+        let question = outside(context.env, dia, all, part(defs, *atom))?;
+        let result = match look_up(context.alloc, context.m, question)? {
             Finding::Part(result) => result,
             Finding::Held => return Ok(Turn::Empty),
             Finding::Unknown => return Ok(Turn::Ask(question)),

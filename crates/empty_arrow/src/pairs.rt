@@ -11,9 +11,7 @@ ghost use Rattle.type_model.specs.declared.atoms.AtomDef.{AtomDef};
 use crate::arrows::arrow_of;
 use crate::questions::{outside, within};
 use bal_base::{Case, Memory, Shape, Shapes};
-use std::alloc::Global;
-use type_diagrams::{Diagrams, Finding, Member, look_up};
-use type_model::TypeEnv;
+use type_diagrams::{Context, Diagrams, Finding, Member, look_up};
 
 /// What is sought of a pair.
 #[derive(Clone, Copy)]
@@ -40,42 +38,40 @@ pub(crate) enum Found {
 /// A pair that is sought and that these arrows allow. Each of them either doesn't take the arguments, or
 /// gives the result.
 pub(crate) fn find_pair<M: Member>(
-    alloc: Global,
-    env: &TypeEnv,
+    context: &Context<'_, M>,
     dia: &mut Diagrams,
     arrows: &[u32],
     sought: Sought,
-    m: &M,
 ) -> Result<Found, Memory>
     requires args { IsDiagram dia.old sought.args }
     requires results { IsDiagram dia.old sought.result }
-    requires lists { AreArguments env.now (condition dia.old sought.args) }
-    requires arrows { All (IsArrow env.now) arrows.now }
-    requires sound { All (IsSound env.now dia.old) (M.kept m.now) }
-    ensures extends { Extends (length env.now) dia.old dia.new }
-    ensures tells { IfOk result (TellsPair env.now dia.new (M.kept m.now) (condition dia.old sought.args) (condition dia.old sought.result) sought.may_fail arrows.now) }
+    requires lists { AreArguments context.now.env.now (condition dia.old sought.args) }
+    requires arrows { All (IsArrow context.now.env.now) arrows.now }
+    requires sound { All (IsSound context.now.env.now dia.old) (M.kept context.now.m.now) }
+    ensures extends { Extends (length context.now.env.now) dia.old dia.new }
+    ensures tells { IfOk result (TellsPair context.now.env.now dia.new (M.kept context.now.m.now) (condition dia.old sought.args) (condition dia.old sought.result) sought.may_fail arrows.now) }
 {
-    if let Some(found) = settled(dia, sought, m) {
+    if let Some(found) = settled(dia, sought, context.m) {
         return Ok(found);
     }
     match arrows {
-        [] => kept_pair(alloc, env, dia, sought, m),
+        [] => kept_pair(context, dia, sought),
         [first, rest @ ..] => {
-            let arrow = arrow_of(env.defs(), *first);
-            let args = outside(env, dia, sought.args, arrow.args)?;
+            let arrow = arrow_of(context.env.defs(), *first);
+            let args = outside(context.env, dia, sought.args, arrow.args)?;
             let left = Sought { args, ..sought };
-            match find_pair(alloc, env, dia, rest, left, m)? {
+            match find_pair(context, dia, rest, left)? {
                 Found::Empty => {}
                 Found::Pair(case) => return Ok(Found::Pair(case)),
                 Found::Ask(question) => return Ok(Found::Ask(question)),
             }
-            let result = within(env, dia, sought.result, arrow.result)?;
+            let result = within(context.env, dia, sought.result, arrow.result)?;
             let taken = Sought {
                 result,
                 may_fail: false,
                 ..sought
             };
-            find_pair(alloc, env, dia, rest, taken, m)
+            find_pair(context, dia, rest, taken)
         }
     }
 }
@@ -104,19 +100,17 @@ fn settled<M: Member>(dia: &Diagrams, sought: Sought, m: &M) -> Option<Found>
 
 /// A pair of kept shapes.
 fn kept_pair<M: Member>(
-    alloc: Global,
-    env: &TypeEnv,
+    context: &Context<'_, M>,
     dia: &Diagrams,
     sought: Sought,
-    m: &M,
 ) -> Result<Found, Memory>
     requires args { IsDiagram dia.now sought.args }
     requires results { IsDiagram dia.now sought.result }
-    requires lists { AreArguments env.now (condition dia.now sought.args) }
-    requires sound { All (IsSound env.now dia.now) (M.kept m.now) }
-    ensures { IfOk result (TellsPair env.now dia.now (M.kept m.now) (condition dia.now sought.args) (condition dia.now sought.result) sought.may_fail []) }
+    requires lists { AreArguments context.now.env.now (condition dia.now sought.args) }
+    requires sound { All (IsSound context.now.env.now dia.now) (M.kept context.now.m.now) }
+    ensures { IfOk result (TellsPair context.now.env.now dia.now (M.kept context.now.m.now) (condition dia.now sought.args) (condition dia.now sought.result) sought.may_fail []) }
 {
-    let args = match look_up(alloc, m, sought.args)? {
+    let args = match look_up(context.alloc, context.m, sought.args)? {
         Finding::Part(part) => items(part),
         Finding::Held => return Ok(Found::Empty),
         Finding::Unknown => return Ok(Found::Ask(sought.args)),
@@ -124,7 +118,7 @@ fn kept_pair<M: Member>(
     if sought.may_fail {
         return Ok(Found::Pair(Case { args, result: None }));
     }
-    match look_up(alloc, m, sought.result)? {
+    match look_up(context.alloc, context.m, sought.result)? {
         Finding::Part(part) => Ok(Found::Pair(Case {
             args,
             result: Some(part),

@@ -9,8 +9,7 @@ ghost use Rattle.empty_product.specs.Slots.{IsDemand, IsSlot, asking_of, place_o
 
 use crate::slots::{Demand, Narrowed, Slot, Unwanted, find_part, is_outside, narrow_slot};
 use bal_base::{Memory, Shape};
-use std::alloc::Global;
-use type_diagrams::{Diagrams, Finding, Member};
+use type_diagrams::{Context, Diagrams, Finding, Member};
 
 /// What is found of a product.
 #[derive(Drop)]
@@ -33,31 +32,30 @@ enum Next {
 
 /// A filling of the slots that avoids each of the atoms.
 pub(crate) fn avoid<M: Member>(
-    alloc: Global,
+    context: &Context<'_, M>,
     dia: &mut Diagrams,
     slots: &[Slot],
     unwanted: &[Unwanted],
-    m: &M,
 ) -> Result<Filling, Memory>
     requires slots { AreSlots dia.old slots.now }
     requires unwanted { AreUnwanted dia.old (length slots.now) unwanted.now }
     ensures extends { Extends 0 dia.old dia.new }
-    ensures tells { IfOk result (λ filling. (env : List AtomDef) → All (IsSound env dia.old) (M.kept m.now) → TellsFilling env dia.new (M.kept m.now) (places_of dia.old slots.now) (all_askings dia.old unwanted.now) filling) }
+    ensures tells { IfOk result (λ filling. (env : List AtomDef) → All (IsSound env dia.old) (M.kept context.now.m.now) → TellsFilling env dia.new (M.kept context.now.m.now) (places_of dia.old slots.now) (all_askings dia.old unwanted.now) filling) }
 {
     match unwanted {
-        [] => filled(alloc, dia, slots, m),
+        [] => filled(context, dia, slots),
         [first, rest @ ..] => {
             if is_avoided(dia, slots, &first.demands)? {
-                return avoid(alloc, dia, slots, rest, m);
+                return avoid(context, dia, slots, rest);
             }
             for step in 0..2 * first.demands.len() {
                 let (place, absent) = (step / 2, step % 2 == 0);
-                let next = match narrow(alloc, dia, slots, &first.demands, place, absent, m)? {
+                let next = match narrow(context, dia, slots, &first.demands, place, absent)? {
                     Next::Slots(next) => next,
                     Next::Nothing => continue,
                     Next::Ask(question) => return Ok(Filling::Ask(question)),
                 };
-                match avoid(alloc, dia, &next, rest, m)? {
+                match avoid(context, dia, &next, rest)? {
                     Filling::Empty => {}
                     Filling::Parts(parts) => return Ok(Filling::Parts(parts)),
                     Filling::Ask(question) => return Ok(Filling::Ask(question)),
@@ -86,24 +84,23 @@ fn is_avoided(dia: &mut Diagrams, slots: &[Slot], demands: &[Demand]) -> Result<
 
 /// The slots where the demands are avoided at a place, by having no part there or by having another one.
 fn narrow<M: Member>(
-    alloc: Global,
+    context: &Context<'_, M>,
     dia: &mut Diagrams,
     slots: &[Slot],
     demands: &[Demand],
     place: usize,
     absent: bool,
-    m: &M,
 ) -> Result<Next, Memory>
     requires slots { AreSlots dia.old slots.now }
     requires demands { All (IsDemand dia.old) demands.now }
     requires lengths { length demands.now ≡ length slots.now }
     requires place { place < length slots.now }
     ensures extends { Extends 0 dia.old dia.new }
-    ensures tells { IfOk result (TellsNext dia.new (M.kept m.now) (places_of dia.old slots.now) (map (asking_of dia.old) demands.now) place absent) }
+    ensures tells { IfOk result (TellsNext dia.new (M.kept context.now.m.now) (places_of dia.old slots.now) (map (asking_of dia.old) demands.now) place absent) }
 {
-    match narrow_slot(dia, slots[place], demands[place], absent, m)? {
+    match narrow_slot(dia, slots[place], demands[place], absent, context.m)? {
         Narrowed::Slot(slot) => {
-            let mut next = Vec::from_slice(alloc, slots)?;
+            let mut next = Vec::from_slice(context.alloc, slots)?;
             next[place] = slot;
             Ok(Next::Slots(next))
         }
@@ -114,17 +111,16 @@ fn narrow<M: Member>(
 
 /// A part that the table has for each slot that needs one.
 fn filled<M: Member>(
-    alloc: Global,
+    context: &Context<'_, M>,
     dia: &Diagrams,
     slots: &[Slot],
-    m: &M,
 ) -> Result<Filling, Memory>
     requires slots { AreSlots dia.now slots.now }
-    ensures { IfOk result (λ filling. (env : List AtomDef) → All (IsSound env dia.now) (M.kept m.now) → TellsFilling env dia.now (M.kept m.now) (places_of dia.now slots.now) [] filling) }
+    ensures { IfOk result (λ filling. (env : List AtomDef) → All (IsSound env dia.now) (M.kept context.now.m.now) → TellsFilling env dia.now (M.kept context.now.m.now) (places_of dia.now slots.now) [] filling) }
 {
-    let mut parts = Vec::new(alloc);
+    let mut parts = Vec::new(context.alloc);
     for slot in slots {
-        match kept_part(alloc, dia, *slot, m)? {
+        match kept_part(context, dia, *slot)? {
             Kept::Part(part) => parts.push(part)?,
             Kept::Void => return Ok(Filling::Empty),
             Kept::Unknown(question) => return Ok(Filling::Ask(question)),
@@ -141,15 +137,19 @@ enum Kept {
     Unknown(u32),
 }
 
-fn kept_part<M: Member>(alloc: Global, dia: &Diagrams, slot: Slot, m: &M) -> Result<Kept, Memory>
+fn kept_part<M: Member>(
+    context: &Context<'_, M>,
+    dia: &Diagrams,
+    slot: Slot,
+) -> Result<Kept, Memory>
     requires slot { IsSlot dia.now slot }
-    ensures { IfOk result (λ kept. (env : List AtomDef) → All (IsSound env dia.now) (M.kept m.now) → TellsKept env dia.now (M.kept m.now) (place_of dia.now slot) kept) }
+    ensures { IfOk result (λ kept. (env : List AtomDef) → All (IsSound env dia.now) (M.kept context.now.m.now) → TellsKept env dia.now (M.kept context.now.m.now) (place_of dia.now slot) kept) }
 {
     let question = match slot {
         Slot::Optional(_) | Slot::Absent => return Ok(Kept::Part(None)),
         Slot::Present(question) => question,
     };
-    match find_part(alloc, dia, question, m)? {
+    match find_part(context, dia, question)? {
         Finding::Part(part) => Ok(Kept::Part(Some(part))),
         Finding::Held => Ok(Kept::Void),
         Finding::Unknown => Ok(Kept::Unknown(question)),

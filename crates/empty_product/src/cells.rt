@@ -14,7 +14,7 @@ use crate::avoid::{Filling, avoid};
 use crate::slots::{Demand, Slot, Unwanted};
 use bal_base::Memory;
 use std::alloc::Global;
-use type_diagrams::{Diagrams, Member, Projection};
+use type_diagrams::{Context, Diagrams, Member, Projection};
 
 /// What an unwanted atom asks at one place, the target, and at all places. It can't be avoided at the target
 /// by these demands.
@@ -24,48 +24,53 @@ pub(crate) struct Aimed {
     pub(crate) elsewhere: Unwanted,
 }
 
-/// Besides `found` what stands at the target: what is in `part` and outside some of the undecided atoms, where
-/// some filling of the other places avoids the others of these, and the decided ones too. The part itself is
-/// asked of no table.
+/// What is sought at the target, and what was found there before.
+#[derive(Clone, Copy)]
+pub(crate) struct Sought {
+    pub(crate) part: u32,
+    pub(crate) found: u32,
+}
+
+/// Besides what was found what stands at the target: what is in the part that is sought and outside some of the
+/// undecided atoms, where some filling of the other places avoids the others of these, and the decided ones too.
+/// The part itself is asked of no table.
 pub(crate) fn cells<M: Member>(
-    alloc: Global,
+    context: &Context<'_, M>,
     dia: &mut Diagrams,
     slots: &[Slot],
     undecided: &[Aimed],
     decided: &[Unwanted],
-    part: u32,
-    found: u32,
-    m: &M,
+    sought: Sought,
 ) -> Result<Projection, Memory>
     requires slots { AreSlots dia.old slots.now }
     requires undecided { All (IsAimed dia.old (length slots.now)) undecided.now }
     requires decided { AreUnwanted dia.old (length slots.now) decided.now }
-    requires part { IsDiagram dia.old part }
-    requires found { IsDiagram dia.old found }
+    requires part { IsDiagram dia.old sought.part }
+    requires found { IsDiagram dia.old sought.found }
     ensures extends { Extends 0 dia.old dia.new }
     ensures diagram { IfOk result (GivesDiagram dia.new) }
-    ensures looks { IfOk result (λ p. (env : List AtomDef) → LooksAtKinds env (condition dia.old part) → LooksAtKinds env (condition dia.old found) → All (λ a. LooksAtKinds env (condition dia.old a.there)) undecided.now → LooksAtParts env dia.new p) }
-    ensures tells { IfOk result (λ p. (env : List AtomDef) → All (IsSound env dia.old) (M.kept m.now) → TellsCells env (places_of dia.old slots.now) dia.new (M.kept m.now) (aims_of dia.old undecided.now) (all_askings dia.old decided.now) (condition dia.old part) (condition dia.old found) p) }
+    ensures looks { IfOk result (λ p. (env : List AtomDef) → LooksAtKinds env (condition dia.old sought.part) → LooksAtKinds env (condition dia.old sought.found) → All (λ a. LooksAtKinds env (condition dia.old a.there)) undecided.now → LooksAtParts env dia.new p) }
+    ensures tells { IfOk result (λ p. (env : List AtomDef) → All (IsSound env dia.old) (M.kept context.now.m.now) → TellsCells env (places_of dia.old slots.now) dia.new (M.kept context.now.m.now) (aims_of dia.old undecided.now) (all_askings dia.old decided.now) (condition dia.old sought.part) (condition dia.old sought.found) p) }
 {
-    let left = dia.diff(part, found)?;
+    let left = dia.diff(sought.part, sought.found)?;
     if dia.is_nothing(left) {
-        return Ok(Projection::Parts(found));
+        return Ok(Projection::Parts(sought.found));
     }
-    match avoid(alloc, dia, slots, decided, m)? {
+    match avoid(context, dia, slots, decided)? {
         Filling::Parts(_) => {}
-        Filling::Empty => return Ok(Projection::Parts(found)),
+        Filling::Empty => return Ok(Projection::Parts(sought.found)),
         Filling::Ask(question) => return Ok(Projection::Ask(question)),
     }
     match undecided {
-        [] => Ok(Projection::Parts(dia.union(found, part)?)),
+        [] => Ok(Projection::Parts(dia.union(sought.found, sought.part)?)),
         [first, rest @ ..] => {
-            let more = with_one(alloc, decided, &first.elsewhere)?;
-            let found = match cells(alloc, dia, slots, rest, &more, part, found, m)? {
+            let more = with_one(context.alloc, decided, &first.elsewhere)?;
+            let found = match cells(context, dia, slots, rest, &more, sought)? {
                 Projection::Parts(found) => found,
                 Projection::Ask(question) => return Ok(Projection::Ask(question)),
             };
-            let outside = dia.diff(part, first.there)?;
-            cells(alloc, dia, slots, rest, decided, outside, found, m)
+            let part = dia.diff(sought.part, first.there)?;
+            cells(context, dia, slots, rest, decided, Sought { part, found })
         }
     }
 }
@@ -92,13 +97,12 @@ fn copy(alloc: Global, atom: &Unwanted) -> Result<Unwanted, Memory>
 /// Besides `found` what stands at the target in fillings of the slots that avoid the atoms. The target's
 /// question is asked of no table.
 pub(crate) fn parts_at<M: Member>(
-    alloc: Global,
+    context: &Context<'_, M>,
     dia: &mut Diagrams,
     slots: Vec<Slot>,
     unwanted: Vec<Unwanted>,
     target: usize,
     found: u32,
-    m: &M,
 ) -> Result<Projection, Memory>
     requires slots { AreSlots dia.old slots.items }
     requires unwanted { AreUnwanted dia.old (length slots.items) unwanted.items }
@@ -107,16 +111,17 @@ pub(crate) fn parts_at<M: Member>(
     ensures extends { Extends 0 dia.old dia.new }
     ensures diagram { IfOk result (GivesDiagram dia.new) }
     ensures looks { IfOk result (λ p. (env : List AtomDef) → AreLooking env dia.old slots.items unwanted.items → LooksAtKinds env (condition dia.old found) → LooksAtParts env dia.new p) }
-    ensures tells { IfOk result (λ p. (env : List AtomDef) → All (IsSound env dia.old) (M.kept m.now) → TellsStanding env dia.new (M.kept m.now) (places_of dia.old slots.items) (all_askings dia.old unwanted.items) target (condition dia.old found) p) }
+    ensures tells { IfOk result (λ p. (env : List AtomDef) → All (IsSound env dia.old) (M.kept context.now.m.now) → TellsStanding env dia.new (M.kept context.now.m.now) (places_of dia.old slots.items) (all_askings dia.old unwanted.items) target (condition dia.old found) p) }
 {
     let Some(part) = part_of(slots[target]) else {
         return Ok(Projection::Parts(found));
     };
     let mut others = slots;
     others[target] = Slot::Absent;
-    let undecided = aim(unwanted, target, alloc)?;
-    let none = Vec::new(alloc);
-    cells(alloc, dia, &others, &undecided, &none, part, found, m)
+    let undecided = aim(unwanted, target, context.alloc)?;
+    let none = Vec::new(context.alloc);
+    let sought = Sought { part, found };
+    cells(context, dia, &others, &undecided, &none, sought)
 }
 
 /// The question of the part that a slot may have.

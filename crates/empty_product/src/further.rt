@@ -8,8 +8,7 @@ ghost use Rattle.empty_product.specs.Further.{TellsFurther, rest_askings_of};
 
 use crate::slots::find_part;
 use bal_base::{Memory, Shape};
-use std::alloc::Global;
-use type_diagrams::{Diagrams, Finding, Member};
+use type_diagrams::{Context, Diagrams, Finding, Member};
 
 /// What an unwanted atom asks of all further parts.
 #[derive(Clone, Copy)]
@@ -35,22 +34,21 @@ pub(crate) struct FurtherParts {
 
 /// A further part in `rest` for each atom that can be avoided by one.
 pub(crate) fn further_parts<M: Member>(
-    alloc: Global,
+    context: &Context<'_, M>,
     dia: &mut Diagrams,
     rest: u32,
     demands: &[RestDemand],
-    m: &M,
 ) -> Result<Further, Memory>
     requires rest { IsDiagram dia.old rest }
     requires demands { All (λ d. IsDiagram dia.old d.question) demands.now }
     ensures extends { Extends 0 dia.old dia.new }
-    ensures tells { IfOk result (λ further. (env : List AtomDef) → All (IsSound env dia.old) (M.kept m.now) → TellsFurther env dia.new (M.kept m.now) (condition dia.old rest) (rest_askings_of dia.old demands.now) further) }
+    ensures tells { IfOk result (λ further. (env : List AtomDef) → All (IsSound env dia.old) (M.kept context.now.m.now) → TellsFurther env dia.new (M.kept context.now.m.now) (condition dia.old rest) (rest_askings_of dia.old demands.now) further) }
 {
-    let mut parts = Vec::new(alloc);
-    let mut staying = Vec::new(alloc);
+    let mut parts = Vec::new(context.alloc);
+    let mut staying = Vec::new(context.alloc);
     for demand in demands {
         let question = dia.diff(rest, demand.question)?;
-        match find_part(alloc, dia, question, m)? {
+        match find_part(context, dia, question)? {
             Finding::Part(part) => parts.push(part)?,
             Finding::Held => staying.push(demand.atom)?,
             Finding::Unknown => return Ok(Further::Ask(question)),

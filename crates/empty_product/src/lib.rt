@@ -11,7 +11,7 @@
 //! - `avoid`: parts for all places that avoid all unwanted atoms, atom by atom.
 //! - `cells`: what stands at one of the places of such parts.
 //! - `further`: parts behind all places that atoms tell apart, one for each atom that can be avoided so.
-//! - `bases`: what may stand in marked shapes.
+//! - `bases`: what may stand in marked shapes; `literals`: which atoms a path wants, and which not.
 //! - `list_atoms`, `lists`, `list_items`: the places of lists; `mapping_atoms`, `mappings`, `map_members`: those
 //!   of mappings, by key.
 #![tactic(auto)]
@@ -23,6 +23,7 @@ mod further;
 mod list_atoms;
 mod list_items;
 mod lists;
+mod literals;
 mod map_members;
 mod mapping_atoms;
 mod mappings;

@@ -19,10 +19,11 @@ use crate::further::{Further, FurtherParts, RestDemand, further_parts};
 use crate::list_atoms::{
     all_allow_length, allows_length, item_question, items_question, lists_in_play, longest_prefix,
 };
+use crate::literals::Literals;
 use crate::slots::{Demand, Known, Slot, Unwanted, find_part, standing};
 use bal_base::{Memory, Shape, Shapes};
 use std::alloc::Global;
-use type_diagrams::{Diagrams, Finding, Member, Path, Turn};
+use type_diagrams::{Context, Diagrams, Finding, Member, Path, Turn};
 use type_model::{AtomDef, TypeEnv};
 
 /// A shape of a list path, that there is none, or a question about an item: for each length up to the longest
@@ -39,6 +40,7 @@ pub fn list_shape<M: Member>(
     ensures extends { Extends (length env.now) dia.old dia.new }
     ensures turns { IfOk result (Turns env.now dia.new (M.kept m.now) Lists path.now) }
 {
+    let context = Context { alloc, env, m };
     let wanted = path.wanted(alloc)?;
     let named = path.unwanted(alloc)?;
     if has_both_marks(path) {
@@ -46,30 +48,40 @@ pub fn list_shape<M: Member>(
     }
     let unwanted = lists_in_play(alloc, env, dia, &wanted, &named)?;
     let marked = path.is_marked();
-    let filling = path_lists(alloc, env, dia, &wanted, &unwanted, marked, m)?;
+    let literals = Literals {
+        wanted: &wanted,
+        unwanted: &unwanted,
+        marked,
+    };
+    let filling = path_lists(&context, dia, &literals)?;
     turn_of(alloc, marked, filling)
 }
 
 /// Lists of any length in all wanted atoms and in no unwanted one.
 fn path_lists<M: Member>(
-    alloc: Global,
-    env: &TypeEnv,
+    context: &Context<'_, M>,
     dia: &mut Diagrams,
-    wanted: &[u32],
-    unwanted: &[u32],
-    marked: bool,
-    m: &M,
+    literals: &Literals<'_>,
 ) -> Result<Filling, Memory>
-    requires wanted { All (IsListAtom env.now) wanted.now }
-    requires unwanted { All (IsListAtom env.now) unwanted.now }
-    requires sound { All (IsSound env.now dia.old) (M.kept m.now) }
-    ensures extends { Extends (length env.now) dia.old dia.new }
-    ensures few { OnOk result (length env.now ≤ the_mark) }
-    ensures tells { IfOk result (TellsLists env.now (item_asked env.now wanted.now marked) dia.new (M.kept m.now) wanted.now unwanted.now (λ n. ⊤)) }
+    requires wanted { All (IsListAtom context.now.env.now) literals.now.wanted.now }
+    requires unwanted { All (IsListAtom context.now.env.now) literals.now.unwanted.now }
+    requires sound { All (IsSound context.now.env.now dia.old) (M.kept context.now.m.now) }
+    ensures extends { Extends (length context.now.env.now) dia.old dia.new }
+    ensures few { OnOk result (length context.now.env.now ≤ the_mark) }
+    ensures tells { IfOk result (TellsLists context.now.env.now (item_asked context.now.env.now literals.now.wanted.now literals.now.marked) dia.new (M.kept context.now.m.now) literals.now.wanted.now literals.now.unwanted.now (λ n. ⊤)) }
 {
-    let prefix = longest_prefix(env.defs(), wanted).max(longest_prefix(env.defs(), unwanted));
-    let bases = bases(alloc, env, dia, wanted, marked, prefix)?;
-    all_lists(alloc, env, dia, &bases, wanted, unwanted, m)
+    let longest = longest_prefix(context.env.defs(), literals.wanted);
+    let other = longest_prefix(context.env.defs(), literals.unwanted);
+    let prefix = longest.max(other);
+    let bases = bases(
+        context.alloc,
+        context.env,
+        dia,
+        literals.wanted,
+        literals.marked,
+        prefix,
+    )?;
+    all_lists(context, dia, &bases, literals)
 }
 
 /// What is said of the path, where its lists are marked or not.
@@ -143,26 +155,23 @@ pub(crate) fn base(
 
 /// Lists of each length.
 fn all_lists<M: Member>(
-    alloc: Global,
-    env: &TypeEnv,
+    context: &Context<'_, M>,
     dia: &mut Diagrams,
     bases: &[u32],
-    wanted: &[u32],
-    unwanted: &[u32],
-    m: &M,
+    literals: &Literals<'_>,
 ) -> Result<Filling, Memory>
-    requires wanted { All (IsListAtom env.now) wanted.now }
-    requires unwanted { All (IsListAtom env.now) unwanted.now }
+    requires wanted { All (IsListAtom context.now.env.now) literals.now.wanted.now }
+    requires unwanted { All (IsListAtom context.now.env.now) literals.now.unwanted.now }
     requires bases { All (IsDiagram dia.old) bases.now }
     requires some { 0 < length bases.now }
-    requires wanted_before { All (FixesBefore env.now (length bases.now - 1)) wanted.now }
-    requires unwanted_before { All (FixesBefore env.now (length bases.now - 1)) unwanted.now }
-    requires sound { All (IsSound env.now dia.old) (M.kept m.now) }
-    ensures extends { Extends (length env.now) dia.old dia.new }
-    ensures tells { IfOk result (λ filling. (base : ℕ → Condition) → AreAsked dia.old base bases.now → IsSameFrom (length bases.now - 1) base → TellsLists env.now base dia.new (M.kept m.now) wanted.now unwanted.now (λ n. ⊤) filling) }
+    requires wanted_before { All (FixesBefore context.now.env.now (length bases.now - 1)) literals.now.wanted.now }
+    requires unwanted_before { All (FixesBefore context.now.env.now (length bases.now - 1)) literals.now.unwanted.now }
+    requires sound { All (IsSound context.now.env.now dia.old) (M.kept context.now.m.now) }
+    ensures extends { Extends (length context.now.env.now) dia.old dia.new }
+    ensures tells { IfOk result (λ filling. (base : ℕ → Condition) → AreAsked dia.old base bases.now → IsSameFrom (length bases.now - 1) base → TellsLists context.now.env.now base dia.new (M.kept context.now.m.now) literals.now.wanted.now literals.now.unwanted.now (λ n. ⊤) filling) }
 {
-    match short_lists(alloc, env, dia, bases, wanted, unwanted, m)? {
-        Filling::Empty => long_lists(alloc, env, dia, bases, wanted, unwanted, m),
+    match short_lists(context, dia, bases, literals)? {
+        Filling::Empty => long_lists(context, dia, bases, literals),
         Filling::Parts(parts) => Ok(Filling::Parts(parts)),
         Filling::Ask(question) => Ok(Filling::Ask(question)),
     }
@@ -170,23 +179,20 @@ fn all_lists<M: Member>(
 
 /// Lists that are no longer than the longest fixed prefix.
 fn short_lists<M: Member>(
-    alloc: Global,
-    env: &TypeEnv,
+    context: &Context<'_, M>,
     dia: &mut Diagrams,
     bases: &[u32],
-    wanted: &[u32],
-    unwanted: &[u32],
-    m: &M,
+    literals: &Literals<'_>,
 ) -> Result<Filling, Memory>
-    requires wanted { All (IsListAtom env.now) wanted.now }
-    requires unwanted { All (IsListAtom env.now) unwanted.now }
+    requires wanted { All (IsListAtom context.now.env.now) literals.now.wanted.now }
+    requires unwanted { All (IsListAtom context.now.env.now) literals.now.unwanted.now }
     requires bases { All (IsDiagram dia.old) bases.now }
-    requires sound { All (IsSound env.now dia.old) (M.kept m.now) }
-    ensures extends { Extends (length env.now) dia.old dia.new }
-    ensures tells { IfOk result (λ filling. (base : ℕ → Condition) → AreAsked dia.old base bases.now → TellsLists env.now base dia.new (M.kept m.now) wanted.now unwanted.now (λ n. n < length bases.now) filling) }
+    requires sound { All (IsSound context.now.env.now dia.old) (M.kept context.now.m.now) }
+    ensures extends { Extends (length context.now.env.now) dia.old dia.new }
+    ensures tells { IfOk result (λ filling. (base : ℕ → Condition) → AreAsked dia.old base bases.now → TellsLists context.now.env.now base dia.new (M.kept context.now.m.now) literals.now.wanted.now literals.now.unwanted.now (λ n. n < length bases.now) filling) }
 {
     for length in 0..bases.len() {
-        match lists_with_length(alloc, env, dia, &bases[..length], wanted, unwanted, m)? {
+        match lists_with_length(context, dia, &bases[..length], literals)? {
             Filling::Empty => {}
             Filling::Parts(parts) => return Ok(Filling::Parts(parts)),
             Filling::Ask(question) => return Ok(Filling::Ask(question)),
@@ -197,26 +203,28 @@ fn short_lists<M: Member>(
 
 /// Lists with an item for each of the bases.
 fn lists_with_length<M: Member>(
-    alloc: Global,
-    env: &TypeEnv,
+    context: &Context<'_, M>,
     dia: &mut Diagrams,
     bases: &[u32],
-    wanted: &[u32],
-    unwanted: &[u32],
-    m: &M,
+    literals: &Literals<'_>,
 ) -> Result<Filling, Memory>
-    requires wanted { All (IsListAtom env.now) wanted.now }
-    requires unwanted { All (IsListAtom env.now) unwanted.now }
+    requires wanted { All (IsListAtom context.now.env.now) literals.now.wanted.now }
+    requires unwanted { All (IsListAtom context.now.env.now) literals.now.unwanted.now }
     requires bases { All (IsDiagram dia.old) bases.now }
-    requires sound { All (IsSound env.now dia.old) (M.kept m.now) }
-    ensures extends { Extends (length env.now) dia.old dia.new }
-    ensures tells { IfOk result (λ filling. (base : ℕ → Condition) → AreAsked dia.old base bases.now → TellsLists env.now base dia.new (M.kept m.now) wanted.now unwanted.now (λ n. n ≡ length bases.now) filling) }
+    requires sound { All (IsSound context.now.env.now dia.old) (M.kept context.now.m.now) }
+    ensures extends { Extends (length context.now.env.now) dia.old dia.new }
+    ensures tells { IfOk result (λ filling. (base : ℕ → Condition) → AreAsked dia.old base bases.now → TellsLists context.now.env.now base dia.new (M.kept context.now.m.now) literals.now.wanted.now literals.now.unwanted.now (λ n. n ≡ length bases.now) filling) }
 {
-    if !all_allow_length(env.defs(), wanted, bases.len()) {
+    if !all_allow_length(context.env.defs(), literals.wanted, bases.len()) {
         return Ok(Filling::Empty);
     }
-    let atoms = with_length(alloc, env.defs(), unwanted, bases.len())?;
-    lists_of(alloc, env, dia, bases, &atoms, m)
+    let atoms = with_length(
+        context.alloc,
+        context.env.defs(),
+        literals.unwanted,
+        bases.len(),
+    )?;
+    lists_of(context, dia, bases, &atoms)
 }
 
 /// The atoms that have lists of this length.
@@ -241,25 +249,23 @@ pub(crate) fn with_length(
 
 /// Items for these bases that avoid the atoms.
 fn lists_of<M: Member>(
-    alloc: Global,
-    env: &TypeEnv,
+    context: &Context<'_, M>,
     dia: &mut Diagrams,
     bases: &[u32],
     atoms: &[u32],
-    m: &M,
 ) -> Result<Filling, Memory>
-    requires atoms { All (IsListAtom env.now) atoms.now }
+    requires atoms { All (IsListAtom context.now.env.now) atoms.now }
     requires bases { All (IsDiagram dia.old) bases.now }
-    requires sound { All (IsSound env.now dia.old) (M.kept m.now) }
-    ensures extends { Extends (length env.now) dia.old dia.new }
-    ensures tells { IfOk result (λ filling. (base : ℕ → Condition) → AreAsked dia.old base bases.now → TellsItems env.now base dia.new (M.kept m.now) (λ n. n ≡ length bases.now) atoms.now filling) }
+    requires sound { All (IsSound context.now.env.now dia.old) (M.kept context.now.m.now) }
+    ensures extends { Extends (length context.now.env.now) dia.old dia.new }
+    ensures tells { IfOk result (λ filling. (base : ℕ → Condition) → AreAsked dia.old base bases.now → TellsItems context.now.env.now base dia.new (M.kept context.now.m.now) (λ n. n ≡ length bases.now) atoms.now filling) }
 {
-    if let Some(found) = unsettled(dia, bases, m) {
+    if let Some(found) = unsettled(dia, bases, context.m) {
         return Ok(found);
     }
-    let slots = bases_slots(alloc, bases)?;
-    let unwanted = all_demands(alloc, env, dia, atoms, bases.len())?;
-    avoid(alloc, dia, &slots, &unwanted, m)
+    let slots = bases_slots(context.alloc, bases)?;
+    let unwanted = all_demands(context.alloc, context.env, dia, atoms, bases.len())?;
+    avoid(context, dia, &slots, &unwanted)
 }
 
 /// What is told where not each base has a shape that the table knows.
@@ -332,60 +338,60 @@ fn demands(
 
 /// Lists that are longer than each fixed prefix. Only atoms with a rest have such lists.
 fn long_lists<M: Member>(
-    alloc: Global,
-    env: &TypeEnv,
+    context: &Context<'_, M>,
     dia: &mut Diagrams,
     bases: &[u32],
-    wanted: &[u32],
-    unwanted: &[u32],
-    m: &M,
+    literals: &Literals<'_>,
 ) -> Result<Filling, Memory>
-    requires wanted { All (IsListAtom env.now) wanted.now }
-    requires unwanted { All (IsListAtom env.now) unwanted.now }
+    requires wanted { All (IsListAtom context.now.env.now) literals.now.wanted.now }
+    requires unwanted { All (IsListAtom context.now.env.now) literals.now.unwanted.now }
     requires bases { All (IsDiagram dia.old) bases.now }
     requires some { 0 < length bases.now }
-    requires wanted_before { All (FixesBefore env.now (length bases.now - 1)) wanted.now }
-    requires unwanted_before { All (FixesBefore env.now (length bases.now - 1)) unwanted.now }
-    requires sound { All (IsSound env.now dia.old) (M.kept m.now) }
-    ensures extends { Extends (length env.now) dia.old dia.new }
-    ensures tells { IfOk result (λ filling. (base : ℕ → Condition) → AreAsked dia.old base bases.now → IsSameFrom (length bases.now - 1) base → TellsLists env.now base dia.new (M.kept m.now) wanted.now unwanted.now (λ n. length bases.now ≤ n) filling) }
+    requires wanted_before { All (FixesBefore context.now.env.now (length bases.now - 1)) literals.now.wanted.now }
+    requires unwanted_before { All (FixesBefore context.now.env.now (length bases.now - 1)) literals.now.unwanted.now }
+    requires sound { All (IsSound context.now.env.now dia.old) (M.kept context.now.m.now) }
+    ensures extends { Extends (length context.now.env.now) dia.old dia.new }
+    ensures tells { IfOk result (λ filling. (base : ℕ → Condition) → AreAsked dia.old base bases.now → IsSameFrom (length bases.now - 1) base → TellsLists context.now.env.now base dia.new (M.kept context.now.m.now) literals.now.wanted.now literals.now.unwanted.now (λ n. length bases.now ≤ n) filling) }
 {
-    if !all_allow_length(env.defs(), wanted, bases.len()) {
+    if !all_allow_length(context.env.defs(), literals.wanted, bases.len()) {
         return Ok(Filling::Empty);
     }
     let rest = bases[bases.len() - 1];
-    let first = match find_part(alloc, dia, rest, m)? {
+    let first = match find_part(context, dia, rest)? {
         Finding::Part(first) => first,
         Finding::Held => return Ok(Filling::Empty),
         Finding::Unknown => return Ok(Filling::Ask(rest)),
     };
-    let atoms = with_length(alloc, env.defs(), unwanted, bases.len())?;
-    longer_lists(alloc, env, dia, bases, &atoms, first, m)
+    let atoms = with_length(
+        context.alloc,
+        context.env.defs(),
+        literals.unwanted,
+        bases.len(),
+    )?;
+    longer_lists(context, dia, bases, &atoms, first)
 }
 
 /// Items for all bases, of which the first item of the last one is given, and further items of that.
 fn longer_lists<M: Member>(
-    alloc: Global,
-    env: &TypeEnv,
+    context: &Context<'_, M>,
     dia: &mut Diagrams,
     bases: &[u32],
     atoms: &[u32],
     first: Shape,
-    m: &M,
 ) -> Result<Filling, Memory>
-    requires atoms { All (IsListAtom env.now) atoms.now }
-    requires atoms_before { All (FixesBefore env.now (length bases.now - 1)) atoms.now }
+    requires atoms { All (IsListAtom context.now.env.now) atoms.now }
+    requires atoms_before { All (FixesBefore context.now.env.now (length bases.now - 1)) atoms.now }
     requires bases { All (IsDiagram dia.old) bases.now }
     requires some { 0 < length bases.now }
-    requires first { IsShapeOf env.now (condition dia.old (slice_index bases.now (length bases.now - 1))) first }
-    requires sound { All (IsSound env.now dia.old) (M.kept m.now) }
-    ensures extends { Extends (length env.now) dia.old dia.new }
-    ensures tells { IfOk result (λ filling. (base : ℕ → Condition) → AreAsked dia.old base bases.now → IsSameFrom (length bases.now - 1) base → TellsItems env.now base dia.new (M.kept m.now) (λ n. length bases.now ≤ n) atoms.now filling) }
+    requires first { IsShapeOf context.now.env.now (condition dia.old (slice_index bases.now (length bases.now - 1))) first }
+    requires sound { All (IsSound context.now.env.now dia.old) (M.kept context.now.m.now) }
+    ensures extends { Extends (length context.now.env.now) dia.old dia.new }
+    ensures tells { IfOk result (λ filling. (base : ℕ → Condition) → AreAsked dia.old base bases.now → IsSameFrom (length bases.now - 1) base → TellsItems context.now.env.now base dia.new (M.kept context.now.m.now) (λ n. length bases.now ≤ n) atoms.now filling) }
 {
     let prefix = bases.len() - 1;
     let rest = bases[prefix];
-    let demands = rest_demands(alloc, env, dia, atoms, prefix)?;
-    let split = match further_parts(alloc, dia, rest, &demands, m)? {
+    let demands = rest_demands(context.alloc, context.env, dia, atoms, prefix)?;
+    let split = match further_parts(context, dia, rest, &demands)? {
         Further::Parts(split) => split,
         Further::Ask(question) => return Ok(Filling::Ask(question)),
     };
@@ -393,7 +399,7 @@ fn longer_lists<M: Member>(
         parts: further,
         staying,
     } = split;
-    match lists_of(alloc, env, dia, &bases[..prefix], &staying, m)? {
+    match lists_of(context, dia, &bases[..prefix], &staying)? {
         Filling::Parts(parts) => with_further(parts, first, further),
         Filling::Empty => Ok(Filling::Empty),
         Filling::Ask(question) => Ok(Filling::Ask(question)),

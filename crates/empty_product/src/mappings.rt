@@ -11,6 +11,7 @@ ghost use Rattle.empty_product.specs.Play.{IsMappingAtom};
 use crate::avoid::{Filling, avoid};
 use crate::bases::{frozen_if, has_both_marks};
 use crate::further::{Further, FurtherParts, RestDemand, further_parts};
+use crate::literals::Literals;
 use crate::mapping_atoms::{
     any_requires, is_required, key_behind, mappings_in_play, member_question, members_question,
     named_keys,
@@ -18,7 +19,7 @@ use crate::mapping_atoms::{
 use crate::slots::{Demand, Slot, Unwanted};
 use bal_base::{Fields, Memory, Shape, Text};
 use std::alloc::Global;
-use type_diagrams::{Diagrams, Member, Path, Turn};
+use type_diagrams::{Context, Diagrams, Member, Path, Turn};
 use type_model::TypeEnv;
 
 /// A shape of a mapping path, that there is none, or a question about a member, at a key that an atom of the
@@ -35,6 +36,7 @@ pub fn map_shape<M: Member>(
     ensures extends { Extends (length env.now) dia.old dia.new }
     ensures turns { IfOk result (Turns env.now dia.new (M.kept m.now) Mappings path.now) }
 {
+    let context = Context { alloc, env, m };
     let holding = path.wanted(alloc)?;
     let wanted = holding.as_slice();
     let failing = path.unwanted(alloc)?;
@@ -43,35 +45,46 @@ pub fn map_shape<M: Member>(
     }
     let playing = mappings_in_play(alloc, env, dia, wanted, failing.as_slice())?;
     let unwanted = playing.as_slice();
-    settled(alloc, env, dia, wanted, path.is_marked(), unwanted, m)
+    let literals = Literals {
+        wanted,
+        unwanted,
+        marked: path.is_marked(),
+    };
+    settled(&context, dia, &literals)
 }
 
 /// A mapping in all wanted atoms and in none of the others, that there is none, or a question about a member.
 fn settled<M: Member>(
-    alloc: Global,
-    env: &TypeEnv,
+    context: &Context<'_, M>,
     dia: &mut Diagrams,
-    wanted: &[u32],
-    marked: bool,
-    unwanted: &[u32],
-    m: &M,
+    literals: &Literals<'_>,
 ) -> Result<Turn, Memory>
-    requires wanted { All (IsMappingAtom env.now) wanted.now }
-    requires unwanted { All (IsMappingAtom env.now) unwanted.now }
-    requires sound { All (IsSound env.now dia.old) (M.kept m.now) }
-    ensures extends { Extends (length env.now) dia.old dia.new }
-    ensures tells { IfOk result (TellsMappings env.now wanted.now marked dia.new (M.kept m.now) unwanted.now) }
+    requires wanted { All (IsMappingAtom context.now.env.now) literals.now.wanted.now }
+    requires unwanted { All (IsMappingAtom context.now.env.now) literals.now.unwanted.now }
+    requires sound { All (IsSound context.now.env.now dia.old) (M.kept context.now.m.now) }
+    ensures extends { Extends (length context.now.env.now) dia.old dia.new }
+    ensures tells { IfOk result (TellsMappings context.now.env.now literals.now.wanted.now literals.now.marked dia.new (M.kept context.now.m.now) literals.now.unwanted.now) }
 {
-    let keys = keys_of(alloc, env, wanted, unwanted)?;
-    let fresh = key_behind(alloc, keys.as_slice())?;
-    let rest = base(env, dia, wanted, marked, &fresh)?;
-    let made = rest_demands(alloc, env, dia, unwanted, &fresh)?;
+    let keys = keys_of(
+        context.alloc,
+        context.env,
+        literals.wanted,
+        literals.unwanted,
+    )?;
+    let fresh = key_behind(context.alloc, keys.as_slice())?;
+    let rest = base(context.env, dia, literals.wanted, literals.marked, &fresh)?;
+    let made = rest_demands(context.alloc, context.env, dia, literals.unwanted, &fresh)?;
     let demands = made.as_slice();
-    let found = further_parts(alloc, dia, rest, demands, m)?;
+    let found = further_parts(context, dia, rest, demands)?;
     match found {
         Further::Parts(FurtherParts { parts, staying }) => {
             let atoms = staying.as_slice();
-            filled(alloc, env, dia, wanted, marked, atoms, keys, parts, m)
+            let left = Literals {
+                wanted: literals.wanted,
+                unwanted: atoms,
+                marked: literals.marked,
+            };
+            filled(context, dia, &left, keys, parts)
         }
         Further::Ask(question) => Ok(Turn::Ask(question)),
     }
@@ -95,30 +108,45 @@ pub(crate) fn keys_of(
 
 /// A mapping in all wanted atoms that avoids others at the keys that atoms name, with these further members.
 fn filled<M: Member>(
-    alloc: Global,
-    env: &TypeEnv,
+    context: &Context<'_, M>,
     dia: &mut Diagrams,
-    wanted: &[u32],
-    marked: bool,
-    staying: &[u32],
+    literals: &Literals<'_>,
     keys: Vec<Text>,
     further: Vec<Shape>,
-    m: &M,
 ) -> Result<Turn, Memory>
-    requires wanted { All (IsMappingAtom env.now) wanted.now }
-    requires staying { All (IsMappingAtom env.now) staying.now }
+    requires wanted { All (IsMappingAtom context.now.env.now) literals.now.wanted.now }
+    requires staying { All (IsMappingAtom context.now.env.now) literals.now.unwanted.now }
     requires ordered { AreInOrder keys.items }
-    requires sound { All (IsSound env.now dia.old) (M.kept m.now) }
-    ensures extends { Extends (length env.now) dia.old dia.new }
-    ensures tells { IfOk result (TellsFilled env.now wanted.now marked dia.new (M.kept m.now) keys.items further.items staying.now) }
+    requires sound { All (IsSound context.now.env.now dia.old) (M.kept context.now.m.now) }
+    ensures extends { Extends (length context.now.env.now) dia.old dia.new }
+    ensures tells { IfOk result (TellsFilled context.now.env.now literals.now.wanted.now literals.now.marked dia.new (M.kept context.now.m.now) keys.items further.items literals.now.unwanted.now) }
 {
-    let places = slots(alloc, env, dia, wanted, marked, keys.as_slice())?;
-    let asked = all_demands(alloc, env, dia, staying, keys.as_slice())?;
+    let places = slots(
+        context.alloc,
+        context.env,
+        dia,
+        literals.wanted,
+        literals.marked,
+        keys.as_slice(),
+    )?;
+    let asked = all_demands(
+        context.alloc,
+        context.env,
+        dia,
+        literals.unwanted,
+        keys.as_slice(),
+    )?;
     let slots = places.as_slice();
     let unwanted = asked.as_slice();
-    let filling = avoid(alloc, dia, slots, unwanted, m)?;
+    let filling = avoid(context, dia, slots, unwanted)?;
     match filling {
-        Filling::Parts(parts) => Ok(Turn::Shape(mapping(alloc, marked, keys, parts, further)?)),
+        Filling::Parts(parts) => Ok(Turn::Shape(mapping(
+            context.alloc,
+            literals.marked,
+            keys,
+            parts,
+            further,
+        )?)),
         Filling::Empty => Ok(Turn::Empty),
         Filling::Ask(question) => Ok(Turn::Ask(question)),
     }

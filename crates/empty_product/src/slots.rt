@@ -8,8 +8,7 @@ ghost use Rattle.type_diagrams.specs.Whole.{Extends};
 ghost use Rattle.empty_product.specs.Slots.{AvoidsAt, IsAt, IsDemand, IsKnown, IsSlot, TellsNarrowed, TellsPart, asking_of, place_of};
 
 use bal_base::Memory;
-use std::alloc::Global;
-use type_diagrams::{Diagrams, Finding, Member, look_up};
+use type_diagrams::{Context, Diagrams, Finding, Member, look_up};
 
 /// What may stand at a place of a product.
 #[derive(Clone, Copy)]
@@ -65,18 +64,17 @@ pub(crate) fn standing<M: Member>(dia: &Diagrams, question: u32, m: &M) -> Known
 /// A shape of a question that the table has, with a copy of it; that none is in it, or that it is held to be
 /// empty; or that the table doesn't know it.
 pub(crate) fn find_part<M: Member>(
-    alloc: Global,
+    context: &Context<'_, M>,
     dia: &Diagrams,
     question: u32,
-    m: &M,
 ) -> Result<Finding, Memory>
     requires question { IsDiagram dia.now question }
-    ensures { IfOk result (λ finding. (env : List AtomDef) → All (IsSound env dia.now) (M.kept m.now) → TellsPart env dia.now (M.kept m.now) question finding) }
+    ensures { IfOk result (λ finding. (env : List AtomDef) → All (IsSound env dia.now) (M.kept context.now.m.now) → TellsPart env dia.now (M.kept context.now.m.now) question finding) }
 {
     if dia.is_nothing(question) {
         return Ok(Finding::Held);
     }
-    look_up(alloc, m, question)
+    look_up(context.alloc, context.m, question)
 }
 
 /// A slot where a demand is avoided.

@@ -11,9 +11,11 @@
 //! - [`Member`] and [`Turn`]: what a table tells of questions, and what is said of a path against it;
 //!   [`Finding`] and [`look_up`]: what it tells, with a copy of the shape; [`MOST_QUESTIONS`] and
 //!   [`MOST_ARROWS`]: the limits of a call.
-//! - [`Projection`]: what is said of the parts of a path's shapes.
+//! - [`Projection`]: what is said of the parts of a path's shapes; [`Context`]: what a call that settles a path is
+//!   given.
 #![tactic(auto)]
 
+mod context;
 mod diagrams;
 mod finding;
 mod kind;
@@ -28,6 +30,7 @@ mod simple_shape;
 mod simple_type;
 mod turn;
 
+pub use context::Context;
 pub use diagrams::Diagrams;
 pub use finding::{Finding, look_up};
 pub use kind::{KINDS, Kind};

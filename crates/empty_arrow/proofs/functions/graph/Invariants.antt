@@ -5,4 +5,4 @@ use Rattle.empty_arrow.proofs.functions.graph.Given as goal
 
 abbrev pub invariant-loop-atom : goal.invariant-loop-atom
 invariant-loop-atom g l =
-    Extends (length l.env) l.fn.dia l.dia × AreCases l.env l.wanted (take l.atom-index l.unwanted) l.cases.items
+    Extends (length l.context.env.now) l.fn.dia l.dia × AreCases l.context.env.now l.wanted (take l.atom-index l.unwanted) l.cases.items

@@ -22,10 +22,10 @@ returns-in-Held-clause-extends g c = then_all _ _ _ _ c.loop-atom.invariant.0 c.
 pub returns-in-Held-clause-tells : goal.returns-in-Held-clause-tells
 returns-in-Held-clause-tells g c =
     let q = c.in_ok-question.question in
-    let told = subst (IsFinding (g.M.Member.kept c.args.m.now) q) c.in-Held.is c.in_ok-result.ensures in (
+    let told = subst (IsFinding (g.M.Member.kept c.args.context.now.m.now) q) c.in-Held.is c.in_ok-result.ensures in (
       q,
       told,
-      avoidance c.args.env.now c.defs-defs.result.now c.defs-defs.ensures.value c.args.dia.now c.loop-atom.dia c.outside.new.dia c.args.all q c.args.unwanted.now c.loop-atom.atom-index c.part.result.now
+      avoidance c.args.context.now.env.now c.defs-defs.result.now c.defs-defs.ensures.value c.args.dia.now c.loop-atom.dia c.outside.new.dia c.args.all q c.args.unwanted.now c.loop-atom.atom-index c.part.result.now
           (omega arith) c.part.ensures.asks c.requires.diagram c.loop-atom.invariant.0.keeps c.in_ok-question.ensures.made,
     )
 
@@ -35,9 +35,9 @@ returns-in-Unknown-clause-extends g c = then_all _ _ _ _ c.loop-atom.invariant.0
 pub returns-in-Unknown-clause-tells : goal.returns-in-Unknown-clause-tells
 returns-in-Unknown-clause-tells g c =
     let q = c.in_ok-question.question in
-    let told = subst (IsFinding (g.M.Member.kept c.args.m.now) q) c.in-Unknown.is c.in_ok-result.ensures in (
+    let told = subst (IsFinding (g.M.Member.kept c.args.context.now.m.now) q) c.in-Unknown.is c.in_ok-result.ensures in (
       told,
-      avoidance c.args.env.now c.defs-defs.result.now c.defs-defs.ensures.value c.args.dia.now c.loop-atom.dia c.outside.new.dia c.args.all q c.args.unwanted.now c.loop-atom.atom-index c.part.result.now
+      avoidance c.args.context.now.env.now c.defs-defs.result.now c.defs-defs.ensures.value c.args.dia.now c.loop-atom.dia c.outside.new.dia c.args.all q c.args.unwanted.now c.loop-atom.atom-index c.part.result.now
           (omega arith) c.part.ensures.asks c.requires.diagram c.loop-atom.invariant.0.keeps c.in_ok-question.ensures.made,
     )
 
@@ -46,8 +46,8 @@ returns-in_err-push-clause-extends g c = then_all _ _ _ _ c.loop-atom.invariant.
 
 pub loop-atom-preserved : goal.loop-atom-preserved
 loop-atom-preserved g c =
-    let env = c.args.env.now in
-    let kept = g.M.Member.kept c.args.m.now in
+    let env = c.args.context.now.env.now in
+    let kept = g.M.Member.kept c.args.context.now.m.now in
     let q = c.in_ok-question.question in
     let i = c.loop-atom.atom-index in
     let atom = get_or c.args.unwanted.now i 0 in
@@ -63,7 +63,7 @@ loop-atom-preserved g c =
 
 pub returns-clause-tells : goal.returns-clause-tells
 returns-clause-tells g c =
-    let env = c.args.env.now in
+    let env = c.args.context.now.env.now in
     let all = condition c.args.dia.now c.args.all in
     let done : AreResults env all c.args.unwanted.now c.loop-atom.found.items = subst (λ us. AreResults env all us c.loop-atom.found.items) (take_all c.loop-atom.atom-index c.args.unwanted.now (omega arith)) c.loop-atom.invariant.1 in
     (c.of.result, refl, subst (AreResults env all c.args.unwanted.now) (sym c.of.ensures) done)

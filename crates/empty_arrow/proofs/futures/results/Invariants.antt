@@ -6,4 +6,4 @@ use Rattle.empty_arrow.proofs.futures.results.Given as goal
 
 abbrev pub invariant-loop-atom : goal.invariant-loop-atom
 invariant-loop-atom g l =
-    Extends (length l.env) l.fn.dia l.dia × AreResults l.env (condition l.fn.dia l.all) (take l.atom-index l.unwanted) l.found.items
+    Extends (length l.context.env.now) l.fn.dia l.dia × AreResults l.context.env.now (condition l.fn.dia l.all) (take l.atom-index l.unwanted) l.found.items

@@ -14,7 +14,7 @@ use Rattle.empty_arrow.proofs.pairs.+find_pair.Goals as goal
 
 pub find_pair-requires : goal.find_pair-requires
 find_pair-requires g t c = λ κs h.
-    let env = c.args.env.now in
+    let env = c.args.context.now.env.now in
     let arrows = c.args.arrows.now in
     let some : 1 ≤ length arrows = omega arith in
     let keeps = c.outside.ensures.extends.keeps in
@@ -31,7 +31,7 @@ find_pair-requires g t c = λ κs h.
               fewer-arguments env (condition c.args.dia.now c.args.sought.args) (condition c.outside.new.dia c.in_ok-args-in-len1-up.args) (arguments_of env (get_or arrows 0 0)) left c.requires.lists,
               (
                 All-tail (IsArrow env) (get_or arrows 0 0) (rest_of arrows) (subst (All (IsArrow env)) (first-rest arrows some) c.requires.arrows),
-                sound-keeps env c.args.dia.now c.outside.new.dia (g.M.Member.kept c.args.m.now) keeps c.requires.sound,
+                sound-keeps env c.args.dia.now c.outside.new.dia (g.M.Member.kept c.args.context.now.m.now) keeps c.requires.sound,
               ),
             ),
           ),
@@ -41,7 +41,7 @@ find_pair-requires g t c = λ κs h.
 
 pub find_pair-requires-in-len1-up : goal.find_pair-requires-in-len1-up
 find_pair-requires-in-len1-up g t c = λ κs h.
-    let env = c.args.env.now in
+    let env = c.args.context.now.env.now in
     let arrows = c.args.arrows.now in
     let some : 1 ≤ length arrows = omega arith in
     let extends = then_all _ c.args.dia.now c.outside.new.dia c.within.new.dia c.outside.ensures.extends (then_all _ c.outside.new.dia c.find_pair.new.dia c.within.new.dia c.find_pair.ensures.extends c.within.ensures.extends) in
@@ -58,7 +58,7 @@ find_pair-requires-in-len1-up g t c = λ κs h.
               subst (AreArguments env) (sym (keeps.conditions c.args.sought.args c.requires.args)) c.requires.lists,
               (
                 All-tail (IsArrow env) (get_or arrows 0 0) (rest_of arrows) (subst (All (IsArrow env)) (first-rest arrows some) c.requires.arrows),
-                sound-keeps env c.args.dia.now c.within.new.dia (g.M.Member.kept c.args.m.now) keeps c.requires.sound,
+                sound-keeps env c.args.dia.now c.within.new.dia (g.M.Member.kept c.args.context.now.m.now) keeps c.requires.sound,
               ),
             ),
           ),
@@ -74,8 +74,8 @@ returns-in-Pair-clause-extends g t c = then_all _ _ _ _ c.outside.ensures.extend
 
 pub returns-in-Pair-clause-tells : goal.returns-in-Pair-clause-tells
 returns-in-Pair-clause-tells g t c =
-    let env = c.args.env.now in
-    let kept = g.M.Member.kept c.args.m.now in
+    let env = c.args.context.now.env.now in
+    let kept = g.M.Member.kept c.args.context.now.m.now in
     let arrows = c.args.arrows.now in
     let some : 1 ≤ length arrows = omega arith in
     let left = left-condition env c.defs.result.now c.defs.ensures.value c.args.dia.now c.outside.new.dia c.args.sought.args c.in_ok-args-in-len1-up.args (get_or arrows 0 0) c.arrow_of-arrow.result.args.now c.arrow_of-arrow.ensures.args c.in_ok-args-in-len1-up.ensures.made in
@@ -87,8 +87,8 @@ returns-in-Ask-clause-extends g t c = then_all _ _ _ _ c.outside.ensures.extends
 
 pub returns-in-Ask-clause-tells : goal.returns-in-Ask-clause-tells
 returns-in-Ask-clause-tells g t c =
-    let env = c.args.env.now in
-    let kept = g.M.Member.kept c.args.m.now in
+    let env = c.args.context.now.env.now in
+    let kept = g.M.Member.kept c.args.context.now.m.now in
     let arrows = c.args.arrows.now in
     let some : 1 ≤ length arrows = omega arith in
     let left = left-condition env c.defs.result.now c.defs.ensures.value c.args.dia.now c.outside.new.dia c.args.sought.args c.in_ok-args-in-len1-up.args (get_or arrows 0 0) c.arrow_of-arrow.result.args.now c.arrow_of-arrow.ensures.args c.in_ok-args-in-len1-up.ensures.made in
@@ -104,8 +104,8 @@ returns-in_ok-result-in-len1-up-clause-extends g t c =
 
 pub returns-in_ok-result-in-len1-up-clause-tells : goal.returns-in_ok-result-in-len1-up-clause-tells
 returns-in_ok-result-in-len1-up-clause-tells g t c =
-    let env = c.args.env.now in
-    let kept = g.M.Member.kept c.args.m.now in
+    let env = c.args.context.now.env.now in
+    let kept = g.M.Member.kept c.args.context.now.m.now in
     let arrows = c.args.arrows.now in
     let some : 1 ≤ length arrows = omega arith in
     let first = get_or arrows 0 0 in

@@ -16,7 +16,7 @@ returns-then-branch-clause-extends g t c = then_all _ _ _ _ c.is_avoided.ensures
 pub returns-then-branch-clause-tells : goal.returns-then-branch-clause-tells
 returns-then-branch-clause-tells g t c =
     let old = c.args.dia.now in
-    let kept = g.M.Member.kept c.args.m.now in
+    let kept = g.M.Member.kept c.args.context.now.m.now in
     let slots = c.args.slots.now in
     let us = c.args.unwanted.now in
     let f = c.first-item.result in
@@ -38,7 +38,7 @@ returns-in_err-next-in-len1-up-clause-extends g t c = then_all _ _ _ _ c.loop-st
 pub loop-step-preserved-in-Nothing : goal.loop-step-preserved-in-Nothing
 loop-step-preserved-in-Nothing g t c =
     let old = c.args.dia.now in
-    let kept = g.M.Member.kept c.args.m.now in
+    let kept = g.M.Member.kept c.args.context.now.m.now in
     let slots = c.args.slots.now in
     let us = c.args.unwanted.now in
     let f = c.first-item.result in
@@ -60,7 +60,7 @@ returns-in-Ask-clause-extends g t c = then_all _ _ _ _ c.loop-step.invariant.0 c
 pub returns-in-Ask-clause-tells : goal.returns-in-Ask-clause-tells
 returns-in-Ask-clause-tells g t c =
     let old = c.args.dia.now in
-    let kept = g.M.Member.kept c.args.m.now in
+    let kept = g.M.Member.kept c.args.context.now.m.now in
     let slots = c.args.slots.now in
     let us = c.args.unwanted.now in
     let f = c.first-item.result in
@@ -82,7 +82,7 @@ returns-in-Ask-clause-tells g t c =
 pub avoid-requires-in-loop-step : goal.avoid-requires-in-loop-step
 avoid-requires-in-loop-step g t c κs within =
     let old = c.args.dia.now in
-    let kept = g.M.Member.kept c.args.m.now in
+    let kept = g.M.Member.kept c.args.context.now.m.now in
     let slots = c.args.slots.now in
     let us = c.args.unwanted.now in
     let f = c.first-item.result in
@@ -116,7 +116,7 @@ returns-in-Parts-clause-extends g t c = then_all _ _ _ _ c.loop-step.invariant.0
 pub returns-in-Parts-clause-tells : goal.returns-in-Parts-clause-tells
 returns-in-Parts-clause-tells g t c =
     let old = c.args.dia.now in
-    let kept = g.M.Member.kept c.args.m.now in
+    let kept = g.M.Member.kept c.args.context.now.m.now in
     let slots = c.args.slots.now in
     let us = c.args.unwanted.now in
     let f = c.first-item.result in
@@ -143,7 +143,7 @@ returns-in-Ask-2-clause-extends g t c = then_all _ _ _ _ c.loop-step.invariant.0
 pub returns-in-Ask-2-clause-tells : goal.returns-in-Ask-2-clause-tells
 returns-in-Ask-2-clause-tells g t c =
     let old = c.args.dia.now in
-    let kept = g.M.Member.kept c.args.m.now in
+    let kept = g.M.Member.kept c.args.context.now.m.now in
     let slots = c.args.slots.now in
     let us = c.args.unwanted.now in
     let f = c.first-item.result in
@@ -171,7 +171,7 @@ returns-in-Ask-2-clause-tells g t c =
 pub loop-step-preserved : goal.loop-step-preserved
 loop-step-preserved g t c =
     let old = c.args.dia.now in
-    let kept = g.M.Member.kept c.args.m.now in
+    let kept = g.M.Member.kept c.args.context.now.m.now in
     let slots = c.args.slots.now in
     let us = c.args.unwanted.now in
     let f = c.first-item.result in
@@ -198,7 +198,7 @@ loop-step-preserved g t c =
 pub returns-in-empty-clause-tells : goal.returns-in-empty-clause-tells
 returns-in-empty-clause-tells g t c =
     let old = c.args.dia.now in
-    let kept = g.M.Member.kept c.args.m.now in
+    let kept = g.M.Member.kept c.args.context.now.m.now in
     let none = no_items c.args.unwanted.now (omega arith) in
     IfOk-map _ _ (λ filling h env sound. subst (λ us. TellsFilling env old kept (places_of old c.args.slots.now) (all_askings old us) filling) (sym none) (h env sound))
     c.filled.result c.filled.ensures
@@ -206,7 +206,7 @@ returns-in-empty-clause-tells g t c =
 pub returns-after-loop-step-clause-tells : goal.returns-after-loop-step-clause-tells
 returns-after-loop-step-clause-tells g t c =
     let old = c.args.dia.now in
-    let kept = g.M.Member.kept c.args.m.now in
+    let kept = g.M.Member.kept c.args.context.now.m.now in
     let slots = c.args.slots.now in
     let us = c.args.unwanted.now in
     let f = c.first-item.result in

@@ -12,4 +12,4 @@ decreases-avoid g l = length l.unwanted.now
 abbrev pub invariant-loop-step : goal.invariant-loop-step
 invariant-loop-step g l =
     Extends 0 l.fn.dia l.dia
-    × ((env : List AtomDef) → All (IsSound env l.fn.dia) (g.M.Member.kept l.m) → NoneIn env l.dia (g.M.Member.kept l.m) (places_of l.fn.dia l.slots) (askings_of l.fn.dia l.first) (all_askings l.fn.dia l.rest) l.step)
+    × ((env : List AtomDef) → All (IsSound env l.fn.dia) (g.M.Member.kept l.context.m.now) → NoneIn env l.dia (g.M.Member.kept l.context.m.now) (places_of l.fn.dia l.slots) (askings_of l.fn.dia l.first) (all_askings l.fn.dia l.rest) l.step)

@@ -8,4 +8,4 @@ use Rattle.empty_product.proofs.avoid.filled.Given as goal
 abbrev pub invariant-loop-slot : goal.invariant-loop-slot
 invariant-loop-slot g l =
     (length l.parts.items ≡ l.slot-index)
-    × ((env : List AtomDef) → All (IsSound env l.dia) (g.M.Member.kept l.m) → StandFirst env (places_of l.dia l.slots) l.parts.items)
+    × ((env : List AtomDef) → All (IsSound env l.dia) (g.M.Member.kept l.context.m.now) → StandFirst env (places_of l.dia l.slots) l.parts.items)

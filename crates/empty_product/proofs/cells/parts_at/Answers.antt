@@ -21,7 +21,7 @@ returns-in_default-clause-tells g c =
     let old = c.args.dia.now in
     let slots = c.args.slots.items in
     λ env sound.
-    absent-TellsStanding old env old (g.M.Member.kept c.args.m.now) slots c.args.target c.index.result.now (all_askings old c.args.unwanted.items) (condition old c.args.found) c.args.found
+    absent-TellsStanding old env old (g.M.Member.kept c.args.context.now.m.now) slots c.args.target c.index.result.now (all_askings old c.args.unwanted.items) (condition old c.args.found) c.args.found
     (slice_get_read slots (length slots) c.args.target c.index.result.now refl c.requires.target c.index.ensures) (sym c.part_of.ensures ∙ c.in_default.is) (gives_itself old c.args.found c.requires.found)
 
 pub cells-requires-clause-undecided : goal.cells-requires-clause-undecided
@@ -51,7 +51,7 @@ pub returns-clause-tells : goal.returns-clause-tells
 returns-clause-tells g c =
     let old = c.args.dia.now in
     let new = c.cells.new.dia in
-    let kept = g.M.Member.kept c.args.m.now in
+    let kept = g.M.Member.kept c.args.context.now.m.now in
     let slots = c.args.slots.items in
     let us = c.args.unwanted.items in
     let target = c.args.target in

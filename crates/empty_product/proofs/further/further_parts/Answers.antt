@@ -27,7 +27,7 @@ pub returns-in-Unknown-clause-tells : goal.returns-in-Unknown-clause-tells
 returns-in-Unknown-clause-tells g c = λ env sound.
     let old = c.args.dia.now in
     let new = c.diff.new.self in
-    let kept = g.M.Member.kept c.args.m.now in
+    let kept = g.M.Member.kept c.args.context.now.m.now in
     let on = then_all 0 old c.loop-demand.dia new c.loop-demand.invariant.0 c.diff.ensures.extends in
     step-Unknown env old c.loop-demand.dia new kept c.args.rest c.in_ok-question.question c.args.demands.now c.loop-demand.demand-index (omega arith)
     c.loop-demand.invariant.0.keeps c.diff.ensures.extends.keeps sound c.requires.rest c.requires.demands c.in_ok-question.ensures.condition.condition
@@ -39,7 +39,7 @@ loop-demand-preserved g c = (
   λ env sound.
       let old = c.args.dia.now in
       let new = c.diff.new.self in
-      let kept = g.M.Member.kept c.args.m.now in
+      let kept = g.M.Member.kept c.args.context.now.m.now in
       let rest = condition old c.args.rest in
       let askings = rest_askings_of old (take (c.loop-demand.demand-index + 1) c.args.demands.now) in
       let on = then_all 0 old c.loop-demand.dia new c.loop-demand.invariant.0 c.diff.ensures.extends in
@@ -64,6 +64,6 @@ loop-demand-preserved g c = (
 
 pub returns-clause-tells : goal.returns-clause-tells
 returns-clause-tells g c = λ env sound.
-    let kept = g.M.Member.kept c.args.m.now in
+    let kept = g.M.Member.kept c.args.context.now.m.now in
     subst (λ ds. AreSplit env c.loop-demand.dia kept (condition c.args.dia.now c.args.rest) (rest_askings_of c.args.dia.now ds) c.loop-demand.parts.items c.loop-demand.staying.items)
     (take_all c.loop-demand.demand-index c.args.demands.now (omega arith)) (c.loop-demand.invariant.1 env sound)

@@ -9,4 +9,4 @@ use Rattle.empty_product.proofs.further.further_parts.Given as goal
 abbrev pub invariant-loop-demand : goal.invariant-loop-demand
 invariant-loop-demand g l =
     Extends 0 l.fn.dia l.dia
-    × ((env : List AtomDef) → All (IsSound env l.fn.dia) (g.M.Member.kept l.m) → AreSplit env l.dia (g.M.Member.kept l.m) (condition l.fn.dia l.rest) (rest_askings_of l.fn.dia (take l.demand-index l.demands)) l.parts.items l.staying.items)
+    × ((env : List AtomDef) → All (IsSound env l.fn.dia) (g.M.Member.kept l.context.m.now) → AreSplit env l.dia (g.M.Member.kept l.context.m.now) (condition l.fn.dia l.rest) (rest_askings_of l.fn.dia (take l.demand-index l.demands)) l.parts.items l.staying.items)

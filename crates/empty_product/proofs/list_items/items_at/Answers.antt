@@ -14,16 +14,16 @@ returns-in-Parts-clause-extends g c = then_all _ _ _ _ c.short_items.ensures.ext
 
 pub returns-in-Parts-clause-tells : goal.returns-in-Parts-clause-tells
 returns-in-Parts-clause-tells g c =
-    let env = c.args.env.now in
-    let kept = g.M.Member.kept c.args.m.now in
+    let env = c.args.context.now.env.now in
+    let kept = g.M.Member.kept c.args.context.now.m.now in
     let old = c.args.dia.now in
     let mid = c.short_items.new.dia in
     let new = c.items_of_longer.new.dia in
     let bases = c.args.bases.now in
     let m = length bases in
     let place = c.args.place in
-    let wanted = c.args.wanted.now in
-    let unwanted = c.args.unwanted.now in
+    let wanted = c.args.literals.now.wanted.now in
+    let unwanted = c.args.literals.now.unwanted.now in
     let found = condition old c.args.found in
     let first = c.short_items.ensures.extends.keeps in
     let last = keeps-further old mid new first c.items_of_longer.ensures.extends.keeps in

@@ -14,13 +14,13 @@ use Rattle.empty_product.proofs.list_items.items_before.Goals as goal
 
 pub loop-place-init : goal.loop-place-init
 loop-place-init g c =
-    let env = c.args.env.now in
+    let env = c.args.context.now.env.now in
     let old = c.args.dia.now in
-    let kept = g.M.Member.kept c.args.m.now in
+    let kept = g.M.Member.kept c.args.context.now.m.now in
     let never = c.requires.never in (
       not_yet (length env) old,
       record { diagram = never.diagram; looks = one-Looks env nothing (condition old c.args.never) never.condition (nothing-Looks env) },
-      λ base asked same. none-Gathers env old (StandsBefore env base c.args.wanted.now c.args.unwanted.now (λ n. n < 2 ^ 63) 0) (HasHeldItem env old kept) nothing c.args.never never
+      λ base asked same. none-Gathers env old (StandsBefore env base c.args.literals.now.wanted.now c.args.literals.now.unwanted.now (λ n. n < 2 ^ 63) 0) (HasHeldItem env old kept) nothing c.args.never never
           (λ items y s. let lt = s.before in absurd (omega (arith, lt))),
     )
 
@@ -34,19 +34,19 @@ pub returns-in-Ask-clause-tells : goal.returns-in-Ask-clause-tells
 returns-in-Ask-clause-tells g c = λ base asked same.
     let mid = c.loop-place.dia in
     let told = c.in_ok-parts.ensures.tells base (AreAsked-keeps c.args.dia.now mid base c.args.bases.now c.loop-place.invariant.0.keeps asked) same in
-    subst (TellsListsAt c.args.env.now base c.items_at.new.dia (g.M.Member.kept c.args.m.now) c.args.wanted.now c.args.unwanted.now (λ n. n < 2 ^ 63) c.loop-place.place (condition mid c.loop-place.found)) c.in-Ask.is told
+    subst (TellsListsAt c.args.context.now.env.now base c.items_at.new.dia (g.M.Member.kept c.args.context.now.m.now) c.args.literals.now.wanted.now c.args.literals.now.unwanted.now (λ n. n < 2 ^ 63) c.loop-place.place (condition mid c.loop-place.found)) c.in-Ask.is told
 
 pub loop-place-preserved : goal.loop-place-preserved
 loop-place-preserved g c =
-    let env = c.args.env.now in
-    let kept = g.M.Member.kept c.args.m.now in
+    let env = c.args.context.now.env.now in
+    let kept = g.M.Member.kept c.args.context.now.m.now in
     let old = c.args.dia.now in
     let mid = c.loop-place.dia in
     let new = c.items_at.new.dia in
     let bases = c.args.bases.now in
     let place = c.loop-place.place in
-    let wanted = c.args.wanted.now in
-    let unwanted = c.args.unwanted.now in
+    let wanted = c.args.literals.now.wanted.now in
+    let unwanted = c.args.literals.now.unwanted.now in
     let first = c.loop-place.invariant.0.keeps in
     let last = keeps-further old mid new first c.items_at.ensures.extends.keeps in (
       then_all _ _ _ _ c.loop-place.invariant.0 c.items_at.ensures.extends,
@@ -60,4 +60,4 @@ loop-place-preserved g c =
 pub returns-clause-tells : goal.returns-clause-tells
 returns-clause-tells g c = λ base asked same.
     let all : c.loop-place.place ≡ c.args.places = omega arith in
-    subst (λ k. TellsListsBefore c.args.env.now base c.loop-place.dia (g.M.Member.kept c.args.m.now) c.args.wanted.now c.args.unwanted.now (λ n. n < 2 ^ 63) k nothing (Parts c.loop-place.found)) all (c.loop-place.invariant.2 base asked same)
+    subst (λ k. TellsListsBefore c.args.context.now.env.now base c.loop-place.dia (g.M.Member.kept c.args.context.now.m.now) c.args.literals.now.wanted.now c.args.literals.now.unwanted.now (λ n. n < 2 ^ 63) k nothing (Parts c.loop-place.found)) all (c.loop-place.invariant.2 base asked same)

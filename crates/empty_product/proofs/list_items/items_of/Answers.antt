@@ -22,13 +22,13 @@ pub parts_at-requires-clause-slots : goal.parts_at-requires-clause-slots
 parts_at-requires-clause-slots g c =
     let t = c.all_demands.new.dia in
     let bases = c.args.bases.now in
-    subst (AreSlots t) (sym c.in_ok-slots.ensures) (All-map (IsSlot t) Present bases (diagrams-keep c.args.dia.now t bases c.all_demands.ensures.extends.keeps (looking-diagrams c.args.env.now c.args.dia.now bases c.requires.bases)))
+    subst (AreSlots t) (sym c.in_ok-slots.ensures) (All-map (IsSlot t) Present bases (diagrams-keep c.args.dia.now t bases c.all_demands.ensures.extends.keeps (looking-diagrams c.args.context.now.env.now c.args.dia.now bases c.requires.bases)))
 
 pub parts_at-requires-clause-unwanted : goal.parts_at-requires-clause-unwanted
 parts_at-requires-clause-unwanted g c =
     let t = c.all_demands.new.dia in
     let long : length c.args.bases.now ≡ length c.in_ok-slots.slots.items = sym (ap length c.in_ok-slots.ensures ∙ length-mapped Present c.args.bases.now) in
-    subst (λ n. AreUnwanted t n c.in_ok-asked.asked.items) long (AreDemandsOf-AreUnwanted c.args.env.now t (length c.args.bases.now) c.args.atoms.now c.in_ok-asked.asked.items c.in_ok-asked.ensures.made)
+    subst (λ n. AreUnwanted t n c.in_ok-asked.asked.items) long (AreDemandsOf-AreUnwanted c.args.context.now.env.now t (length c.args.bases.now) c.args.atoms.now c.in_ok-asked.asked.items c.in_ok-asked.ensures.made)
 
 pub parts_at-requires-clause-target : goal.parts_at-requires-clause-target
 parts_at-requires-clause-target g c =
@@ -42,7 +42,7 @@ returns-clause-extends g c = then_on _ _ _ _ c.all_demands.ensures.extends c.par
 
 pub returns-clause-question : goal.returns-clause-question
 returns-clause-question g c =
-    let env = c.args.env.now in
+    let env = c.args.context.now.env.now in
     let old = c.args.dia.now in
     let t = c.all_demands.new.dia in
     let new = c.parts_at.new.dia in
@@ -55,8 +55,8 @@ returns-clause-question g c =
 
 pub returns-clause-tells : goal.returns-clause-tells
 returns-clause-tells g c =
-    let env = c.args.env.now in
-    let kept = g.M.Member.kept c.args.m.now in
+    let env = c.args.context.now.env.now in
+    let kept = g.M.Member.kept c.args.context.now.m.now in
     let old = c.args.dia.now in
     let t = c.all_demands.new.dia in
     let new = c.parts_at.new.dia in

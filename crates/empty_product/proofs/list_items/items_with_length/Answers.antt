@@ -14,36 +14,36 @@ use Rattle.empty_product.proofs.list_items.items_with_length.Goals as goal
 
 pub returns-then-not-all_allow_length-clause-tells : goal.returns-then-not-all_allow_length-clause-tells
 returns-then-not-all_allow_length-clause-tells g c = λ base asked.
-    let env = c.args.env.now in
+    let env = c.args.context.now.env.now in
     let old = c.args.dia.now in
-    let kept = g.M.Member.kept c.args.m.now in
+    let kept = g.M.Member.kept c.args.context.now.m.now in
     let n = length c.args.bases.now in
-    none-Gathers env old (StandsInList env base c.args.wanted.now c.args.unwanted.now (λ k. k ≡ n) c.args.place) (HasHeldItem env old kept) (condition old c.args.found) c.args.found (gives_itself old c.args.found c.requires.found.diagram)
+    none-Gathers env old (StandsInList env base c.args.literals.now.wanted.now c.args.literals.now.unwanted.now (λ k. k ≡ n) c.args.place) (HasHeldItem env old kept) (condition old c.args.found) c.args.found (gives_itself old c.args.found c.requires.found.diagram)
     (λ items y s.
-    let here = subst (λ k. All (AllowsLength env k) c.args.wanted.now) s.count s.list.allowed in
-    absurd (false≢true (sym c.if-not-all_allow_length.true ∙ c.all_allow_length.ensures.1 (subst (λ e. All (AllowsLength e n) c.args.wanted.now) (sym c.defs.ensures.value) here))))
+    let here = subst (λ k. All (AllowsLength env k) c.args.literals.now.wanted.now) s.count s.list.allowed in
+    absurd (false≢true (sym c.if-not-all_allow_length.true ∙ c.all_allow_length.ensures.1 (subst (λ e. All (AllowsLength e n) c.args.literals.now.wanted.now) (sym c.defs.ensures.value) here))))
 
 pub items_of-requires-clause-atoms : goal.items_of-requires-clause-atoms
 items_of-requires-clause-atoms g c =
-    let env = c.args.env.now in
+    let env = c.args.context.now.env.now in
     let n = length c.args.bases.now in
-    let those = subst (λ e. AreThose (AllowsLength e n) c.args.unwanted.now c.in_ok-atoms.atoms.items) c.defs-2.ensures.value c.in_ok-atoms.ensures in
+    let those = subst (λ e. AreThose (AllowsLength e n) c.args.literals.now.unwanted.now c.in_ok-atoms.atoms.items) c.defs-2.ensures.value c.in_ok-atoms.ensures in
     subst (All (IsListAtom env)) (sym c.deref.ensures.value)
-    (All-weaker (λ a. Contains c.args.unwanted.now a × AllowsLength env n a) (IsListAtom env) (λ a h. All-contains (IsListAtom env) c.args.unwanted.now a c.requires.unwanted h.0) c.in_ok-atoms.atoms.items those.among)
+    (All-weaker (λ a. Contains c.args.literals.now.unwanted.now a × AllowsLength env n a) (IsListAtom env) (λ a h. All-contains (IsListAtom env) c.args.literals.now.unwanted.now a c.requires.unwanted h.0) c.in_ok-atoms.atoms.items those.among)
 
 pub returns-clause-tells : goal.returns-clause-tells
 returns-clause-tells g c =
-    let env = c.args.env.now in
-    let kept = g.M.Member.kept c.args.m.now in
+    let env = c.args.context.now.env.now in
+    let kept = g.M.Member.kept c.args.context.now.m.now in
     let new = c.items_of.new.dia in
     let n = length c.args.bases.now in
     let atoms = c.in_ok-atoms.atoms.items in
-    let wanted = c.args.wanted.now in
+    let wanted = c.args.literals.now.wanted.now in
     let found = condition c.args.dia.now c.args.found in
-    let those = subst (λ e. AreThose (AllowsLength e n) c.args.unwanted.now atoms) c.defs-2.ensures.value c.in_ok-atoms.ensures in
+    let those = subst (λ e. AreThose (AllowsLength e n) c.args.literals.now.unwanted.now atoms) c.defs-2.ensures.value c.in_ok-atoms.ensures in
     let allowed = subst (λ e. All (AllowsLength e n) wanted) c.defs.ensures.value (c.all_allow_length.ensures.0 c.if-not-all_allow_length.false) in
     IfOk-map _ _ (λ p tells base asked.
-    items-TellsListsAt env base new kept wanted c.args.unwanted.now atoms n (λ k. k ≡ n) (λ k e. subst (λ m. All (AllowsLength env m) wanted) (sym e) allowed) those
+    items-TellsListsAt env base new kept wanted c.args.literals.now.unwanted.now atoms n (λ k. k ≡ n) (λ k e. subst (λ m. All (AllowsLength env m) wanted) (sym e) allowed) those
     (λ k a e among h. subst (λ m. AllowsLength env m a) e h) (λ k a e among h. subst (λ m. AllowsLength env m a) (sym e) h) c.args.place found p
     (subst (λ xs. TellsItemsAt env base new kept (λ k. k ≡ n) xs c.args.place found p) c.deref.ensures.value (tells base asked)))
     c.items_of.result c.items_of.ensures.tells

@@ -34,8 +34,8 @@ returns-in-Parts-clause-extends g c = then_all _ _ _ _ (then_on _ _ _ _ c.rest_d
 
 pub items_of-requires-clause-atoms : goal.items_of-requires-clause-atoms
 items_of-requires-clause-atoms g c =
-    let env = c.args.env.now in
-    let kept = g.M.Member.kept c.args.m.now in
+    let env = c.args.context.now.env.now in
+    let kept = g.M.Member.kept c.args.context.now.m.now in
     let t0 = c.args.dia.now in
     let t1 = c.rest_demands.new.dia in
     let t2 = c.further_parts.new.dia in
@@ -62,7 +62,7 @@ items_of-requires-clause-atoms g c =
 
 pub items_of-requires-clause-bases : goal.items_of-requires-clause-bases
 items_of-requires-clause-bases g c =
-    let env = c.args.env.now in
+    let env = c.args.context.now.env.now in
     let t0 = c.args.dia.now in
     let t2 = c.further_parts.new.dia in
     let bases = c.args.bases.now in
@@ -70,8 +70,8 @@ items_of-requires-clause-bases g c =
 
 pub returns-clause-tells : goal.returns-clause-tells
 returns-clause-tells g c = λ base asked same.
-    let env = c.args.env.now in
-    let kept = g.M.Member.kept c.args.m.now in
+    let env = c.args.context.now.env.now in
+    let kept = g.M.Member.kept c.args.context.now.m.now in
     let t0 = c.args.dia.now in
     let t1 = c.rest_demands.new.dia in
     let t2 = c.further_parts.new.dia in
@@ -94,8 +94,8 @@ returns-clause-tells g c = λ base asked same.
 
 pub returns-in-Parts-clause-tells : goal.returns-in-Parts-clause-tells
 returns-in-Parts-clause-tells g c =
-    let env = c.args.env.now in
-    let kept = g.M.Member.kept c.args.m.now in
+    let env = c.args.context.now.env.now in
+    let kept = g.M.Member.kept c.args.context.now.m.now in
     let t0 = c.args.dia.now in
     let t1 = c.rest_demands.new.dia in
     let t2 = c.further_parts.new.dia in

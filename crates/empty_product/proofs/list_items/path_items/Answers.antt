@@ -13,9 +13,9 @@ use Rattle.empty_product.proofs.list_items.path_items.Goals as goal
 
 pub items_at_index-requires-clause-bases : goal.items_at_index-requires-clause-bases
 items_at_index-requires-clause-bases g c =
-    let env = c.args.env.now in
-    let wanted = c.args.wanted.now in
-    let marked = c.args.marked in
+    let env = c.args.context.now.env.now in
+    let wanted = c.args.literals.now.wanted.now in
+    let marked = c.args.literals.now.marked in
     let base_of : ℕ → Condition = item_asked env wanted marked in
     let mid = c.further_bases.new.dia in
     let qs = c.as_slice-bases.result.now in
@@ -24,8 +24,8 @@ items_at_index-requires-clause-bases g c =
 
 pub items_at_index-requires-clause-wanted_before : goal.items_at_index-requires-clause-wanted_before
 items_at_index-requires-clause-wanted_before g c =
-    let env = c.args.env.now in
-    let wanted = c.args.wanted.now in
+    let env = c.args.context.now.env.now in
+    let wanted = c.args.literals.now.wanted.now in
     let qs = c.as_slice-bases.result.now in
     let n = c.max-prefix.result in
     let long : length qs ≡ n + 2 = ap length c.as_slice-bases.ensures.value ∙ c.in_ok-made.ensures.count in
@@ -34,8 +34,8 @@ items_at_index-requires-clause-wanted_before g c =
 
 pub items_at_index-requires-clause-unwanted_before : goal.items_at_index-requires-clause-unwanted_before
 items_at_index-requires-clause-unwanted_before g c =
-    let env = c.args.env.now in
-    let unwanted = c.args.unwanted.now in
+    let env = c.args.context.now.env.now in
+    let unwanted = c.args.literals.now.unwanted.now in
     let qs = c.as_slice-bases.result.now in
     let n = c.max-prefix.result in
     let long : length qs ≡ n + 2 = ap length c.as_slice-bases.ensures.value ∙ c.in_ok-made.ensures.count in
@@ -50,17 +50,17 @@ items_at_index-requires-clause-never g c =
 
 pub items_at_index-requires-clause-sound : goal.items_at_index-requires-clause-sound
 items_at_index-requires-clause-sound g c =
-    let env = c.args.env.now in
-    let kept = g.M.Member.kept c.args.m.now in
+    let env = c.args.context.now.env.now in
+    let kept = g.M.Member.kept c.args.context.now.m.now in
     let old = c.args.dia.now in
     let mid = c.further_bases.new.dia in
     sound-keeps env old mid kept c.further_bases.ensures.extends.keeps c.requires.sound
 
 pub items_before-requires-clause-bases : goal.items_before-requires-clause-bases
 items_before-requires-clause-bases g c =
-    let env = c.args.env.now in
-    let wanted = c.args.wanted.now in
-    let marked = c.args.marked in
+    let env = c.args.context.now.env.now in
+    let wanted = c.args.literals.now.wanted.now in
+    let marked = c.args.literals.now.marked in
     let base_of : ℕ → Condition = item_asked env wanted marked in
     let mid = c.further_bases.new.dia in
     let qs = c.as_slice-bases.result.now in
@@ -69,8 +69,8 @@ items_before-requires-clause-bases g c =
 
 pub items_before-requires-clause-wanted_before : goal.items_before-requires-clause-wanted_before
 items_before-requires-clause-wanted_before g c =
-    let env = c.args.env.now in
-    let wanted = c.args.wanted.now in
+    let env = c.args.context.now.env.now in
+    let wanted = c.args.literals.now.wanted.now in
     let qs = c.as_slice-bases.result.now in
     let n = c.max-prefix.result in
     let long : length qs ≡ n + 2 = ap length c.as_slice-bases.ensures.value ∙ c.in_ok-made.ensures.count in
@@ -79,8 +79,8 @@ items_before-requires-clause-wanted_before g c =
 
 pub items_before-requires-clause-unwanted_before : goal.items_before-requires-clause-unwanted_before
 items_before-requires-clause-unwanted_before g c =
-    let env = c.args.env.now in
-    let unwanted = c.args.unwanted.now in
+    let env = c.args.context.now.env.now in
+    let unwanted = c.args.literals.now.unwanted.now in
     let qs = c.as_slice-bases.result.now in
     let n = c.max-prefix.result in
     let long : length qs ≡ n + 2 = ap length c.as_slice-bases.ensures.value ∙ c.in_ok-made.ensures.count in
@@ -95,8 +95,8 @@ items_before-requires-clause-never g c =
 
 pub items_before-requires-clause-sound : goal.items_before-requires-clause-sound
 items_before-requires-clause-sound g c =
-    let env = c.args.env.now in
-    let kept = g.M.Member.kept c.args.m.now in
+    let env = c.args.context.now.env.now in
+    let kept = g.M.Member.kept c.args.context.now.m.now in
     let old = c.args.dia.now in
     let mid = c.further_bases.new.dia in
     sound-keeps env old mid kept c.further_bases.ensures.extends.keeps c.requires.sound
@@ -111,11 +111,11 @@ returns-clause-extends g c =
 
 pub returns-in-Some-clause-tells : goal.returns-in-Some-clause-tells
 returns-in-Some-clause-tells g c =
-    let env = c.args.env.now in
-    let wanted = c.args.wanted.now in
-    let unwanted = c.args.unwanted.now in
-    let marked = c.args.marked in
-    let kept = g.M.Member.kept c.args.m.now in
+    let env = c.args.context.now.env.now in
+    let wanted = c.args.literals.now.wanted.now in
+    let unwanted = c.args.literals.now.unwanted.now in
+    let marked = c.args.literals.now.marked in
+    let kept = g.M.Member.kept c.args.context.now.m.now in
     let base_of : ℕ → Condition = item_asked env wanted marked in
     let mid = c.further_bases.new.dia in
     let qs = c.as_slice-bases.result.now in
@@ -130,11 +130,11 @@ returns-in-Some-clause-tells g c =
 
 pub returns-clause-tells : goal.returns-clause-tells
 returns-clause-tells g c =
-    let env = c.args.env.now in
-    let wanted = c.args.wanted.now in
-    let unwanted = c.args.unwanted.now in
-    let marked = c.args.marked in
-    let kept = g.M.Member.kept c.args.m.now in
+    let env = c.args.context.now.env.now in
+    let wanted = c.args.literals.now.wanted.now in
+    let unwanted = c.args.literals.now.unwanted.now in
+    let marked = c.args.literals.now.marked in
+    let kept = g.M.Member.kept c.args.context.now.m.now in
     let base_of : ℕ → Condition = item_asked env wanted marked in
     let mid = c.further_bases.new.dia in
     let qs = c.as_slice-bases.result.now in

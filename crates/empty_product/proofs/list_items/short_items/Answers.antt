@@ -15,13 +15,13 @@ use Rattle.empty_product.proofs.list_items.short_items.Goals as goal
 
 pub loop-length-init : goal.loop-length-init
 loop-length-init g c =
-    let env = c.args.env.now in
+    let env = c.args.context.now.env.now in
     let old = c.args.dia.now in
-    let kept = g.M.Member.kept c.args.m.now in
+    let kept = g.M.Member.kept c.args.context.now.m.now in
     let place = c.args.place in (
       not_yet (length env) old,
       c.requires.found,
-      λ base asked. none-Gathers env old (StandsInList env base c.args.wanted.now c.args.unwanted.now (λ n. n < place + 1) place) (HasHeldItem env old kept) (condition old c.args.found) c.args.found (gives_itself old c.args.found c.requires.found.diagram)
+      λ base asked. none-Gathers env old (StandsInList env base c.args.literals.now.wanted.now c.args.literals.now.unwanted.now (λ n. n < place + 1) place) (HasHeldItem env old kept) (condition old c.args.found) c.args.found (gives_itself old c.args.found c.requires.found.diagram)
           (λ items y s. let long = slice_get_within items place y s.stands in let short = s.count in absurd (omega (arith, long, short))),
     )
 
@@ -33,26 +33,26 @@ returns-in-Ask-clause-extends g c = then_all _ _ _ _ c.loop-length.invariant.0 c
 
 pub returns-in-Ask-clause-tells : goal.returns-in-Ask-clause-tells
 returns-in-Ask-clause-tells g c = λ base asked.
-    let env = c.args.env.now in
-    let kept = g.M.Member.kept c.args.m.now in
+    let env = c.args.context.now.env.now in
+    let kept = g.M.Member.kept c.args.context.now.m.now in
     let mid = c.loop-length.dia in
     let bases = c.args.bases.now in
     let k = c.loop-length.length in
     let told = c.in_ok-parts.ensures.tells base (AreAsked-take mid base bases k (AreAsked-keeps c.args.dia.now mid base bases c.loop-length.invariant.0.keeps asked)) in
-    subst (TellsListsAt env base c.items_with_length.new.dia kept c.args.wanted.now c.args.unwanted.now (λ n. n ≡ length (take k bases)) c.args.place (condition mid c.loop-length.all)) c.in-Ask.is told
+    subst (TellsListsAt env base c.items_with_length.new.dia kept c.args.literals.now.wanted.now c.args.literals.now.unwanted.now (λ n. n ≡ length (take k bases)) c.args.place (condition mid c.loop-length.all)) c.in-Ask.is told
 
 pub loop-length-preserved : goal.loop-length-preserved
 loop-length-preserved g c =
-    let env = c.args.env.now in
-    let kept = g.M.Member.kept c.args.m.now in
+    let env = c.args.context.now.env.now in
+    let kept = g.M.Member.kept c.args.context.now.m.now in
     let old = c.args.dia.now in
     let mid = c.loop-length.dia in
     let new = c.items_with_length.new.dia in
     let bases = c.args.bases.now in
     let k = c.loop-length.length in
     let place = c.args.place in
-    let wanted = c.args.wanted.now in
-    let unwanted = c.args.unwanted.now in
+    let wanted = c.args.literals.now.wanted.now in
+    let unwanted = c.args.literals.now.unwanted.now in
     let first = c.loop-length.invariant.0.keeps in
     let lt : k < length bases = omega arith in
     let taken : length (take k bases) ≡ k = omega (arith, length-take k bases, lt) in
@@ -76,4 +76,4 @@ pub returns-clause-tells : goal.returns-clause-tells
 returns-clause-tells g c = λ base asked.
     let some = c.requires.place in
     let all : c.loop-length.length ≡ length c.args.bases.now = omega (arith, some) in
-    subst (λ k. TellsListsAt c.args.env.now base c.loop-length.dia (g.M.Member.kept c.args.m.now) c.args.wanted.now c.args.unwanted.now (λ n. n < k) c.args.place (condition c.args.dia.now c.args.found) (Parts c.loop-length.all)) all (c.loop-length.invariant.2 base asked)
+    subst (λ k. TellsListsAt c.args.context.now.env.now base c.loop-length.dia (g.M.Member.kept c.args.context.now.m.now) c.args.literals.now.wanted.now c.args.literals.now.unwanted.now (λ n. n < k) c.args.place (condition c.args.dia.now c.args.found) (Parts c.loop-length.all)) all (c.loop-length.invariant.2 base asked)

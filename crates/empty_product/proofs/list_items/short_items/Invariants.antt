@@ -9,5 +9,5 @@ use Rattle.empty_product.proofs.list_items.short_items.Given as goal
 
 abbrev pub invariant-loop-length : goal.invariant-loop-length
 invariant-loop-length g l =
-    Extends (length l.env) l.fn.dia l.dia × IsLooking l.env l.dia l.all
-    × ((base : ℕ → Condition) → AreAsked l.fn.dia base l.bases → TellsListsAt l.env base l.dia (g.M.Member.kept l.m) l.wanted l.unwanted (λ n. n < l.length) l.place (condition l.fn.dia l.found) (Parts l.all))
+    Extends (length l.context.env.now) l.fn.dia l.dia × IsLooking l.context.env.now l.dia l.all
+    × ((base : ℕ → Condition) → AreAsked l.fn.dia base l.bases → TellsListsAt l.context.env.now base l.dia (g.M.Member.kept l.context.m.now) l.literals.wanted.now l.literals.unwanted.now (λ n. n < l.length) l.place (condition l.fn.dia l.found) (Parts l.all))

@@ -23,15 +23,15 @@ avoid-requires-clause-unwanted g c =
     let is : c.deref.result.now ≡ map Present c.args.bases.now = c.deref.ensures.value ∙ c.in_ok-slots.ensures in
     let long : length c.args.bases.now ≡ length c.deref.result.now = sym (ap length is ∙ length-mapped Present c.args.bases.now) in
     subst (λ n. AreUnwanted t n c.deref-2.result.now) long
-    (subst (AreUnwanted t (length c.args.bases.now)) (sym c.deref-2.ensures.value) (AreDemandsOf-AreUnwanted c.args.env.now t (length c.args.bases.now) c.args.atoms.now c.in_ok-unwanted.unwanted.items c.in_ok-unwanted.ensures.made))
+    (subst (AreUnwanted t (length c.args.bases.now)) (sym c.deref-2.ensures.value) (AreDemandsOf-AreUnwanted c.args.context.now.env.now t (length c.args.bases.now) c.args.atoms.now c.in_ok-unwanted.unwanted.items c.in_ok-unwanted.ensures.made))
 
 pub returns-clause-extends : goal.returns-clause-extends
 returns-clause-extends g c = then_on _ _ _ _ c.all_demands.ensures.extends c.avoid.ensures.extends
 
 pub returns-clause-tells : goal.returns-clause-tells
 returns-clause-tells g c =
-    let env = c.args.env.now in
-    let kept = g.M.Member.kept c.args.m.now in
+    let env = c.args.context.now.env.now in
+    let kept = g.M.Member.kept c.args.context.now.m.now in
     let old = c.args.dia.now in
     let t = c.all_demands.new.dia in
     let new = c.avoid.new.dia in

@@ -28,8 +28,8 @@ returns-in-Ask-clause-extends g c = then_on _ _ _ _ c.rest_demands.ensures.exten
 
 pub returns-in-Ask-clause-tells : goal.returns-in-Ask-clause-tells
 returns-in-Ask-clause-tells g c = λ base asked same.
-    let env = c.args.env.now in
-    let kept = g.M.Member.kept c.args.m.now in
+    let env = c.args.context.now.env.now in
+    let kept = g.M.Member.kept c.args.context.now.m.now in
     let t0 = c.args.dia.now in
     let t1 = c.rest_demands.new.dia in
     let t2 = c.further_parts.new.dia in
@@ -52,8 +52,8 @@ returns-in-Ask-clause-tells g c = λ base asked same.
 
 pub lists_of-requires-clause-atoms : goal.lists_of-requires-clause-atoms
 lists_of-requires-clause-atoms g c =
-    let env = c.args.env.now in
-    let kept = g.M.Member.kept c.args.m.now in
+    let env = c.args.context.now.env.now in
+    let kept = g.M.Member.kept c.args.context.now.m.now in
     let t0 = c.args.dia.now in
     let t1 = c.rest_demands.new.dia in
     let t2 = c.further_parts.new.dia in
@@ -99,8 +99,8 @@ returns-in-Ask-2-clause-extends g c = then_all _ _ _ _ (then_on _ _ _ _ c.rest_d
 
 pub returns-in-Parts-2-clause-tells : goal.returns-in-Parts-2-clause-tells
 returns-in-Parts-2-clause-tells g c =
-    let env = c.args.env.now in
-    let kept = g.M.Member.kept c.args.m.now in
+    let env = c.args.context.now.env.now in
+    let kept = g.M.Member.kept c.args.context.now.m.now in
     let t0 = c.args.dia.now in
     let t1 = c.rest_demands.new.dia in
     let t2 = c.further_parts.new.dia in
@@ -137,8 +137,8 @@ returns-in-Parts-2-clause-tells g c =
 
 pub returns-in-Empty-clause-tells : goal.returns-in-Empty-clause-tells
 returns-in-Empty-clause-tells g c = λ base asked same items all.
-    let env = c.args.env.now in
-    let kept = g.M.Member.kept c.args.m.now in
+    let env = c.args.context.now.env.now in
+    let kept = g.M.Member.kept c.args.context.now.m.now in
     let t0 = c.args.dia.now in
     let t1 = c.rest_demands.new.dia in
     let t2 = c.further_parts.new.dia in
@@ -172,8 +172,8 @@ returns-in-Empty-clause-tells g c = λ base asked same items all.
 
 pub returns-in-Ask-2-clause-tells : goal.returns-in-Ask-2-clause-tells
 returns-in-Ask-2-clause-tells g c = λ base asked same.
-    let env = c.args.env.now in
-    let kept = g.M.Member.kept c.args.m.now in
+    let env = c.args.context.now.env.now in
+    let kept = g.M.Member.kept c.args.context.now.m.now in
     let t0 = c.args.dia.now in
     let t1 = c.rest_demands.new.dia in
     let t2 = c.further_parts.new.dia in

@@ -18,45 +18,45 @@ returns-in-Ask-clause-extends g c = then_all _ _ _ _ c.loop-length.invariant.0 c
 
 pub returns-in-Parts-clause-tells : goal.returns-in-Parts-clause-tells
 returns-in-Parts-clause-tells g c = λ base asked.
-    let env = c.args.env.now in
-    let kept = g.M.Member.kept c.args.m.now in
+    let env = c.args.context.now.env.now in
+    let kept = g.M.Member.kept c.args.context.now.m.now in
     let old = c.args.dia.now in
     let mid = c.loop-length.dia in
     let new = c.lists_with_length.new.dia in
     let bases = c.args.bases.now in
     let k = c.loop-length.length in
-    let wanted = c.args.wanted.now in
-    let unwanted = c.args.unwanted.now in
+    let wanted = c.args.literals.now.wanted.now in
+    let unwanted = c.args.literals.now.unwanted.now in
     let first = c.loop-length.invariant.0.keeps in
     let told = c.in_ok-lists_with_length.ensures.tells base (AreAsked-take mid base bases k (AreAsked-keeps old mid base bases first asked)) in
     subst (TellsLists env base new kept wanted unwanted (λ n. n ≡ length (take k bases))) c.in-Parts.is told
 
 pub returns-in-Ask-clause-tells : goal.returns-in-Ask-clause-tells
 returns-in-Ask-clause-tells g c = λ base asked.
-    let env = c.args.env.now in
-    let kept = g.M.Member.kept c.args.m.now in
+    let env = c.args.context.now.env.now in
+    let kept = g.M.Member.kept c.args.context.now.m.now in
     let old = c.args.dia.now in
     let mid = c.loop-length.dia in
     let new = c.lists_with_length.new.dia in
     let bases = c.args.bases.now in
     let k = c.loop-length.length in
-    let wanted = c.args.wanted.now in
-    let unwanted = c.args.unwanted.now in
+    let wanted = c.args.literals.now.wanted.now in
+    let unwanted = c.args.literals.now.unwanted.now in
     let first = c.loop-length.invariant.0.keeps in
     let told = c.in_ok-lists_with_length.ensures.tells base (AreAsked-take mid base bases k (AreAsked-keeps old mid base bases first asked)) in
     subst (TellsLists env base new kept wanted unwanted (λ n. n ≡ length (take k bases))) c.in-Ask.is told
 
 pub loop-length-preserved : goal.loop-length-preserved
 loop-length-preserved g c =
-    let env = c.args.env.now in
-    let kept = g.M.Member.kept c.args.m.now in
+    let env = c.args.context.now.env.now in
+    let kept = g.M.Member.kept c.args.context.now.m.now in
     let old = c.args.dia.now in
     let mid = c.loop-length.dia in
     let new = c.lists_with_length.new.dia in
     let bases = c.args.bases.now in
     let k = c.loop-length.length in
-    let wanted = c.args.wanted.now in
-    let unwanted = c.args.unwanted.now in
+    let wanted = c.args.literals.now.wanted.now in
+    let unwanted = c.args.literals.now.unwanted.now in
     let first = c.loop-length.invariant.0.keeps in
     let lt : k < length bases = omega arith in
     let taken : length (take k bases) ≡ k = omega (arith, length-take k bases, lt) in

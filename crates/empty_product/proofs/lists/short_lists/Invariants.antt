@@ -7,5 +7,5 @@ use Rattle.empty_product.proofs.lists.short_lists.Given as goal
 
 abbrev pub invariant-loop-length : goal.invariant-loop-length
 invariant-loop-length g l =
-    Extends (length l.env) l.fn.dia l.dia
-    × ((base : ℕ → Condition) → AreAsked l.fn.dia base l.bases → TellsLists l.env base l.dia (g.M.Member.kept l.m) l.wanted l.unwanted (λ n. n < l.length) Empty)
+    Extends (length l.context.env.now) l.fn.dia l.dia
+    × ((base : ℕ → Condition) → AreAsked l.fn.dia base l.bases → TellsLists l.context.env.now base l.dia (g.M.Member.kept l.context.m.now) l.literals.wanted.now l.literals.unwanted.now (λ n. n < l.length) Empty)

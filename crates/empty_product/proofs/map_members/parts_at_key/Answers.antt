@@ -23,8 +23,8 @@ returns-in_err-made-clause-extends g c =
 
 pub further_parts-requires-clause-demands : goal.further_parts-requires-clause-demands
 further_parts-requires-clause-demands g c =
-    let env = c.args.env.now in
-    let unwanted = c.args.unwanted.now in
+    let env = c.args.context.now.env.now in
+    let unwanted = c.args.literals.now.unwanted.now in
     let fresh = c.in_ok-fresh.fresh in
     let mid = c.rest_demands.new.dia in
     let demands = c.as_slice-demands.result.now in
@@ -45,9 +45,9 @@ returns-in_err-_room-in-Parts-clause-extends g c =
 
 pub placed_parts-requires-clause-atoms : goal.placed_parts-requires-clause-atoms
 placed_parts-requires-clause-atoms g c =
-    let env = c.args.env.now in
-    let unwanted = c.args.unwanted.now in
-    let kept = g.M.Member.kept c.args.m.now in
+    let env = c.args.context.now.env.now in
+    let unwanted = c.args.literals.now.unwanted.now in
+    let kept = g.M.Member.kept c.args.context.now.m.now in
     let fresh = c.in_ok-fresh.fresh in
     let old = c.args.dia.now in
     let mid = c.rest_demands.new.dia in
@@ -76,8 +76,8 @@ placed_parts-requires-clause-target g c =
 
 pub placed_parts-requires-clause-sound : goal.placed_parts-requires-clause-sound
 placed_parts-requires-clause-sound g c =
-    let env = c.args.env.now in
-    let kept = g.M.Member.kept c.args.m.now in
+    let env = c.args.context.now.env.now in
+    let kept = g.M.Member.kept c.args.context.now.m.now in
     let old = c.args.dia.now in
     let new = c.further_parts.new.dia in
     let to_mid = then_all _ _ _ _ c.base.ensures.extends c.rest_demands.ensures.extends in
@@ -92,7 +92,7 @@ returns-in-Parts-clause-extends g c =
 
 pub returns-in-Parts-clause-looks : goal.returns-in-Parts-clause-looks
 returns-in-Parts-clause-looks g c =
-    let env = c.args.env.now in
+    let env = c.args.context.now.env.now in
     let to_mid = then_all _ _ _ _ c.base.ensures.extends c.rest_demands.ensures.extends in
     let to_new = then_on _ _ _ _ to_mid c.further_parts.ensures.extends in
     let same_found = to_new.keeps.conditions c.args.found c.requires.found in
@@ -100,11 +100,11 @@ returns-in-Parts-clause-looks g c =
 
 pub returns-in-Parts-clause-tells : goal.returns-in-Parts-clause-tells
 returns-in-Parts-clause-tells g c =
-    let env = c.args.env.now in
-    let wanted = c.args.wanted.now in
-    let marked = c.args.marked in
-    let unwanted = c.args.unwanted.now in
-    let kept = g.M.Member.kept c.args.m.now in
+    let env = c.args.context.now.env.now in
+    let wanted = c.args.literals.now.wanted.now in
+    let marked = c.args.literals.now.marked in
+    let unwanted = c.args.literals.now.unwanted.now in
+    let kept = g.M.Member.kept c.args.context.now.m.now in
     let key = c.args.key.now in
     let keys = c.as_slice-all.result.now in
     let target = c.in_ok-target.target in
@@ -146,11 +146,11 @@ returns-clause-extends g c =
 
 pub returns-clause-tells : goal.returns-clause-tells
 returns-clause-tells g c =
-    let env = c.args.env.now in
-    let wanted = c.args.wanted.now in
-    let marked = c.args.marked in
-    let unwanted = c.args.unwanted.now in
-    let kept = g.M.Member.kept c.args.m.now in
+    let env = c.args.context.now.env.now in
+    let wanted = c.args.literals.now.wanted.now in
+    let marked = c.args.literals.now.marked in
+    let unwanted = c.args.literals.now.unwanted.now in
+    let kept = g.M.Member.kept c.args.context.now.m.now in
     let key = c.args.key.now in
     let keys = c.as_slice-all.result.now in
     let target = c.in_ok-target.target in

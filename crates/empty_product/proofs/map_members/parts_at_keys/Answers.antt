@@ -16,20 +16,20 @@ use Rattle.empty_product.proofs.map_members.parts_at_keys.Goals as goal
 
 pub loop-key-init : goal.loop-key-init
 loop-key-init g c =
-    let env = c.args.env.now in
-    let kept = g.M.Member.kept c.args.m.now in (
+    let env = c.args.context.now.env.now in
+    let kept = g.M.Member.kept c.args.context.now.m.now in (
       not_yet _ _,
       no-AreMembers env c.args.dia.now kept c.args.path.now c.args.unwanted.now c.args.never c.requires.never,
     )
 
 pub parts_at_key-requires-clause-wanted : goal.parts_at_key-requires-clause-wanted
 parts_at_key-requires-clause-wanted g c =
-    let env = c.args.env.now in
+    let env = c.args.context.now.env.now in
     subst (All (IsMappingAtom env)) (sym (c.as_slice-wanted.ensures.value ∙ c.in_ok-holding.ensures)) (atoms-are env Mappings c.args.path.now.pos c.requires.literals.holding)
 
 pub parts_at_key-requires-clause-unwanted : goal.parts_at_key-requires-clause-unwanted
 parts_at_key-requires-clause-unwanted g c =
-    let env = c.args.env.now in
+    let env = c.args.context.now.env.now in
     let p = c.args.path.now in
     playing-are (IsMappingAtom env) (IsMappingOutOfPlay env (atoms_in p.pos)) (atoms_in p.neg) c.args.unwanted.now c.requires.play (atoms-are env Mappings p.neg c.requires.literals.failing)
 
@@ -41,9 +41,9 @@ returns-in-Ask-clause-extends g c = then_all _ _ _ _ c.loop-key.invariant.0 c.pa
 
 pub returns-in-Ask-clause-tells : goal.returns-in-Ask-clause-tells
 returns-in-Ask-clause-tells g c =
-    let env = c.args.env.now in
+    let env = c.args.context.now.env.now in
     let p = c.args.path.now in
-    let kept = g.M.Member.kept c.args.m.now in
+    let kept = g.M.Member.kept c.args.context.now.m.now in
     let playing = c.args.unwanted.now in
     let old = c.loop-key.dia in
     let new = c.parts_at_key.new.dia in
@@ -57,9 +57,9 @@ returns-in-Ask-clause-tells g c =
 
 pub loop-key-preserved : goal.loop-key-preserved
 loop-key-preserved g c =
-    let env = c.args.env.now in
+    let env = c.args.context.now.env.now in
     let p = c.args.path.now in
-    let kept = g.M.Member.kept c.args.m.now in
+    let kept = g.M.Member.kept c.args.context.now.m.now in
     let playing = c.args.unwanted.now in
     let keys = c.args.keys.now in
     let old = c.loop-key.dia in

@@ -12,11 +12,11 @@ returns-in_err-asked-clause-extends g c = then_all _ _ _ _ c.slots.ensures.exten
 
 pub avoid-requires-clause-slots : goal.avoid-requires-clause-slots
 avoid-requires-clause-slots g c =
-    let env = c.args.env.now in
-    let wanted = c.args.wanted.now in
-    let marked = c.args.marked in
+    let env = c.args.context.now.env.now in
+    let wanted = c.args.literals.now.wanted.now in
+    let marked = c.args.literals.now.marked in
     let keys = c.args.keys.items in
-    let staying = c.args.staying.now in
+    let staying = c.args.literals.now.unwanted.now in
     let first = c.slots.new.dia in
     let mid = c.all_demands.new.dia in
     let ss = c.as_slice-slots.result.now in
@@ -27,11 +27,11 @@ avoid-requires-clause-slots g c =
 
 pub avoid-requires-clause-unwanted : goal.avoid-requires-clause-unwanted
 avoid-requires-clause-unwanted g c =
-    let env = c.args.env.now in
-    let wanted = c.args.wanted.now in
-    let marked = c.args.marked in
+    let env = c.args.context.now.env.now in
+    let wanted = c.args.literals.now.wanted.now in
+    let marked = c.args.literals.now.marked in
     let keys = c.args.keys.items in
-    let staying = c.args.staying.now in
+    let staying = c.args.literals.now.unwanted.now in
     let first = c.slots.new.dia in
     let mid = c.all_demands.new.dia in
     let ss = c.as_slice-slots.result.now in
@@ -45,18 +45,18 @@ returns-in_err-filling-clause-extends g c = then_on _ _ _ _ (then_all _ _ _ _ c.
 
 pub mapping-requires-clause-long : goal.mapping-requires-clause-long
 mapping-requires-clause-long g c =
-    let env = c.args.env.now in
-    let wanted = c.args.wanted.now in
-    let marked = c.args.marked in
+    let env = c.args.context.now.env.now in
+    let wanted = c.args.literals.now.wanted.now in
+    let marked = c.args.literals.now.marked in
     let keys = c.args.keys.items in
-    let staying = c.args.staying.now in
+    let staying = c.args.literals.now.unwanted.now in
     let first = c.slots.new.dia in
     let mid = c.all_demands.new.dia in
     let ss = c.as_slice-slots.result.now in
     let us = c.as_slice-unwanted.result.now in
     let ss_are = subst (λ xs. AllZip (IsSlotOf env wanted marked first) keys xs) (sym c.as_slice-slots.ensures.value) (subst (λ ks. AllZip (IsSlotOf env wanted marked first) ks c.in_ok-places.places.items) c.as_slice.ensures.value c.in_ok-places.ensures.slots) in
     let us_are = subst (λ xs. AllZip (AreDemandsOf env mid keys) staying xs) (sym c.as_slice-unwanted.ensures.value) (subst (λ ks. AllZip (AreDemandsOf env mid ks) staying c.in_ok-asked.asked.items) c.as_slice-2.ensures.value c.in_ok-asked.ensures.demands) in
-    let kept = g.M.Member.kept c.args.m.now in
+    let kept = g.M.Member.kept c.args.context.now.m.now in
     let new = c.avoid.new.dia in
     let sound = sound-keeps env c.args.dia.now mid kept (then_all _ _ _ _ c.slots.ensures.extends c.all_demands.ensures.extends).keeps c.requires.sound in
     let told = c.in_ok-filling.ensures.tells env sound in
@@ -70,18 +70,18 @@ returns-in_ok-mapping-in-Parts-clause-extends g c = then_on _ _ _ _ (then_all _ 
 
 pub returns-in_ok-mapping-in-Parts-clause-tells : goal.returns-in_ok-mapping-in-Parts-clause-tells
 returns-in_ok-mapping-in-Parts-clause-tells g c =
-    let env = c.args.env.now in
-    let wanted = c.args.wanted.now in
-    let marked = c.args.marked in
+    let env = c.args.context.now.env.now in
+    let wanted = c.args.literals.now.wanted.now in
+    let marked = c.args.literals.now.marked in
     let keys = c.args.keys.items in
-    let staying = c.args.staying.now in
+    let staying = c.args.literals.now.unwanted.now in
     let first = c.slots.new.dia in
     let mid = c.all_demands.new.dia in
     let ss = c.as_slice-slots.result.now in
     let us = c.as_slice-unwanted.result.now in
     let ss_are = subst (λ xs. AllZip (IsSlotOf env wanted marked first) keys xs) (sym c.as_slice-slots.ensures.value) (subst (λ ks. AllZip (IsSlotOf env wanted marked first) ks c.in_ok-places.places.items) c.as_slice.ensures.value c.in_ok-places.ensures.slots) in
     let us_are = subst (λ xs. AllZip (AreDemandsOf env mid keys) staying xs) (sym c.as_slice-unwanted.ensures.value) (subst (λ ks. AllZip (AreDemandsOf env mid ks) staying c.in_ok-asked.asked.items) c.as_slice-2.ensures.value c.in_ok-asked.ensures.demands) in
-    let kept = g.M.Member.kept c.args.m.now in
+    let kept = g.M.Member.kept c.args.context.now.m.now in
     let new = c.avoid.new.dia in
     let sound = sound-keeps env c.args.dia.now mid kept (then_all _ _ _ _ c.slots.ensures.extends c.all_demands.ensures.extends).keeps c.requires.sound in
     let told = c.in_ok-filling.ensures.tells env sound in
@@ -92,18 +92,18 @@ returns-in-Empty-clause-extends g c = then_on _ _ _ _ (then_all _ _ _ _ c.slots.
 
 pub returns-in-Empty-clause-tells : goal.returns-in-Empty-clause-tells
 returns-in-Empty-clause-tells g c =
-    let env = c.args.env.now in
-    let wanted = c.args.wanted.now in
-    let marked = c.args.marked in
+    let env = c.args.context.now.env.now in
+    let wanted = c.args.literals.now.wanted.now in
+    let marked = c.args.literals.now.marked in
     let keys = c.args.keys.items in
-    let staying = c.args.staying.now in
+    let staying = c.args.literals.now.unwanted.now in
     let first = c.slots.new.dia in
     let mid = c.all_demands.new.dia in
     let ss = c.as_slice-slots.result.now in
     let us = c.as_slice-unwanted.result.now in
     let ss_are = subst (λ xs. AllZip (IsSlotOf env wanted marked first) keys xs) (sym c.as_slice-slots.ensures.value) (subst (λ ks. AllZip (IsSlotOf env wanted marked first) ks c.in_ok-places.places.items) c.as_slice.ensures.value c.in_ok-places.ensures.slots) in
     let us_are = subst (λ xs. AllZip (AreDemandsOf env mid keys) staying xs) (sym c.as_slice-unwanted.ensures.value) (subst (λ ks. AllZip (AreDemandsOf env mid ks) staying c.in_ok-asked.asked.items) c.as_slice-2.ensures.value c.in_ok-asked.ensures.demands) in
-    let kept = g.M.Member.kept c.args.m.now in
+    let kept = g.M.Member.kept c.args.context.now.m.now in
     let new = c.avoid.new.dia in
     let sound = sound-keeps env c.args.dia.now mid kept (then_all _ _ _ _ c.slots.ensures.extends c.all_demands.ensures.extends).keeps c.requires.sound in
     let told = c.in_ok-filling.ensures.tells env sound in
@@ -114,18 +114,18 @@ returns-in-Ask-clause-extends g c = then_on _ _ _ _ (then_all _ _ _ _ c.slots.en
 
 pub returns-in-Ask-clause-tells : goal.returns-in-Ask-clause-tells
 returns-in-Ask-clause-tells g c =
-    let env = c.args.env.now in
-    let wanted = c.args.wanted.now in
-    let marked = c.args.marked in
+    let env = c.args.context.now.env.now in
+    let wanted = c.args.literals.now.wanted.now in
+    let marked = c.args.literals.now.marked in
     let keys = c.args.keys.items in
-    let staying = c.args.staying.now in
+    let staying = c.args.literals.now.unwanted.now in
     let first = c.slots.new.dia in
     let mid = c.all_demands.new.dia in
     let ss = c.as_slice-slots.result.now in
     let us = c.as_slice-unwanted.result.now in
     let ss_are = subst (λ xs. AllZip (IsSlotOf env wanted marked first) keys xs) (sym c.as_slice-slots.ensures.value) (subst (λ ks. AllZip (IsSlotOf env wanted marked first) ks c.in_ok-places.places.items) c.as_slice.ensures.value c.in_ok-places.ensures.slots) in
     let us_are = subst (λ xs. AllZip (AreDemandsOf env mid keys) staying xs) (sym c.as_slice-unwanted.ensures.value) (subst (λ ks. AllZip (AreDemandsOf env mid ks) staying c.in_ok-asked.asked.items) c.as_slice-2.ensures.value c.in_ok-asked.ensures.demands) in
-    let kept = g.M.Member.kept c.args.m.now in
+    let kept = g.M.Member.kept c.args.context.now.m.now in
     let new = c.avoid.new.dia in
     let sound = sound-keeps env c.args.dia.now mid kept (then_all _ _ _ _ c.slots.ensures.extends c.all_demands.ensures.extends).keeps c.requires.sound in
     let told = c.in_ok-filling.ensures.tells env sound in

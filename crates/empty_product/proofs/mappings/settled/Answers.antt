@@ -16,11 +16,11 @@ returns-in_err-made-clause-extends g c = then_all _ _ _ _ c.base.ensures.extends
 
 pub further_parts-requires-clause-demands : goal.further_parts-requires-clause-demands
 further_parts-requires-clause-demands g c =
-    let env = c.args.env.now in
-    let wanted = c.args.wanted.now in
-    let marked = c.args.marked in
-    let unwanted = c.args.unwanted.now in
-    let kept = g.M.Member.kept c.args.m.now in
+    let env = c.args.context.now.env.now in
+    let wanted = c.args.literals.now.wanted.now in
+    let marked = c.args.literals.now.marked in
+    let unwanted = c.args.literals.now.unwanted.now in
+    let kept = g.M.Member.kept c.args.context.now.m.now in
     let keys = c.in_ok-keys.keys.items in
     let fresh = c.in_ok-fresh.fresh in
     let first = c.base.new.dia in
@@ -34,11 +34,11 @@ returns-in_err-found-clause-extends g c = then_on _ _ _ _ (then_all _ _ _ _ c.ba
 
 pub filled-requires-clause-staying : goal.filled-requires-clause-staying
 filled-requires-clause-staying g c =
-    let env = c.args.env.now in
-    let wanted = c.args.wanted.now in
-    let marked = c.args.marked in
-    let unwanted = c.args.unwanted.now in
-    let kept = g.M.Member.kept c.args.m.now in
+    let env = c.args.context.now.env.now in
+    let wanted = c.args.literals.now.wanted.now in
+    let marked = c.args.literals.now.marked in
+    let unwanted = c.args.literals.now.unwanted.now in
+    let kept = g.M.Member.kept c.args.context.now.m.now in
     let keys = c.in_ok-keys.keys.items in
     let fresh = c.in_ok-fresh.fresh in
     let first = c.base.new.dia in
@@ -62,11 +62,11 @@ returns-in-Parts-clause-extends g c = then_all _ _ _ _ (then_on _ _ _ _ (then_al
 
 pub returns-in-Parts-clause-tells : goal.returns-in-Parts-clause-tells
 returns-in-Parts-clause-tells g c =
-    let env = c.args.env.now in
-    let wanted = c.args.wanted.now in
-    let marked = c.args.marked in
-    let unwanted = c.args.unwanted.now in
-    let kept = g.M.Member.kept c.args.m.now in
+    let env = c.args.context.now.env.now in
+    let wanted = c.args.literals.now.wanted.now in
+    let marked = c.args.literals.now.marked in
+    let unwanted = c.args.literals.now.unwanted.now in
+    let kept = g.M.Member.kept c.args.context.now.m.now in
     let keys = c.in_ok-keys.keys.items in
     let fresh = c.in_ok-fresh.fresh in
     let first = c.base.new.dia in
@@ -94,11 +94,11 @@ returns-in-Ask-clause-extends g c = then_on _ _ _ _ (then_all _ _ _ _ c.base.ens
 
 pub returns-in-Ask-clause-tells : goal.returns-in-Ask-clause-tells
 returns-in-Ask-clause-tells g c =
-    let env = c.args.env.now in
-    let wanted = c.args.wanted.now in
-    let marked = c.args.marked in
-    let unwanted = c.args.unwanted.now in
-    let kept = g.M.Member.kept c.args.m.now in
+    let env = c.args.context.now.env.now in
+    let wanted = c.args.literals.now.wanted.now in
+    let marked = c.args.literals.now.marked in
+    let unwanted = c.args.literals.now.unwanted.now in
+    let kept = g.M.Member.kept c.args.context.now.m.now in
     let keys = c.in_ok-keys.keys.items in
     let fresh = c.in_ok-fresh.fresh in
     let first = c.base.new.dia in

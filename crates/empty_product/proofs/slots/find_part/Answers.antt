@@ -11,5 +11,5 @@ returns-then-is_nothing g c = λ env sound x s.
 pub returns : goal.returns
 returns g c =
     let some = not-nothing (condition c.args.dia.now c.args.question) c.is_nothing.result c.is_nothing.ensures c.if-is_nothing.false in
-    IfOk-map _ _ (λ finding h env sound. found env c.args.dia.now (g.M.Member.kept c.args.m.now) c.args.question some sound finding h)
+    IfOk-map _ _ (λ finding h env sound. found env c.args.dia.now (g.M.Member.kept c.args.context.now.m.now) c.args.question some sound finding h)
     c.look_up.result c.look_up.ensures
