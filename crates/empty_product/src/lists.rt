@@ -268,12 +268,15 @@ fn lists_of<M: Member>(
     avoid(context, dia, &slots, &unwanted)
 }
 
-/// What is told where not each base has a shape that the table knows.
+/// What is told where not each base has a simple shape or one that the table knows.
 fn unsettled<M: Member>(dia: &Diagrams, bases: &[u32], m: &M) -> Option<Filling>
     requires bases { All (IsDiagram dia.now) bases.now }
     ensures { IfSome result (λ filling. (env : List AnyAtom) (base : ℕ → Condition) (atoms : List ℕ) → AreAsked dia.now base bases.now → TellsItems env base dia.now (M.kept m.now) (λ n. n ≡ length bases.now) atoms filling) }
 {
     for base in bases {
+        if dia.has_simple_shape(*base) {
+            continue;
+        }
         match standing(dia, *base, m) {
             Known::Full => {}
             Known::Void => return Some(Filling::Empty),

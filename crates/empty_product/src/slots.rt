@@ -105,7 +105,8 @@ fn without_part(dia: &Diagrams, slot: Slot, demand: Demand) -> Narrowed
     }
 }
 
-/// The slot with a part outside the demand.
+/// The slot with a part outside the demand. Where such a part may be simple, the table isn't asked: a question
+/// is asked once all atoms are avoided, and not for each of them.
 fn with_other_part<M: Member>(
     dia: &mut Diagrams,
     slot: Slot,
@@ -122,6 +123,9 @@ fn with_other_part<M: Member>(
         Slot::Optional(question) | Slot::Present(question) => question,
     };
     let question = dia.diff(from, demand.question)?;
+    if dia.has_simple_shape(question) {
+        return Ok(Narrowed::Slot(Slot::Present(question)));
+    }
     match standing(dia, question, m) {
         Known::Full => Ok(Narrowed::Slot(Slot::Present(question))),
         Known::Void => Ok(Narrowed::Nothing),

@@ -1,10 +1,11 @@
 -- Diagrams that have no shape.
-use Rattle.std.proofs.Common.{◌≡◌, ℕ, false, Some, slice_get, refl, sym, ◌∙◌, ap, arith}
+use Rattle.std.proofs.Common.{◌≡◌, ℕ, false, None, Some, slice_get, refl, sym, ◌∙◌, ap, arith}
 use Rattle.type_diagrams.specs.declared.kind.Kind.{Kind}
 use Rattle.type_diagrams.specs.declared.node.Diagram.{Diagram}
 use Rattle.type_diagrams.specs.declared.simple.SimpleSet.{SimpleSet}
 use Rattle.type_diagrams.specs.Simple.{by_simple}
-use Rattle.type_diagrams.specs.Sets.{IsSetOf, set_of}
+use Rattle.type_diagrams.specs.Found.{FindsSimple}
+use Rattle.type_diagrams.specs.Sets.{IsCanonical, IsSetOf, has_shape, set_of}
 use Rattle.type_diagrams.specs.Conditions.{IsNothing, nothing}
 use Rattle.type_diagrams.specs.Tables.{Table, condition, condition_at, is_in_set, root_of, tree_of}
 use Rattle.type_diagrams.specs.Whole.{IsTable}
@@ -38,3 +39,12 @@ module _ (t : Table) (is : IsTable t) (a : ℕ) (d bare : Diagram) (at : slice_g
     IsNothing-empty h =
         sets-same (set_of s) (set_of none) (is.canonical d.simple (set_of s) set) empty.canonical
         (λ x i v. ap (λ o. is_in_set o x) (sym set) ∙ ap (λ o. (condition_at t o).simple x) (sym at) ∙ h.simple x i v ∙ sym (empty.same x v ∙ simple-all false x i))
+
+-- ---- sets alone
+
+module _ (s none : SimpleSet) (empty : IsSetOf (by_simple false (λ b. false) (λ i. false) (λ u. false)) none) where
+  pub empty-FindsSimple : set_of s ≡ set_of none → FindsSimple (has_shape (set_of s)) None
+  empty-FindsSimple e x i v = ap (λ t. has_shape t x) e ∙ empty.same x v ∙ simple-all false x i
+
+  pub FindsSimple-empty : IsCanonical (set_of s) → FindsSimple (has_shape (set_of s)) None → set_of s ≡ set_of none
+  FindsSimple-empty is h = sets-same (set_of s) (set_of none) is empty.canonical (λ x i v. h x i v ∙ sym (empty.same x v ∙ simple-all false x i))

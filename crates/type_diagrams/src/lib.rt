@@ -2,8 +2,8 @@
 //! nodes, so that equal conditions have one number.
 //!
 //! - [`Diagrams`]: diagrams by their numbers. `of` makes that of a type, `union`, `inter` and `diff` those of
-//!   two; `nodes`, `root` and `paths` read the decisions of a diagram, `simple_shape` and `simple_type` its
-//!   simple shapes, and `is_nothing` tells whether it has any shape.
+//!   two; `nodes`, `root` and `paths` read the decisions of a diagram, `has_simple_shape`, `simple_shape` and
+//!   `simple_type` its simple shapes, and `is_nothing` tells whether it has any shape.
 //! - [`Kind`]: the five kinds of shapes that atoms speak of; [`KINDS`]: all of them.
 //! - [`Node`] and [`MARK`]: a step of a decision, and the number that stands for the mark; [`FALSE`] and
 //!   [`TRUE`]: the numbers of the decisions that take no step.

@@ -1,5 +1,5 @@
 //! Reading diagrams: their nodes, roots and paths, their simple shapes, and whether they have any.
-ghost use Rattle.std.specs.Prelude.{◌≡◌, ◌↔◌, ◌++◌, ℕ, Bool, List, IfOk, IsTrue, OnOk, map};
+ghost use Rattle.std.specs.Prelude.{◌≡◌, ◌↔◌, ◌++◌, ℕ, Bool, List, IfOk, IsTrue, None, OnOk, false, map};
 ghost use Rattle.type_model.specs.declared.atoms.AtomDef.{AtomDef};
 ghost use Rattle.type_model.specs.Defined.{NamesBelow};
 ghost use Rattle.type_diagrams.specs.Conditions.{AreOne, IsNothing, condition_of};
@@ -51,6 +51,17 @@ impl Diagrams {
         let none = SimpleSet::all(self.alloc, false);
         diagram == Diagram::without_kinds(diagram.simple)
             && self.sets.as_slice()[diagram.simple as usize] == none
+    }
+
+    /// Whether the diagram has a simple shape. Takes no memory, and no longer however many it has.
+    pub fn has_simple_shape(&self, a: u32) -> bool
+        requires { IsDiagram self.now a }
+        ensures { (result ≡ false) ↔ FindsSimple (condition self.now a).simple None }
+    {
+        let diagram = self.diagram(a);
+        let none = SimpleSet::all(self.alloc, false);
+        let is_empty = self.sets.as_slice()[diagram.simple as usize] == none;
+        !is_empty
     }
 
     /// The paths of a kind, in order: those on which the first literal holds before the others.
