@@ -16,6 +16,7 @@ pub mod Literals
 pub mod MarkAndAtoms
 pub mod Meeting
 pub mod Merging
+pub mod Nearest
 pub mod NewNodes
 pub mod NodeTrees
 pub mod Nothing

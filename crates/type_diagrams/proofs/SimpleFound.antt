@@ -1,29 +1,16 @@
 -- A shape that is found in a set of simple shapes, by its parts.
-use Rattle.std.proofs.Common.{rules, ◌≡◌, ℤ, List, [], ◌∷◌, true, false, Option, Some, None, slice_get, refl, sym, subst, ◌∙◌, ap}
-use Rattle.std.proofs.lemmas.Cmp.{nat_list_cmp_total, int_cmp_total}
-use Rattle.std.specs.Ordering.{int_cmp, nat_cmp}
+use Rattle.std.proofs.Common.{◌≡◌, List, [], ◌∷◌, true, false, Some, None, slice_get, refl, subst, ◌∙◌, ap}
+use Rattle.std.proofs.lemmas.Cmp.{nat_list_cmp_total}
+use Rattle.std.specs.Ordering.{nat_cmp}
 use Rattle.std.specs.Cmp.Lexicographic.{slice_cmp}
 use Rattle.bal_base.specs.declared.text.Text.{Text}
 use Rattle.bal_base.specs.declared.shape.Shape.{Nil, Bool as BoolShape, Int, Str, List', Mapping', Error', Function, Future'}
-use Rattle.bal_base.specs.Valid.{IsInt, IsText}
-use Rattle.type_diagrams.specs.Sets.{Each, Rises, Simples, answer_for, covers, IsCanonical, has_shape, has_int, has_text, least_int}
+use Rattle.bal_base.specs.Valid.{IsText}
+use Rattle.type_diagrams.specs.Sets.{Each, Rises, Simples, answer_for, covers, IsCanonical, has_shape, has_int, has_text}
 use Rattle.type_diagrams.specs.Found.{FindsSimple, FindsInt, FindsText, IsLeftOut}
-use Rattle.type_diagrams.proofs.Places.{answer-none, at_head, none-covers}
+use Rattle.type_diagrams.proofs.Places.{at_head}
 
 module _ (s : Simples) (is : IsCanonical s) where
-  pub first-FindsInt : s.first ≡ true → FindsInt (has_int s) (Some least_int)
-  first-FindsInt e =
-      ((search rules, search rules), answer-none (covers true int_cmp) s.first s.flips least_int (none-covers int_cmp int_cmp_total true least_int s.flips is.above) ∙ e)
-
-  -- what the head of a list gives, where all else is left out
-  pub head-FindsInt : (flips : List ℤ) (o : Option ℤ) → s.first ≡ false → s.flips ≡ flips → o ≡ slice_get flips 0 → FindsInt (has_int s) o
-  head-FindsInt [] o e f g = subst (FindsInt (has_int s)) (sym g) (λ i fits. (λ j. answer_for (covers true int_cmp) (e j) (f j) i))
-  head-FindsInt (p ∷ ps) o e f g =
-      subst (FindsInt (has_int s)) (sym g) (
-        (subst (Each IsInt) f is.ints).0,
-        (λ j. answer_for (covers true int_cmp) (e j) (f j) p) ∙ at_head int_cmp int_cmp_total true false p ps (subst (Rises int_cmp) f is.flips_rise).0,
-      )
-
   pub rest-FindsText : (t : Text) → s.rest ≡ true → IsLeftOut s.texts t → FindsText (has_text s) (Some t)
   rest-FindsText t e out = (out.text, ap (λ a. answer_for (covers false (slice_cmp nat_cmp)) a s.texts t) e ∙ out.outside)
 

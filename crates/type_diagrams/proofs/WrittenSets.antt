@@ -141,7 +141,7 @@ ranging-start first flips old ints above rise = record {
   rise = rise;
 }
 
-less_below : (m n : ℤ) → int_cmp m n ≡ Less → m <ℤ n
+pub less_below : (m n : ℤ) → int_cmp m n ≡ Less → m <ℤ n
 less_below m n e = by (int_cmp m n) e (int_ranks m n)
   where
     by : (o : Ordering) → o ≡ Less → MatchOrdering o (m <ℤ n) (m ≡ n) (n <ℤ m) → m <ℤ n
@@ -149,7 +149,7 @@ less_below m n e = by (int_cmp m n) e (int_ranks m n)
     by Equal p r = cc
     by Greater p r = cc
 
-below_less : (m n : ℤ) → m <ℤ n → int_cmp m n ≡ Less
+pub below_less : (m n : ℤ) → m <ℤ n → int_cmp m n ≡ Less
 below_less m n lt = by (int_cmp m n) (int_ranks m n)
   where
     by : (o : Ordering) → MatchOrdering o (m <ℤ n) (m ≡ n) (n <ℤ m) → o ≡ Less

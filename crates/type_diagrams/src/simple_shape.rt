@@ -1,19 +1,21 @@
 //! A shape of a set of simple shapes.
-ghost use Rattle.std.specs.Prelude.{◌≡◌, ◌++◌, ◌∷◌, [], IfOk};
-ghost use Rattle.std.specs.Ordering.{nat_cmp};
+ghost use Rattle.std.specs.Prelude.{◌≡◌, ◌++◌, ◌∷◌, ◌<ℤ◌, ◌≤ℤ◌, [], pos, true, IfOk, IfSome};
+ghost use Rattle.std.specs.Ordering.{int_cmp, nat_cmp};
 ghost use Rattle.std.specs.Cmp.Lexicographic.{slice_cmp};
-ghost use Rattle.type_diagrams.specs.Sets.{IsCanonical, Rises, set_of, has_shape, has_int, has_text};
-ghost use Rattle.type_diagrams.specs.Found.{FindsSimple, FindsInt, FindsText, IsLeftOut};
+ghost use Rattle.type_diagrams.specs.Sets.{Each, IsBelowAll, IsCanonical, Rises, answer_for, covers, has_int, has_shape, has_text, least_int, set_of};
+ghost use Rattle.bal_base.specs.Valid.{IsInt};
+ghost use Rattle.type_diagrams.specs.Found.{FindsSimple, FindsInt, FindsText, IsLeftOut, IsNearest, IsNextToZero};
 
 use crate::simple::SimpleSet;
 use bal_base::{Memory, Shape, Text};
 use std::alloc::Global;
 
 impl SimpleSet {
-    /// A shape of the set, or `None` where it has none.
+    /// A shape of the set, an int as near to 0 as there is one, or `None` where it has none.
     pub fn shape(&self, alloc: Global) -> Result<Option<Shape>, Memory>
         requires { IsCanonical (set_of self.now) }
-        ensures { IfOk result (FindsSimple (has_shape (set_of self.now))) }
+        ensures found { IfOk result (FindsSimple (has_shape (set_of self.now))) }
+        ensures nearest { IfOk result (λ found. IfSome found (IsNearest (has_shape (set_of self.now)))) }
     {
         if self.nil {
             return Ok(Some(Shape::Nil));
@@ -33,16 +35,12 @@ impl SimpleSet {
         }
     }
 
-    /// An int of the set.
+    /// The int of the set that is nearest to 0.
     fn int(&self) -> Option<i64>
         requires { IsCanonical (set_of self.now) }
         ensures { FindsInt (has_int (set_of self.now)) result }
     {
-        if self.first {
-            Some(i64::MIN)
-        } else {
-            self.flips.first().copied()
-        }
+        nearest(self.first, &self.flips)
     }
 
     /// A string of the set.
@@ -57,6 +55,41 @@ impl SimpleSet {
             Some(text) => Ok(Some(text.share())),
             None => Ok(None),
         }
+    }
+}
+
+/// The int nearest to 0 that is had, where the first answer and the flips are these.
+fn nearest(first: bool, flips: &[i64]) -> Option<i64>
+    requires ints { Each IsInt flips.now }
+    requires above { IsBelowAll int_cmp least_int flips.now }
+    requires rise { Rises int_cmp flips.now }
+    ensures { FindsInt (answer_for (covers true int_cmp) first flips.now) result }
+{
+    let (mut rest, mut low, mut inside) = (flips, i64::MIN, first);
+    while let Some((flip, behind)) = rest.split_first() {
+        if *flip > 0 {
+            return Some(next_to_zero(low, inside, *flip));
+        }
+        (rest, low, inside) = (behind, *flip, !inside);
+    }
+    if inside {
+        return Some(0);
+    }
+    low.checked_sub(1)
+}
+
+/// 0 where the ints from `low` up to `above` are had; else the nearer of `above` and the int before `low`.
+fn next_to_zero(low: i64, inside: bool, above: i64) -> i64
+    requires low { low ≤ℤ pos 0 }
+    requires above { pos 0 <ℤ above }
+    ensures { IsNextToZero low inside above result }
+{
+    if inside {
+        return 0;
+    }
+    match low.checked_sub(1) {
+        Some(below) if below + above >= 0 => below,
+        _ => above,
     }
 }
 

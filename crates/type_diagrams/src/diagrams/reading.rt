@@ -1,5 +1,5 @@
 //! Reading diagrams: their nodes, roots and paths, their simple shapes, and whether they have any.
-ghost use Rattle.std.specs.Prelude.{◌≡◌, ◌↔◌, ◌++◌, ℕ, Bool, List, IfOk, IsTrue, None, OnOk, false, map};
+ghost use Rattle.std.specs.Prelude.{◌≡◌, ◌↔◌, ◌++◌, ℕ, Bool, List, IfOk, IfSome, IsTrue, None, OnOk, false, map};
 ghost use Rattle.type_model.specs.declared.atoms.AtomDef.{AtomDef};
 ghost use Rattle.type_model.specs.Defined.{NamesBelow};
 ghost use Rattle.type_diagrams.specs.Conditions.{AreOne, IsNothing, condition_of};
@@ -7,7 +7,7 @@ ghost use Rattle.type_diagrams.specs.Paths.{paths_of, behind};
 ghost use Rattle.type_diagrams.specs.Tables.{AreNodes, IsDiagram, Leads, condition, tree_of};
 ghost use Rattle.type_diagrams.specs.Decisions.{IsNumber};
 ghost use Rattle.type_diagrams.specs.Whole.{HasOneNumberEach, IsTable};
-ghost use Rattle.type_diagrams.specs.Found.{FindsSimple};
+ghost use Rattle.type_diagrams.specs.Found.{FindsSimple, IsNearest};
 ghost use Rattle.type_diagrams.specs.Questions.{HasPaths, IsUnionOf};
 ghost use Rattle.type_diagrams.specs.Written.{simple_alone};
 
@@ -78,11 +78,12 @@ impl Diagrams {
         Ok(found)
     }
 
-    /// A simple shape of the diagram, or `None` where it has none. Diagrams with equal conditions have one
-    /// number.
+    /// A simple shape of the diagram, or `None` where it has none. An int is the one nearest to 0. Takes time
+    /// by the number of its ranges of ints and of its strings. Diagrams with equal conditions have one number.
     pub fn simple_shape(&self, alloc: Global, a: u32) -> Result<Option<Shape>, Memory>
         requires { IsDiagram self.now a }
         ensures found { IfOk result (FindsSimple (condition self.now a).simple) }
+        ensures nearest { IfOk result (λ found. IfSome found (IsNearest (condition self.now a).simple)) }
         ensures one { HasOneNumberEach self.now }
     {
         let diagram = self.diagram(a);
