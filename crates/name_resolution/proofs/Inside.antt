@@ -1,5 +1,5 @@
--- The parts of a package's types are definitions of the package.
-use Rattle.std.proofs.Common.{◌≡◌, ◌==◌, ◌||◌, ℕ, ◌<◌, ◌⊎◌, inl, inr, Bool, true, false, List, [], ◌∷◌, length, refl, sym, ap, subst, ◌∙◌, Option, None, Some, Result, Ok, Err, cond}
+-- The parts of a package's types are definitions of the package, and so is what definitions use.
+use Rattle.std.proofs.Common.{◌≡◌, ◌==◌, ◌||◌, ℕ, ◌<◌, ◌⊎◌, inl, inr, Bool, true, false, List, [], ◌∷◌, length, map, refl, sym, ap, subst, ◌∙◌, Option, None, Some, Result, Ok, Err, cond}
 use Rattle.std.specs.Prelude.{slice_get}
 use Rattle.std.specs.List.{Contains, flat_map}
 use Rattle.std.specs.Option.{option_map}
@@ -10,6 +10,7 @@ use Rattle.bal_base.specs.declared.fault.FaultCode.{FaultCode}
 use Rattle.bal_base.specs.declared.fault.FaultCode.TheVariants.{NotPublic, Unknown}
 use Rattle.bal_base.specs.declared.text.Name.{Name}
 use Rattle.name_resolution.specs.Ordering.{IsInside}
+use Rattle.name_resolution.specs.Reached.{used_by, uses, uses_of}
 use Rattle.name_resolution.specs.Resolved.{first_defined, if_defined, if_seen, if_stands, is_type, part, parts, parts_of, parts_of_kind, resolved}
 use Rattle.name_resolution.specs.declared.mentions.Mention.{Mention}
 use Rattle.name_resolution.specs.declared.mentions.Mention.TheVariants.{Use, Again, Own}
@@ -50,28 +51,38 @@ module _ (outlines : List Outline) where
   part-within from k (Again at) c = absurd (none-among k c)
   part-within from k (Own at) c = absurd (none-among k c)
 
-  parts-within : (from k : ℕ) (ms : List Mention) → Contains (flat_map (part outlines from) ms) k → k < length outlines
-  parts-within from k [] c = absurd (none-among k c)
-  parts-within from k (m ∷ ms) c = by (Contains-append_cases (part outlines from m) (flat_map (part outlines from) ms) k c) (parts-within from k ms)
+  all-within : (k : ℕ) (f : Mention → List ℕ) → ((x : Mention) → Contains (f x) k → k < length outlines) → (ms : List Mention) → Contains (flat_map f ms) k → k < length outlines
+  all-within k f each [] c = absurd (none-among k c)
+  all-within k f each (m ∷ ms) c = by (Contains-append_cases (f m) (flat_map f ms) k c) (all-within k f each ms)
     where
-      by : Contains (part outlines from m) k ⊎ Contains (flat_map (part outlines from) ms) k → (Contains (flat_map (part outlines from) ms) k → k < length outlines) → k < length outlines
-      by (inl first) rest = part-within from k m first
+      by : Contains (f m) k ⊎ Contains (flat_map f ms) k → (Contains (flat_map f ms) k → k < length outlines) → k < length outlines
+      by (inl first) rest = each m first
       by (inr c) rest = rest c
 
   kind-within : (kind : Kind) (d : Outline) (k : ℕ) → Contains (parts_of_kind outlines kind d) k → k < length outlines
-  kind-within TypeName d k c = parts-within d.«module» k d.mentions c
+  kind-within TypeName d k c = all-within k (part outlines d.«module») (part-within d.«module» k) d.mentions c
   kind-within Constant d k c = absurd (none-among k c)
   kind-within Variable d k c = absurd (none-among k c)
   kind-within Function d k c = absurd (none-among k c)
 
-  pub parts-inside : IsInside (parts outlines)
-  parts-inside i j f = subst (λ n. j < n) (sym (length-map outlines (parts_of outlines))) (by (slice_get outlines i) refl)
+  -- a graph whose numbers follow one another by definitions
+  graph-inside : (f : Outline → List ℕ) → ((d : Outline) (k : ℕ) → Contains (f d) k → k < length outlines) → IsInside (map f outlines)
+  graph-inside f each i j c = subst (λ n. j < n) (sym (length-map outlines f)) (by (slice_get outlines i) refl)
     where
-      lt : i < length (parts outlines)
-      lt = follows-place (parts outlines) i j f
+      lt : i < length (map f outlines)
+      lt = follows-place (map f outlines) i j c
 
       by : (o : Option Outline) → slice_get outlines i ≡ o → j < length outlines
-      by (Some d) is =
-          kind-within d.kind d j
-          (subst (λ xs. Contains xs j) (get_or_from_slice_get (parts outlines) i (parts_of outlines d) [] (slice_get-map (parts_of outlines) outlines i ∙ ap (option_map (parts_of outlines)) is)) f)
-      by None is = absurd (none-some (sym (slice_get-map (parts_of outlines) outlines i ∙ ap (option_map (parts_of outlines)) is) ∙ slice_get-get_or (parts outlines) i [] lt))
+      by (Some d) is = each d j (subst (λ xs. Contains xs j) (get_or_from_slice_get (map f outlines) i (f d) [] (slice_get-map f outlines i ∙ ap (option_map f) is)) c)
+      by None is = absurd (none-some (sym (slice_get-map f outlines i ∙ ap (option_map f) is) ∙ slice_get-get_or (map f outlines) i [] lt))
+
+  pub parts-inside : IsInside (parts outlines)
+  parts-inside = graph-inside (parts_of outlines) (λ d. kind-within d.kind d)
+
+  used-within : (from k : ℕ) (x : Mention) → Contains (used_by outlines from x) k → k < length outlines
+  used-within from k (Use home name at inside) c = stands-within from home name k (resolved outlines from home name) refl c
+  used-within from k (Again at) c = absurd (none-among k c)
+  used-within from k (Own at) c = absurd (none-among k c)
+
+  pub uses-inside : IsInside (uses outlines)
+  uses-inside = graph-inside (uses_of outlines) (λ d k. all-within k (used_by outlines d.«module») (used-within d.«module» k) d.mentions)

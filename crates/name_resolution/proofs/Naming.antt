@@ -2,7 +2,6 @@
 use Rattle.std.proofs.Common.{◌≡◌, ℕ, suc, ◌+◌, ◌<◌, ◌≤◌, List, [], ◌∷◌, ◌++◌, length, get_or, take, drop, refl, sym, ap, subst, ◌∙◌, append_assoc, arith, Option, None, Some, Result, Ok, Err}
 use Rattle.std.specs.Prelude.{slice_get}
 use Rattle.std.proofs.lemmas.List.{append-nil, drop_all}
-use Rattle.std.proofs.Math.Seq.{drop-cons}
 use Rattle.bal_base.specs.declared.fault.Fault.{Fault}
 use Rattle.bal_base.specs.declared.stop.Stop.{Stop}
 use Rattle.bal_base.specs.declared.stop.Stop.TheVariants.{Fault as OwnFault}
@@ -13,9 +12,9 @@ use Rattle.name_resolution.specs.Cycles.{IsFirstCycle, IsOnCycle}
 use Rattle.std.specs.Option.{option_map}
 use Rattle.descriptors.specs.Described.{Atoms}
 use Rattle.name_resolution.specs.Distances.{IsCycleFound}
-use Rattle.name_resolution.specs.Faults.{all_named, cycle_fault, definition_fault, definition_named, definitions_named, name_if, names_of, no_cycle, unless}
+use Rattle.name_resolution.specs.Faults.{cycle_fault, definition_fault, definition_named, definitions_named, name_if, names_of, no_cycle, unless}
 use Rattle.name_resolution.specs.Resolved.{parts}
-use Rattle.name_resolution.proofs.Rows.{take-more}
+use Rattle.name_resolution.proofs.Rows.{drop-more, take-more}
 
 abbrev Answer : Type 0
 Answer = Result (Unit {0}) (Stop Fault)
@@ -51,30 +50,25 @@ this-fault f env = (refl, refl)
 pub unless-some : (o : Option Fault) (f : Fault) (env : Atoms) → o ≡ Some f → Comes (unless o) env (Err (OwnFault f)) env
 unless-some o f env e = subst (λ p. Comes (unless p) env (Err (OwnFault f)) env) (sym e) (this-fault f env)
 
--- ---- all of them
+-- ---- several from the front
 
-module _ (home : ℕ) (outlines : List Outline) where
+module _ (home : ℕ) (outlines front : List Outline) where
   -- what is left comes to what the whole comes to
   abbrev pub Left : ℕ → Type 0
-  Left n = (env : Atoms) (r : Answer) → Comes (definitions_named outlines home n (drop n outlines)) env r env → Comes (all_named outlines home) env r env
+  Left n = (env : Atoms) (r : Answer) → Comes (definitions_named outlines home n (drop n front)) env r env → Comes (definitions_named outlines home 0 front) env r env
 
-  at-next : (n : ℕ) (d : Outline) → n < length outlines → d ≡ get_or outlines n d → drop n outlines ≡ d ∷ drop (n + 1) outlines
-  at-next n d lt is =
-      let more : suc n ≡ n + 1 = omega arith in
-      drop-cons outlines n d lt ∙ ap (λ k. get_or outlines n d ∷ drop k outlines) more ∙ ap (λ y. y ∷ drop (n + 1) outlines) (sym is)
+  pub one-named : (n : ℕ) (d : Outline) → n < length front → d ≡ get_or front n d → Left n → ((env : Atoms) → Comes (definition_named outlines home n d) env (Ok tt) env) → Left (n + 1)
+  one-named n d lt is left done env r h = left env r (subst (λ ds. Comes (definitions_named outlines home n ds) env r env) (sym (drop-more front n d lt is))
+      (goes_on (definition_named outlines home n d) (λ u. definitions_named outlines home (suc n) (drop (n + 1) front)) env env env tt r (done env)
+      (subst (λ k. Comes (definitions_named outlines home k (drop (n + 1) front)) env r env) (omega arith) h)))
 
-  pub one-named : (n : ℕ) (d : Outline) → n < length outlines → d ≡ get_or outlines n d → Left n → ((env : Atoms) → Comes (definition_named outlines home n d) env (Ok tt) env) → Left (n + 1)
-  one-named n d lt is left done env r h = left env r (subst (λ ds. Comes (definitions_named outlines home n ds) env r env) (sym (at-next n d lt is))
-      (goes_on (definition_named outlines home n d) (λ u. definitions_named outlines home (suc n) (drop (n + 1) outlines)) env env env tt r (done env)
-      (subst (λ k. Comes (definitions_named outlines home k (drop (n + 1) outlines)) env r env) (omega arith) h)))
+  pub one-stops : (n : ℕ) (d : Outline) (stop : Stop Fault) → n < length front → d ≡ get_or front n d → Left n → (env : Atoms) → Comes (definition_named outlines home n d) env (Err stop) env
+      → Comes (definitions_named outlines home 0 front) env (Err stop) env
+  one-stops n d stop lt is left env h = left env (Err stop) (subst (λ ds. Comes (definitions_named outlines home n ds) env (Err stop) env) (sym (drop-more front n d lt is))
+      (stops (definition_named outlines home n d) (λ u. definitions_named outlines home (suc n) (drop (n + 1) front)) env env stop h))
 
-  pub one-stops : (n : ℕ) (d : Outline) (stop : Stop Fault) → n < length outlines → d ≡ get_or outlines n d → Left n → (env : Atoms) → Comes (definition_named outlines home n d) env (Err stop) env
-      → Comes (all_named outlines home) env (Err stop) env
-  one-stops n d stop lt is left env h = left env (Err stop) (subst (λ ds. Comes (definitions_named outlines home n ds) env (Err stop) env) (sym (at-next n d lt is))
-      (stops (definition_named outlines home n d) (λ u. definitions_named outlines home (suc n) (drop (n + 1) outlines)) env env stop h))
-
-  pub none-left : (n : ℕ) → length outlines ≤ n → Left n → (env : Atoms) → Comes (all_named outlines home) env (Ok tt) env
-  none-left n le left env = left env (Ok tt) (subst (λ ds. Comes (definitions_named outlines home n ds) env (Ok tt) env) (sym (drop_all n outlines le))
+  pub none-left : (n : ℕ) → length front ≤ n → Left n → (env : Atoms) → Comes (definitions_named outlines home 0 front) env (Ok tt) env
+  none-left n le left env = left env (Ok tt) (subst (λ ds. Comes (definitions_named outlines home n ds) env (Ok tt) env) (sym (drop_all n front le))
       (some_is (λ old u. u ≡ tt) env env tt refl refl))
 
 -- ---- names of a cycle

@@ -65,7 +65,7 @@ fn nearest(away: &[Option<usize>], numbers: &[usize]) -> Option<Near>
     nearest
 }
 
-fn distance(away: &[Option<usize>], number: usize) -> Option<usize>
+pub(crate) fn distance(away: &[Option<usize>], number: usize) -> Option<usize>
     ensures { result ≡ get_or away.now number Absent }
 {
     away.get(number).copied()?

@@ -1,12 +1,12 @@
 //! The first fault in what the definitions of a package say of names.
-ghost use Rattle.std.specs.Prelude.{◌≡◌, ◌<◌, ◌++◌, IfOk, OnOk, length, map, slice_get, true, ℕ};
+ghost use Rattle.std.specs.Prelude.{◌≡◌, ◌<◌, ◌≤◌, ◌++◌, IfOk, OnOk, length, map, slice_get, true, ℕ};
 ghost use Rattle.std.specs.List.{flat_map};
 ghost use Rattle.std.specs.Option.{option_map};
 ghost use Rattle.checks.specs.Checks.{Comes};
 ghost use Rattle.descriptors.specs.Described.{Atoms};
 ghost use Rattle.name_resolution.specs.Cycles.{IsOnCycle};
 ghost use Rattle.name_resolution.specs.Distances.{IsCycleFound, IsReversed};
-ghost use Rattle.name_resolution.specs.Faults.{AreNamed, IsGraphOf, all_named, cycle_fault as cycle_fault_of, definition_fault, definition_named, name_if, unless};
+ghost use Rattle.name_resolution.specs.Faults.{AreNamed, IsGraphOf, all_named, cycle_fault as cycle_fault_of, definition_fault, definition_named, definitions_named, name_if, unless};
 ghost use Rattle.name_resolution.specs.Ordering.{IsOrder};
 ghost use Rattle.name_resolution.specs.Resolved.{part as part_of, parts as parts_by_number, parts_of as parts_of_outline};
 ghost use Rattle.name_resolution.specs.Tables.{IsTableOf};
@@ -34,19 +34,33 @@ pub(crate) struct Graph {
 /// Whether the names in definitions are without fault: each is given once in a module, each name of a type stands for one, and no
 /// type is its own part but inside a list, a mapping, an error, a function or a future; and whether the function `main` of the
 /// module `home` has its form.
-pub(crate) fn definitions(
+pub(crate) fn all_definitions(
     alloc: Global,
     home: usize,
     outlines: &[Outline],
 ) -> Result<(), Stop<Fault>>
     ensures { (env : Atoms) → Comes (all_named outlines.now home) env result env }
 {
-    let graph = match graph_of(alloc, outlines) {
-        Ok(graph) => graph,
-        Err(Memory) => return Err(Stop::Memory),
-    };
-    for (number, d) in outlines.iter().enumerate() {
-        match definition(alloc, home, outlines, &graph, number, d) {
+    match graph_of(alloc, outlines) {
+        Ok(graph) => definitions(alloc, home, outlines, &graph, outlines),
+        Err(Memory) => Err(Stop::Memory),
+    }
+}
+
+/// The same of some that stand at the front of a list of definitions, from its first one on.
+pub(crate) fn definitions(
+    alloc: Global,
+    home: usize,
+    outlines: &[Outline],
+    graph: &Graph,
+    front: &[Outline],
+) -> Result<(), Stop<Fault>>
+    requires graph { IsGraphOf outlines.now graph.now }
+    requires long { length front.now ≤ length outlines.now }
+    ensures { (env : Atoms) → Comes (definitions_named outlines.now home 0 front.now) env result env }
+{
+    for (number, d) in front.iter().enumerate() {
+        match definition(alloc, home, outlines, graph, number, d) {
             Ok(()) => {}
             Err(stop) => return Err(stop),
         }
@@ -54,7 +68,7 @@ pub(crate) fn definitions(
     Ok(())
 }
 
-fn graph_of(alloc: Global, outlines: &[Outline]) -> Result<Graph, Memory>
+pub(crate) fn graph_of(alloc: Global, outlines: &[Outline]) -> Result<Graph, Memory>
     ensures { IfOk result (IsGraphOf outlines.now) }
 {
     let table = NameTable::of(alloc, outlines)?;
