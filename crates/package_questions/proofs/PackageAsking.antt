@@ -14,7 +14,7 @@ use Rattle.descriptors.specs.Described.{Atoms}
 use Rattle.descriptors.specs.declared.names.Names.{Names}
 use Rattle.package_questions.specs.PackageAnswers.{AnswersFor, IsRefusedAs, IsToldAs, asked_of, home_files}
 use Rattle.text_forms.specs.Forms.{written}
-use Rattle.type_builder.specs.Building.{built}
+use Rattle.type_builder.specs.MainInPlace.{built}
 use Rattle.type_model.specs.declared.answers.Answer.{Answer}
 use Rattle.type_model.specs.declared.answers.TypeLimit.{TypeLimit}
 use Rattle.type_model.specs.declared.atoms.AtomDef.{AtomDef}

@@ -12,7 +12,7 @@ use Rattle.bal_tree.specs.declared.package.SourceFile.{SourceFile}
 use Rattle.checks.specs.Checks.{Check, Gives, Refuses, ◌▷◌}
 use Rattle.descriptors.specs.Described.{Atoms}
 use Rattle.text_forms.specs.Forms.{written}
-use Rattle.type_builder.specs.Building.{built}
+use Rattle.type_builder.specs.MainInPlace.{built}
 use Rattle.type_model.specs.declared.answers.Answer.{Answer}
 use Rattle.type_model.specs.declared.answers.TypeLimit.{TypeLimit}
 use Rattle.type_model.specs.declared.atoms.AtomDef.{AtomDef}

@@ -1,7 +1,7 @@
 -- A name that stands for a definition stands for the type of that definition's entry.
 use Rattle.std.proofs.Common.{◌≡◌, ◌==◌, ◌||◌, ℕ, zero, suc, ◌+◌, Bool, true, false, List, [], ◌∷◌, length, cond, Option, None, Some, Ok, Err, ◌⊎◌, inl, inr, ◌<◌, refl, sym, ap, subst, ◌∙◌, arith}
 use Rattle.std.specs.Prelude.{slice_get}
-use Rattle.std.specs.List.{AllZip, position_from}
+use Rattle.std.specs.List.{position_from}
 use Rattle.std.specs.Option.{option_and_then}
 use Rattle.std.proofs.lemmas.Option.{none-some, same_Some}
 use Rattle.bal_base.specs.declared.text.Name.{Name}
@@ -22,6 +22,7 @@ use Rattle.name_resolution.specs.Named.{Stands, gives_type, source_at}
 use Rattle.name_resolution.specs.Outlines.{import_source}
 use Rattle.name_resolution.proofs.Standing.{stands-for}
 use Rattle.type_builder.specs.Building.{IsFile, IsModule, first_entry}
+use Rattle.name_resolution.proofs.Excerpting.{same-there}
 use Rattle.type_builder.specs.Passes.{AreEntries}
 use Rattle.type_builder.proofs.Entries.{both-true, same-number}
 use Rattle.type_model.specs.Places.{is_same_text}
@@ -29,14 +30,6 @@ use Rattle.std.proofs.lemmas.Bool.Decides.{eqb_tells}
 use Rattle.bal_base.specs.declared.fault.FaultCode.TheVariants.{NotPublic}
 
 -- ---- lists side by side
-
-same-there : {A B C : Type 0} (R : A → B → Type 0) (f : A → Option C) (g : B → Option C) → ((x : A) (y : B) → R x y → g y ≡ f x)
-    → (xs : List A) (ys : List B) (i : ℕ) → AllZip R xs ys → option_and_then g (slice_get ys i) ≡ option_and_then f (slice_get xs i)
-same-there R f g same [] [] i h = refl
-same-there R f g same [] (y ∷ ys) i h = absurd h
-same-there R f g same (x ∷ xs) [] i h = absurd h
-same-there R f g same (x ∷ xs) (y ∷ ys) zero h = same x y h.0
-same-there R f g same (x ∷ xs) (y ∷ ys) (suc i) h = same-there R f g same xs ys i h.1
 
 pub as-long : {A B : Type 0} (xs : List A) (ys : List B) (i : ℕ) (x : A) → length ys ≡ length xs → slice_get xs i ≡ Some x → (y : B) × (slice_get ys i ≡ Some y)
 as-long [] ys i x long at = absurd (none-some x at)

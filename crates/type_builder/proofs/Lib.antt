@@ -15,11 +15,13 @@ pub mod Entries
 pub mod FlatShapes
 pub mod FoundMembers
 pub mod Growing
+mod InPlace
 pub mod Keeps
 pub mod KeptOrder
 pub mod KeptStages
 pub mod KnownTypes
 pub mod Listed
+mod MainListed
 pub mod Meant
 pub mod MemberKeys
 pub mod Noted

@@ -1,5 +1,5 @@
 -- Definitions listed one by one, with the numbers of their first atoms; and the places of all atoms, definition by definition.
-use Rattle.std.proofs.Common.{◌≡◌, ℕ, suc, ◌+◌, ◌<◌, ◌≤◌, List, [], ◌∷◌, ◌++◌, length, fold, get_or, map, take, refl, sym, ap, subst, ◌∙◌, append_assoc, arith}
+use Rattle.std.proofs.Common.{◌≡◌, ℕ, suc, ◌+◌, ◌<◌, ◌≤◌, Bool, List, [], ◌∷◌, ◌++◌, length, fold, get_or, map, take, refl, sym, ap, subst, ◌∙◌, append_assoc, arith}
 use Rattle.std.specs.Prelude.{All, slice_get, Some, None}
 use Rattle.std.specs.Option.{option_map}
 use Rattle.std.proofs.lemmas.List.{append-nil, length-map, length-take, map-append}
@@ -12,7 +12,9 @@ use Rattle.bal_tree.specs.declared.package.Package.{Package}
 use Rattle.bal_tree.specs.declared.package.SourceFile.{SourceFile}
 use Rattle.type_builder.specs.AtomPlaces.{def_places, file_places, module_places, package_places}
 use Rattle.name_resolution.specs.Definitions.{Placed, definitions_of, in_files, in_modules, placed}
-use Rattle.type_builder.specs.Listing.{IsListing, Lists, placed_of, seen}
+use Rattle.name_resolution.specs.Excerpts.{picked}
+use Rattle.name_resolution.proofs.Excerpting.{picked-push}
+use Rattle.type_builder.specs.Listing.{IsListing, Lists, if_wanted, placed_of, seen}
 use Rattle.type_builder.specs.Passes.{placed_places, started}
 use Rattle.type_builder.specs.declared.placed.Listing.{Listing}
 use Rattle.type_builder.specs.declared.placed.Site.{Site}
@@ -99,6 +101,19 @@ of-modules first before (m ∷ modules) =
 
 pub of-package : (p : Package) → fold placed_places [] (definitions_of p) ≡ package_places p
 of-package p = of-modules 0 [] p.modules
+
+-- those of an excerpt, as far as a loop goes through all definitions
+pub one-picked : (chosen : ℕ → Bool) (ps : List Placed) (i : ℕ) (p : Placed) (old new : Listing) → slice_get ps i ≡ Some p
+    → IsListing (picked chosen 0 (take i ps)) old → Lists (if_wanted (chosen i) p) old new → IsListing (picked chosen 0 (take (i + 1) ps)) new
+one-picked chosen ps i p old new at before next =
+    let lt = slice_get_within ps i p at in
+    subst (λ qs. IsListing qs new)
+    (sym (ap (picked chosen 0) (take-more ps i p lt (sym (get_or_from_slice_get ps i p p at))) ∙ picked-push chosen (take i ps) p i (grind (arith, length-take, lt))))
+    (next.listed (picked chosen 0 (take i ps)) before)
+
+-- nothing is listed
+pub none-picked : (chosen : ℕ → Bool) (ps : List Placed) (l : Listing) → l.sites.items ≡ [] → l.places.items ≡ [] → IsListing (picked chosen 0 (take 0 ps)) l
+none-picked chosen ps l sites places = record { sites_are = ap (map seen) sites; places_are = places }
 
 -- ---- where they stand
 

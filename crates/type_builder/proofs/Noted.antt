@@ -10,12 +10,15 @@ use Rattle.std.proofs.lemmas.Bool.Decides.{Decides-eqb, same_from_decides}
 use Rattle.std.proofs.lemmas.Option.{get_or_from_slice_get, slice_get_within}
 use Rattle.std.proofs.lemmas.List.{length-map, length-take}
 use Rattle.bal_base.specs.declared.text.Name.{Name}
+use Rattle.bal_tree.specs.declared.package.Module.{Module}
 use Rattle.bal_tree.specs.declared.package.Package.{Package}
 use Rattle.descriptors.specs.declared.names.Entry.{Entry}
 use Rattle.descriptors.specs.declared.names.Meaning.{Meaning}
 use Rattle.descriptors.specs.declared.names.ModuleNames.{ModuleNames}
 use Rattle.descriptors.specs.declared.names.Names.{Names}
 use Rattle.descriptors.specs.declared.names.OwnTypes.{OwnTypes}
+use Rattle.name_resolution.specs.Excerpts.{IsSameFile, IsSameModule}
+use Rattle.name_resolution.specs.Outlines.{import_source}
 use Rattle.name_resolution.specs.Definitions.{Placed, defines, definitions_of, name_of}
 use Rattle.type_builder.specs.Building.{IsFile, IsModule}
 use Rattle.type_builder.specs.Passes.{AreApart, AreEmpty, AreEntries, IsNoted, entry_for, first_of}
@@ -61,6 +64,21 @@ zip-more {X} {Y} R xs ys i x y lt is h r = subst (λ zs. AllZip R zs (ys ++ y �
     push (u ∷ us) (v ∷ vs) k = (k.0, push us vs k.1)
 
 -- two lists are of one length
+zip-through : {A B C : Type 0} (R : A → B → Type 0) (P : A → C → Type 0) (Q : B → C → Type 0) → ((a : A) (b : B) (c : C) → R a b → P a c → Q b c)
+    → (xs : List A) (ys : List B) (zs : List C) → AllZip R xs ys → AllZip P xs zs → AllZip Q ys zs
+zip-through R P Q f [] [] [] r p = tt
+zip-through R P Q f [] [] (z ∷ zs) r p = absurd p
+zip-through R P Q f [] (y ∷ ys) zs r p = absurd r
+zip-through R P Q f (x ∷ xs) [] zs r p = absurd r
+zip-through R P Q f (x ∷ xs) (y ∷ ys) [] r p = absurd p
+zip-through R P Q f (x ∷ xs) (y ∷ ys) (z ∷ zs) r p = (f x y z r.0 p.0, zip-through R P Q f xs ys zs r.1 p.1)
+
+-- the prefixes are also those of modules with the same imports
+pub same-prefixes : (ms ns : List Module) (xs : List ModuleNames) → AllZip IsSameModule ms ns → AllZip IsModule ms xs → AllZip IsModule ns xs
+same-prefixes =
+    zip-through IsSameModule IsModule IsModule
+    (λ m n x. zip-through IsSameFile IsFile IsFile (λ f g y e h prefix. h prefix ∙ ap (λ is. import_source is prefix) e) m.files n.files x.files.items)
+
 pub side-by-side : {X Y : Type 0} (R : X → Y → Type 0) (xs : List X) (ys : List Y) → AllZip R xs ys → length ys ≡ length xs
 side-by-side R [] [] h = refl
 side-by-side R [] (y ∷ ys) h = absurd h

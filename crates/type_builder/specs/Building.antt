@@ -1,28 +1,21 @@
--- What the names of a package stand for, and the first fault in its definitions.
+-- What the names of a package stand for.
 use Rattle.std.specs.Prelude.{◌≡◌, ◌+◌, ◌++◌, ℕ, List, [], ◌∷◌, length, Option, None, Some, if◌then◌else◌}
 use Rattle.std.specs.List.{AllZip}
 use Rattle.bal_base.specs.declared.text.Name.{Name}
 use Rattle.bal_tree.specs.declared.package.Module.{Module}
 use Rattle.bal_tree.specs.declared.package.Package.{Package}
 use Rattle.bal_tree.specs.declared.package.SourceFile.{SourceFile}
-use Rattle.checks.specs.Checks.{Check, Gives, Refuses, ◌▷◌, gives}
+use Rattle.checks.specs.Checks.{Check, Gives, Refuses}
 use Rattle.descriptors.specs.Described.{Atoms}
-use Rattle.descriptors.specs.Language.{own_types}
 use Rattle.descriptors.specs.Naming.{entry_in, file_source}
 use Rattle.descriptors.specs.declared.names.Entry.{Entry}
 use Rattle.descriptors.specs.declared.names.FileNames.{FileNames}
 use Rattle.descriptors.specs.declared.names.ModuleNames.{ModuleNames}
 use Rattle.descriptors.specs.declared.names.Names.{Names}
 use Rattle.descriptors.specs.declared.names.OwnTypes.{OwnTypes}
-use Rattle.name_resolution.specs.Faults.{all_named}
-use Rattle.name_resolution.specs.Outlines.{import_source, outlines_of}
-use Rattle.type_builder.specs.AtomPlaces.{package_places, room_for}
+use Rattle.name_resolution.specs.Outlines.{import_source}
 use Rattle.name_resolution.specs.Definitions.{Placed, defines, definitions_of}
-use Rattle.type_builder.specs.MainFunction.{main_fits}
 use Rattle.type_builder.specs.Meanings.{entries, nothing_earlier}
-use Rattle.type_model.specs.declared.answers.TypeLimit.{TypeLimit}
-use Rattle.type_model.specs.declared.atoms.AtomDef.{AtomDef}
-use Rattle.type_model.specs.Calls.{Asked}
 
 -- the entry of the first definition of a name in a module
 abbrev pub first_entry : ℕ → Name → List Placed → List Entry → Option Entry
@@ -49,9 +42,3 @@ pub record AreNamesOf (p : Package) (own : OwnTypes) (old group : Atoms) (names 
 unfoldable pub defines_all : Package → OwnTypes → Check Atoms Names
 defines_all p own old (Gives names) new = (group : Atoms) × (new ≡ old ++ group) × AreNamesOf p own old group names
 defines_all p own old (Refuses f) new = ⊥
-
--- First all names, and among them the form of `main`; then there has to be room for the atoms; and last what `main` gives. `passes`: which questions pass a limit.
-abbrev pub built : (List AtomDef → Asked → TypeLimit → Type 0) → Package → Check Atoms Names
-built passes p =
-    all_named (outlines_of p) p.main ▷ λ u. own_types ▷ λ own. room_for (package_places p) ▷ λ v. defines_all p own ▷ λ names.
-    main_fits passes p names ▷ λ w. gives names

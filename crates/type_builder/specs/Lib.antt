@@ -4,5 +4,7 @@ pub mod Flat
 pub mod Keeping
 pub mod Listing
 pub mod MainFunction
+pub mod MainInPlace
 pub mod Meanings
 pub mod Passes
+pub mod Telling

@@ -1,6 +1,7 @@
 //! The second pass: all definitions in text order, which gives their atoms, and what variables and functions are.
 ghost use Rattle.std.specs.Prelude.{◌≡◌, ◌+◌, ◌++◌, ◌<◌, IfOk, List, OnOk, Some as Present, length, ℕ};
 ghost use Rattle.bal_base.specs.Stops.{IfFault};
+ghost use Rattle.bal_tree.specs.declared.package.Package.{Package as Whole};
 ghost use Rattle.descriptors.specs.Described.{Atoms};
 ghost use Rattle.descriptors.specs.Drafts.{AreNamesBelow, AreSound};
 ghost use Rattle.descriptors.specs.Naming.{entry_in};
@@ -18,27 +19,27 @@ use crate::meanings::meaning;
 use crate::noting::note;
 use crate::placed::{Listing, Site};
 use bal_base::{Fault, Memory, Stop};
-use bal_tree::{Def, Package};
+use bal_tree::Def;
 use descriptors::{Meaning, Names};
 use std::alloc::Global;
 use type_model::AtomDef;
 
-/// The atoms of the definitions of a package, in the order of their numbers; and what variables and functions stand for.
+/// The atoms of the definitions of a package (`whole`), in the order of their numbers; and what variables and functions stand for.
 pub(crate) fn define(
     alloc: Global,
-    package: &Package,
     listing: &Listing,
     names: &mut Names,
 ) -> Result<Vec<AtomDef>, Stop<Fault>>
-    requires named { AreNamed «package».now }
-    requires listed { IsListing (definitions_of «package».now) listing.now }
-    requires room { HaveRoom listing.now.first «package».now }
-    requires kept { AreKept «package».now names.old.own listing.now.first names.old }
-    requires below { AreNamesBelow names.old (end_of listing.now.first «package».now) }
-    ensures defined { IfOk result (λ group. (old : Atoms) → length old ≡ listing.now.first → AreOwnTypes (old ++ group.items) names.old.own → AreNamesOf «package».now names.old.own old group.items names.new) }
-    ensures long { IfOk result (λ group. listing.now.first + length group.items ≡ end_of listing.now.first «package».now) }
+    ghost whole: { Whole }
+    requires named { AreNamed whole }
+    requires listed { IsListing (definitions_of whole) listing.now }
+    requires room { HaveRoom listing.now.first whole }
+    requires kept { AreKept whole names.old.own listing.now.first names.old }
+    requires below { AreNamesBelow names.old (end_of listing.now.first whole) }
+    ensures defined { IfOk result (λ group. (old : Atoms) → length old ≡ listing.now.first → AreOwnTypes (old ++ group.items) names.old.own → AreNamesOf whole names.old.own old group.items names.new) }
+    ensures long { IfOk result (λ group. listing.now.first + length group.items ≡ end_of listing.now.first whole) }
     ensures sound { IfOk result (λ group. AreSound (listing.now.first + length group.items) group.items) }
-    ensures meanings { IfOk result (λ group. (home : ℕ) (name : List ℕ) (e : AnyEntry) → entry_in names.new name home ≡ Present e → MeaningBelow (end_of listing.now.first «package».now) e.meaning) }
+    ensures meanings { IfOk result (λ group. (home : ℕ) (name : List ℕ) (e : AnyEntry) → entry_in names.new name home ≡ Present e → MeaningBelow (end_of listing.now.first whole) e.meaning) }
     ensures faultless { IfFault result (λ f. ⊥) }
 {
     let mut draft = new_draft(alloc, listing.first as usize);

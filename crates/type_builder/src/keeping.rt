@@ -3,7 +3,13 @@ ghost use Rattle.std.specs.Prelude.{◌≡◌, ◌<◌, ◌≤◌, [], IfOk, Lis
 ghost use Rattle.bal_base.specs.Stops.{IfFault};
 ghost use Rattle.bal_base.specs.declared.limits.TheConstants.{MOST_ATOMS as most};
 ghost use Rattle.descriptors.specs.Drafts.{AreNamesBelow};
+ghost use Rattle.std.specs.List.{AllZip};
+ghost use Rattle.bal_tree.specs.declared.package.Package.{Package as Whole};
 ghost use Rattle.name_resolution.specs.Definitions.{definitions_of};
+ghost use Rattle.name_resolution.specs.Excerpts.{IsSameModule};
+ghost use Rattle.name_resolution.specs.Ordering.{IsOrder};
+ghost use Rattle.name_resolution.specs.Outlines.{outlines_of};
+ghost use Rattle.name_resolution.specs.Resolved.{parts};
 ghost use Rattle.type_builder.specs.Keeping.{AreKept};
 ghost use Rattle.type_builder.specs.Listing.{IsListing, placed_of};
 ghost use Rattle.type_builder.specs.Passes.{AreNamed, HaveRoom, IsEmptyFrom, IsKept, IsOwnBelow, end_of};
@@ -14,29 +20,31 @@ use crate::placed::{Listing, Site};
 use bal_base::{Fault, Stop};
 use bal_tree::{Def, Package};
 use descriptors::{Draft, Meaning, Names, OwnTypes, type_tree};
-use name_resolution::parts_first;
 use std::alloc::Global;
 
-/// What the names of a package stand for, as far as types and constants go: each type is drafted by itself from the number of its own
-/// first atom on, those of which it is put together before it. The atoms are dropped: what stands inside them may not have its type
-/// yet.
+/// What names stand for, as far as types and constants go: each type is drafted by itself from the number of its own first atom on,
+/// those of which it is put together before it. The atoms are dropped: what stands inside them may not have its type yet. The
+/// definitions are those of a package with the modules of this one (`whole`).
 pub(crate) fn kept_types(
     alloc: Global,
     package: &Package,
     listing: &Listing,
+    order: &[usize],
     own: OwnTypes,
 ) -> Result<Names, Stop<Fault>>
-    requires named { AreNamed «package».now }
-    requires listed { IsListing (definitions_of «package».now) listing.now }
-    requires room { HaveRoom listing.now.first «package».now }
+    ghost whole: { Whole }
+    requires modules { AllZip IsSameModule «package».now.modules whole.modules }
+    requires named { AreNamed whole }
+    requires listed { IsListing (definitions_of whole) listing.now }
+    requires order { IsOrder (parts (outlines_of whole)) order.now }
+    requires room { HaveRoom listing.now.first whole }
     requires own { IsOwnBelow listing.now.first own }
-    ensures below { IfOk result (λ names. AreNamesBelow names (end_of listing.now.first «package».now)) }
-    ensures kept { IfOk result (AreKept «package».now own listing.now.first) }
+    ensures below { IfOk result (λ names. AreNamesBelow names (end_of listing.now.first whole)) }
+    ensures kept { IfOk result (AreKept whole own listing.now.first) }
     ensures faultless { IfFault result (λ f. ⊥) }
 {
     let mut names = first_names(alloc, package, &listing.sites, own)?;
-    let order = parts_first(alloc, package)?;
-    for number in &order {
+    for number in order {
         if let Some(site) = listing.sites.get(*number) {
             keep(alloc, &mut names, site)?;
         }

@@ -1,12 +1,16 @@
 //! What the function `main` has to give.
-ghost use Rattle.std.specs.Prelude.{◌≡◌, IfOk, Some as Present};
+ghost use Rattle.std.specs.Prelude.{◌≡◌, IfOk, Some as Present, map};
 ghost use Rattle.std.specs.Option.{option_copied};
+ghost use Rattle.bal_tree.specs.declared.package.Package.{Package as Whole};
 ghost use Rattle.checks.specs.Checks.{Comes};
 ghost use Rattle.descriptors.specs.Described.{Atoms};
 ghost use Rattle.descriptors.specs.Naming.{entry_in};
+ghost use Rattle.name_resolution.specs.Definitions.{definitions_of};
+ghost use Rattle.type_builder.specs.Listing.{IsListing, first_main, main_at as main_at_place, placed_of};
 ghost use Rattle.type_builder.specs.MainFunction.{IsErrorOrNil, ResultsAreDefined, gives_errors, good_if, if_main, main_among as main_among_of, main_fits, main_fits_if, main_if as main_if_of, main_in_files as main_in_files_of, main_of as main_of_package, result_in as result_in_names, result_of as result_of_meaning};
 ghost use Rattle.type_model.specs.Defined.{IsDefined};
 
+use crate::placed::{Listing, Site};
 use bal_base::{Fault, FaultCode, Kept, Memory, Name, Place, Stop};
 use bal_tree::{Def, FunctionDef, Package, SourceFile};
 use checks::is_below;
@@ -29,6 +33,27 @@ pub fn check_main<T: Types>(
 {
     match main_of(package) {
         Some(f) => function_fits(alloc, types, names, package.main, f),
+        None => Ok(()),
+    }
+}
+
+/// The same of the definitions that are listed, which are those of a package (`whole`) with the default module `home`.
+pub(crate) fn listed_fits<T: Types>(
+    alloc: Global,
+    types: &mut T,
+    listing: &Listing,
+    names: &Names,
+    home: u32,
+) -> Result<(), Stop<Fault>>
+    ghost whole: { Whole }
+    requires main { whole.main ≡ home }
+    requires listed { IsListing (definitions_of whole) listing.now }
+    requires defined { ResultsAreDefined (T.atoms types.old) names.now home }
+    ensures atoms { T.atoms types.new ≡ T.atoms types.old }
+    ensures comes { Comes (main_fits T.passes whole names.now) (T.atoms types.old) result (T.atoms types.new) }
+{
+    match main_listed(&listing.sites, home) {
+        Some(f) => function_fits(alloc, types, names, home, f),
         None => Ok(()),
     }
 }
@@ -120,6 +145,28 @@ fn result_of(meaning: &Meaning) -> Option<&SemType>
 }
 
 // ---- which function it is
+
+/// The first function `main` of the module `home` among these definitions.
+fn main_listed<'s>(sites: &'s [Site<'_>], home: u32) -> Option<&'s FunctionDef>
+    ensures { option_copied result ≡ first_main home (map placed_of sites.now) }
+{
+    for site in sites {
+        if let Some(f) = main_at(site, home) {
+            return Some(f);
+        }
+    }
+    None
+}
+
+fn main_at<'s>(site: &'s Site<'_>, home: u32) -> Option<&'s FunctionDef>
+    ensures { option_copied result ≡ main_at_place home (placed_of site.now) }
+{
+    if site.module == home as usize {
+        main_if(site.def)
+    } else {
+        None
+    }
+}
 
 /// The function `main` of the default module.
 fn main_of(package: &Package) -> Option<&FunctionDef>

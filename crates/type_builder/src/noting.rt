@@ -2,7 +2,9 @@
 ghost use Rattle.std.specs.Prelude.{◌≡◌, ◌<◌, ◌≤◌, IfOk, IsTrue, List, OnOk, length, map};
 ghost use Rattle.std.specs.List.{AllZip};
 ghost use Rattle.type_builder.specs.Building.{IsFile, IsModule};
+ghost use Rattle.bal_tree.specs.declared.package.Package.{Package as Whole};
 ghost use Rattle.name_resolution.specs.Definitions.{definitions_of};
+ghost use Rattle.name_resolution.specs.Excerpts.{IsSameModule};
 ghost use Rattle.type_builder.specs.Listing.{placed_of};
 ghost use Rattle.descriptors.specs.Described.{plain as plain_of, value_set as value_set_of};
 ghost use Rattle.type_builder.specs.Passes.{AreApart, AreEmpty, AreEntries, IsNoted, first_meaning as first_meaning_of, first_of};
@@ -20,16 +22,19 @@ use name_resolution::prefixes;
 use std::alloc::Global;
 use type_model::{BasicSet, SemType, Ty};
 
-/// What the names of a package stand for before its types are known: constants for that of their value, types for `never`.
+/// What names stand for before types are known: constants for that of their value, types for `never`. The definitions are those of a
+/// package with the modules of this one (`whole`).
 pub(crate) fn first_names(
     alloc: Global,
     package: &Package,
     sites: &[Site],
     own: OwnTypes,
 ) -> Result<Names, Memory>
-    requires sites { map placed_of sites.now ≡ definitions_of «package».now }
-    requires apart { AreApart (definitions_of «package».now) }
-    ensures { IfOk result (AreEntries «package».now own (map first_of (definitions_of «package».now))) }
+    ghost whole: { Whole }
+    requires modules { AllZip IsSameModule «package».now.modules whole.modules }
+    requires sites { map placed_of sites.now ≡ definitions_of whole }
+    requires apart { AreApart (definitions_of whole) }
+    ensures { IfOk result (AreEntries whole own (map first_of (definitions_of whole))) }
 {
     let mut names = Names {
         own,

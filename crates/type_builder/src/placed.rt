@@ -2,12 +2,15 @@
 ghost use Rattle.std.specs.Prelude.{◌≡◌, ◌∷◌, [], IfOk, OnOk, Some as Present, map};
 ghost use Rattle.descriptors.specs.Steps.{scope_of};
 ghost use Rattle.name_resolution.specs.Definitions.{definitions_of, in_files, is_public as is_public_def, name_of, placed};
-ghost use Rattle.type_builder.specs.Listing.{IsListing, Lists};
+ghost use Rattle.name_resolution.specs.Excerpts.{picked};
+ghost use Rattle.name_resolution.specs.Reached.{is_reached};
+ghost use Rattle.type_builder.specs.Listing.{IsListing, Lists, if_wanted, placed_of};
 
 use crate::atom_places::def_places;
 use bal_base::{Memory, Name, Place};
 use bal_tree::{Def, Module, Package, SourceFile};
 use descriptors::Scope;
+use name_resolution::Excerpt;
 use std::alloc::Global;
 
 /// A definition, the number of its module, that of its file in the module, and that of its first atom.
@@ -23,7 +26,7 @@ pub(crate) struct Site<'a> {
 #[derive(Drop)]
 pub(crate) struct Listing<'a> {
     pub(crate) first: u32,
-    places: Vec<Place>,
+    pub(crate) places: Vec<Place>,
     pub(crate) sites: Vec<Site<'a>>,
 }
 
@@ -81,7 +84,40 @@ pub(crate) fn definitions(
     Ok(out)
 }
 
+/// Those of them that an excerpt has, in text order, whose atoms are numbered from `first` on.
+pub(crate) fn excerpt_definitions<'a>(
+    alloc: Global,
+    package: &'a Package,
+    first: u32,
+    excerpt: &Excerpt,
+) -> Result<Listing<'a>, Memory>
+    ensures listed { IfOk result (IsListing (picked (is_reached excerpt.now.away.items) 0 (definitions_of «package».now))) }
+    ensures first { IfOk result (λ made. made.first ≡ first) }
+{
+    let whole = definitions(alloc, package, first)?;
+    let mut out = Listing {
+        first,
+        places: Vec::new(alloc),
+        sites: Vec::new(alloc),
+    };
+    for (number, site) in whole.sites.iter().enumerate() {
+        out.site_if(excerpt.has(number), site)?;
+    }
+    Ok(out)
+}
+
 impl<'a> Listing<'a> {
+    /// A definition that is listed elsewhere, if it is wanted.
+    fn site_if(&mut self, wanted: bool, site: &Site<'a>) -> Result<(), Memory>
+        ensures { OnOk result (Lists (if_wanted wanted (placed_of site.now)) self.old self.new) }
+    {
+        if wanted {
+            self.def(site.module, site.file, site.def)
+        } else {
+            Ok(())
+        }
+    }
+
     fn files(&mut self, module: usize, files: &'a [SourceFile]) -> Result<(), Memory>
         ensures { OnOk result (Lists (in_files «module» 0 files.now) self.old self.new) }
     {

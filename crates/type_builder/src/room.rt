@@ -27,7 +27,7 @@ pub fn check_room(alloc: Global, env: &TypeEnv, package: &Package) -> Result<(),
 
 /// Room for an atom at each of these places, behind so many others.
 #[tactic(auto, unfolding(checks::specs::Checks::Comes, crate::specs::AtomPlaces::room_for))]
-fn room(others: usize, asked: &[Place]) -> Result<(), Stop<Fault>>
+pub(crate) fn room(others: usize, asked: &[Place]) -> Result<(), Stop<Fault>>
     requires { others ≤ most }
     ensures { (env : Atoms) → length env ≡ others → Comes (room_for asked.now) env result env }
 {

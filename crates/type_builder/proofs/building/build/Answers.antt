@@ -1,53 +1,25 @@
-use Rattle.std.proofs.Common.{◌≡◌, refl, sym, subst}
-use Rattle.checks.proofs.Steps.{goes_on, some_is, stops}
-use Rattle.descriptors.proofs.Yielding.{kept-then}
-use Rattle.type_model.specs.Calls.{KeepsTypes}
-use Rattle.type_builder.proofs.Built.{comes-handed, named-so, results-defined, room-comes, room-so}
+use Rattle.std.proofs.Common.{Err, subst}
+use Rattle.checks.specs.Checks.{Comes}
+use Rattle.checks.proofs.Steps.{goes_on, ran_out, stops}
+use Rattle.type_builder.specs.MainInPlace.{built, built_named, named_in_order, package_named}
+use Rattle.type_builder.proofs.Built.{named-so}
+use Rattle.type_builder.proofs.InPlace.{in-order, told-in-order}
 use Rattle.type_builder.proofs.building.build.Goals as goal
 
-pub returns-in_err-check_names-clause-comes : goal.returns-in_err-check_names-clause-comes
-returns-in_err-check_names-clause-comes g c = comes-handed _ _ _ _ _ c.from_residual.ensures (stops _ _ _ _ _ (c.in_err-check_names.ensures (g.T.Types.atoms c.args.types.now)))
+pub build_named-requires : goal.build_named-requires
+build_named-requires g c = named-so c.args.«package».now (g.T.Types.atoms c.args.types.now) _ (c.in-Ok.ensures (g.T.Types.atoms c.args.types.now))
 
-pub returns-in_err-own-clause-comes : goal.returns-in_err-own-clause-comes
-returns-in_err-own-clause-comes g c = comes-handed _ _ _ _ _ c.from_residual-in_err-own.ensures
-    (goes_on _ _ _ _ _ _ _ (c.in_ok-check_names.ensures (g.T.Types.atoms c.args.types.now)) (stops _ _ _ _ _ c.in_err-own.ensures.comes))
+pub returns-in-Ok-clause-comes : goal.returns-in-Ok-clause-comes
+returns-in-Ok-clause-comes g c =
+    let old = g.T.Types.atoms c.args.types.now in
+    let pack = c.args.«package».now in
+    goes_on (named_in_order g.T.Types.passes pack) (λ u. built_named g.T.Types.passes pack) _ _ _ _ _ (in-order g.T.Types.passes pack old _ (c.in-Ok.ensures old)) c.build_named.ensures.comes
 
-pub returns-in_err-check_room-clause-comes : goal.returns-in_err-check_room-clause-comes
-returns-in_err-check_room-clause-comes g c = comes-handed _ _ _ _ _ c.from_residual-in_err-check_room.ensures
-    (goes_on _ _ _ _ _ _ _ (c.in_ok-check_names.ensures (g.T.Types.atoms c.args.types.now)) (goes_on _ _ _ _ _ _ _ c.in_ok-own.ensures.comes
-    (stops _ _ _ _ _ (room-comes c.args.«package».now _ _ _ c.env.ensures c.in_err-check_room.ensures))))
+pub returns-in-Err-Fault-clause-comes : goal.returns-in-Err-Fault-clause-comes
+returns-in-Err-Fault-clause-comes g c =
+    let old = g.T.Types.atoms c.args.types.now in
+    let pack = c.args.«package».now in
+    stops (named_in_order g.T.Types.passes pack) (λ u. built_named g.T.Types.passes pack) _ _ _ (told-in-order g.T.Types.passes pack old _ c.in-Err-Fault.behind _ (subst (λ s. Comes (package_named pack) old (Err s) old) c.in-Err-Fault.field-0-is (c.in-Err-Fault.ensures old)) c.first_told.ensures.told)
 
-pub define_all-requires-clause-named : goal.define_all-requires-clause-named
-define_all-requires-clause-named g c = named-so c.args.«package».now (g.T.Types.atoms c.args.types.now) _ (c.in_ok-check_names.ensures (g.T.Types.atoms c.args.types.now))
-
-pub define_all-requires-clause-room : goal.define_all-requires-clause-room
-define_all-requires-clause-room g c = room-so c.args.«package».now _ _ (room-comes c.args.«package».now _ _ _ c.env.ensures c.in_ok-check_room.ensures)
-
-pub returns-in_err-names-clause-comes : goal.returns-in_err-names-clause-comes
-returns-in_err-names-clause-comes g c = comes-handed _ _ _ _ _ c.from_residual-in_err-names.ensures
-    (goes_on _ _ _ _ _ _ _ (c.in_ok-check_names.ensures (g.T.Types.atoms c.args.types.now)) (goes_on _ _ _ _ _ _ _ c.in_ok-own.ensures.comes
-    (goes_on _ _ _ _ _ _ _ (room-comes c.args.«package».now _ _ _ c.env.ensures c.in_ok-check_room.ensures) (stops _ _ _ _ _ c.in_err-names.ensures.comes))))
-
-pub returns-in_err-names-clause-kept : goal.returns-in_err-names-clause-kept
-returns-in_err-names-clause-kept g c = kept-then _ _ _ c.in_ok-own.ensures.kept c.in_err-names.ensures.kept
-
-pub check_main-requires : goal.check_main-requires
-check_main-requires g c = record { defined = results-defined (g.T.Types.atoms c.define_all.new.types) c.in_ok-names.names c.args.«package».now.main c.in_ok-names.ensures.names }
-
-pub returns-in_err-check_main-clause-comes : goal.returns-in_err-check_main-clause-comes
-returns-in_err-check_main-clause-comes g c = comes-handed _ _ _ _ _ c.from_residual-in_err-check_main.ensures
-    (goes_on _ _ _ _ _ _ _ (c.in_ok-check_names.ensures (g.T.Types.atoms c.args.types.now)) (goes_on _ _ _ _ _ _ _ c.in_ok-own.ensures.comes
-    (goes_on _ _ _ _ _ _ _ (room-comes c.args.«package».now _ _ _ c.env.ensures c.in_ok-check_room.ensures) (goes_on _ _ _ _ _ _ _ c.in_ok-names.ensures.comes
-    (stops _ _ _ _ _ c.in_err-check_main.ensures.comes)))))
-
-pub returns-in_err-check_main-clause-kept : goal.returns-in_err-check_main-clause-kept
-returns-in_err-check_main-clause-kept g c = subst (KeepsTypes (g.T.Types.atoms c.args.types.now)) (sym c.in_err-check_main.ensures.atoms) (kept-then _ _ _ c.in_ok-own.ensures.kept c.in_ok-names.ensures.kept)
-
-pub returns-clause-comes : goal.returns-clause-comes
-returns-clause-comes g c =
-    goes_on _ _ _ _ _ _ _ (c.in_ok-check_names.ensures (g.T.Types.atoms c.args.types.now)) (goes_on _ _ _ _ _ _ _ c.in_ok-own.ensures.comes
-    (goes_on _ _ _ _ _ _ _ (room-comes c.args.«package».now _ _ _ c.env.ensures c.in_ok-check_room.ensures) (goes_on _ _ _ _ _ _ _ c.in_ok-names.ensures.comes
-    (goes_on _ _ _ _ _ _ _ c.in_ok-check_main.ensures.comes (some_is (λ s a. a ≡ c.in_ok-names.names) _ _ c.in_ok-names.names refl refl)))))
-
-pub returns-clause-kept : goal.returns-clause-kept
-returns-clause-kept g c = subst (KeepsTypes (g.T.Types.atoms c.args.types.now)) (sym c.in_ok-check_main.ensures.atoms) (kept-then _ _ _ c.in_ok-own.ensures.kept c.in_ok-names.ensures.kept)
+pub returns-in-Err-Memory-clause-comes : goal.returns-in-Err-Memory-clause-comes
+returns-in-Err-Memory-clause-comes g c = ran_out (built g.T.Types.passes c.args.«package».now) _ _

@@ -6,7 +6,10 @@ use Rattle.type_builder.specs.Passes.{end_of}
 use Rattle.type_builder.proofs.KeptStages.{IsStage}
 use Rattle.type_builder.proofs.keeping.kept_types.Given as goal
 
+abbrev pub ghost-first_names : goal.ghost-first_names
+ghost-first_names g a = g.whole
+
 abbrev pub invariant-loop-number : goal.invariant-loop-number
-invariant-loop-number l =
-    IsOrder (parts (outlines_of l.fn.«package»)) l.number-items
-    × IsStage l.fn.«package» l.fn.own l.fn.listing.first (end_of l.fn.listing.first l.fn.«package») (take l.number-index l.number-items) l.names
+invariant-loop-number g l =
+    IsOrder (parts (outlines_of g.whole)) l.order
+    × IsStage g.whole l.fn.own l.fn.listing.first (end_of l.fn.listing.first g.whole) (take l.number-index l.order) l.names

@@ -4,4 +4,4 @@ use Rattle.type_builder.specs.Passes.{AreEntries, first_of}
 use Rattle.type_builder.proofs.noting.first_names.Given as goal
 
 abbrev pub invariant-loop-site : goal.invariant-loop-site
-invariant-loop-site l = AreEntries l.«package» l.fn.own (map first_of (take l.site-index (definitions_of l.«package»))) l.names
+invariant-loop-site g l = AreEntries g.whole l.fn.own (map first_of (take l.site-index (definitions_of g.whole))) l.names
