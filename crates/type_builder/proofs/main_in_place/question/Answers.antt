@@ -1,7 +1,7 @@
 use Rattle.std.proofs.Common.{sym, subst}
 use Rattle.checks.proofs.Steps.{goes_on, stops}
 use Rattle.type_model.specs.Calls.{KeepsTypes}
-use Rattle.type_builder.proofs.Built.{comes-handed, results-defined}
+use Rattle.type_builder.proofs.Built.{comes-handed}
 use Rattle.type_builder.proofs.main_in_place.question.Goals as goal
 
 pub returns-in_err-names-clause-comes : goal.returns-in_err-names-clause-comes
