@@ -3,3 +3,4 @@ pub mod Numberings
 pub mod Paired
 pub mod Plans
 pub mod Refusals
+pub mod Said

@@ -3,7 +3,9 @@ use Rattle.std.proofs.Common.{◌<◌, ℕ, zero, suc, ◌+◌, ◌*◌, [], ◌
 use Rattle.std.specs.Prelude.{length}
 use Rattle.typed_tree.specs.declared.event.EventKind.TheVariants.{Send, Receive, Flush, End}
 use Rattle.worker_pairing.specs.Cases.{FlushesNothing, RingHasNone, WaitsForItself}
-use Rattle.worker_pairing.specs.Events.{Crew, Needs, events_of}
+use Rattle.worker_pairing.specs.Events.{Crew, IsNumbering, Needs, events_of}
+use Rattle.worker_pairing.specs.FaultCases.{one_message, one_plan}
+use Rattle.worker_pairing.specs.Faults.{crew_of, rank_in}
 
 pub ring-has-none : RingHasNone
 ring-has-none (rank, n) =
@@ -46,3 +48,43 @@ needs (suc (suc w)) (suc i) u j h = absurd h
 
 pub flushes-nothing : FlushesNothing
 flushes-nothing = (rank, record { rises = rises; follows = needs })
+
+-- ---- one message
+
+abbrev message_crew : Crew
+message_crew = crew_of one_message
+
+abbrev message_rank : ℕ → ℕ → ℕ
+message_rank = rank_in one_message one_plan.ranks
+
+message-rises : (w i j : ℕ) → i < j → j < length (events_of message_crew w) → message_rank w i < message_rank w j
+message-rises zero i zero lt there = absurd (omega (arith, lt))
+message-rises zero i (suc j) lt there = absurd (omega (arith, there))
+message-rises (suc zero) i zero lt there = absurd (omega (arith, lt))
+message-rises (suc zero) zero (suc zero) lt there = omega arith
+message-rises (suc zero) (suc i) (suc zero) lt there = absurd (omega (arith, lt))
+message-rises (suc zero) i (suc (suc j)) lt there = absurd (omega (arith, there))
+message-rises (suc (suc zero)) i zero lt there = absurd (omega (arith, lt))
+message-rises (suc (suc zero)) zero (suc zero) lt there = omega arith
+message-rises (suc (suc zero)) (suc i) (suc zero) lt there = absurd (omega (arith, lt))
+message-rises (suc (suc zero)) i (suc (suc j)) lt there = absurd (omega (arith, there))
+message-rises (suc (suc (suc w))) i j lt there = absurd (omega (arith, there))
+
+message-needs : (w i u j : ℕ) → Needs message_crew w i u j → message_rank u j < message_rank w i
+message-needs zero zero u j h = absurd h
+message-needs zero (suc i) u j h = absurd h
+message-needs (suc zero) zero u j h = absurd h
+message-needs (suc zero) (suc zero) u j h = absurd h
+message-needs (suc zero) (suc (suc i)) u j h = absurd h
+message-needs (suc (suc zero)) zero (suc zero) zero (is, sent) = omega arith
+message-needs (suc (suc zero)) zero (suc zero) (suc zero) (is, sent) = omega (arith, sent)
+message-needs (suc (suc zero)) zero (suc zero) (suc (suc j)) (is, sent) = absurd sent.0
+message-needs (suc (suc zero)) zero zero j (is, sent) = absurd (omega (arith, is))
+message-needs (suc (suc zero)) zero (suc (suc u)) j (is, sent) = absurd (omega (arith, is))
+message-needs (suc (suc zero)) (suc zero) u j h = absurd h
+message-needs (suc (suc zero)) (suc (suc i)) u j h = absurd h
+message-needs (suc (suc (suc w))) zero u j h = absurd h
+message-needs (suc (suc (suc w))) (suc i) u j h = absurd h
+
+pub message-numbering : IsNumbering (crew_of one_message) (rank_in one_message one_plan.ranks)
+message-numbering = record { rises = message-rises; follows = message-needs }

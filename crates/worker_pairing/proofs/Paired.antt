@@ -12,14 +12,14 @@ use Rattle.worker_pairing.proofs.Counts.{nth-there}
 
 -- ---- each event stands in the text
 
-in-front : {A : Type 0} (x : A) (xs : List A) (a : A) → Contains xs a → Contains (x ∷ xs) a
+pub in-front : {A : Type 0} (x : A) (xs : List A) (a : A) → Contains xs a → Contains (x ∷ xs) a
 in-front x xs a (k, lt, same) = (suc k, omega (arith, lt), same)
 
-behind : {A : Type 0} (xs ys : List A) (a : A) → Contains ys a → Contains (xs ++ ys) a
+pub behind : {A : Type 0} (xs ys : List A) (a : A) → Contains ys a → Contains (xs ++ ys) a
 behind [] ys a h = h
 behind (x ∷ xs) ys a h = in-front x (xs ++ ys) a (behind xs ys a h)
 
-before-others : {A : Type 0} (xs ys : List A) (a : A) → Contains xs a → Contains (xs ++ ys) a
+pub before-others : {A : Type 0} (xs ys : List A) (a : A) → Contains xs a → Contains (xs ++ ys) a
 before-others [] ys a (k, lt, same) = absurd (omega (arith, lt))
 before-others (x ∷ xs) ys a (zero, lt, same) = (zero, omega arith, same)
 before-others (x ∷ xs) ys a (suc k, lt, same) = in-front x (xs ++ ys) a (before-others xs ys a (k, omega (arith, lt), same))
@@ -29,14 +29,14 @@ kept-one : {A : Type 0} (b : Bool) (f : A → Bool) (x : A) (xs : List A) (a : A
 kept-one true f x xs a e h = subst (λ z. Contains (if z then x ∷ filter f xs else filter f xs) a) (sym e) (in-front x (filter f xs) a h)
 kept-one false f x xs a e h = subst (λ z. Contains (if z then x ∷ filter f xs else filter f xs) a) (sym e) h
 
-filtered : {A : Type 0} (f : A → Bool) (xs : List A) (a : A) → Contains xs a → f a ≡ true → Contains (filter f xs) a
+pub filtered : {A : Type 0} (f : A → Bool) (xs : List A) (a : A) → Contains xs a → f a ≡ true → Contains (filter f xs) a
 filtered f [] a (k, lt, same) e = absurd (omega (arith, lt))
 filtered f (x ∷ xs) a (zero, lt, same) e =
     let is : f x ≡ true = ap f same ∙ e in
     subst (λ z. Contains (if z then x ∷ filter f xs else filter f xs) a) (sym is) (zero, omega arith, same)
 filtered f (x ∷ xs) a (suc k, lt, same) e = kept-one (f x) f x xs a refl (filtered f xs a (k, omega (arith, lt), same) e)
 
-abbrev numbered : (w j : ℕ) (s : Saying) → Numbered
+abbrev pub numbered : (w j : ℕ) (s : Saying) → Numbered
 numbered w j s = record { worker = w; number = j; saying = s }
 
 there : (w n j : ℕ) (ss : List Saying) (P : EventKind → Type 0) → IsSomeAnd (slice_get (map (λ s. s.kind) ss) j) P

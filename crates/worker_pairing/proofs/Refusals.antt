@@ -1,24 +1,32 @@
 -- What comes of small functions: checks that let all through, and the first one that doesn't.
-use Rattle.std.proofs.Common.{◌≡◌, ℕ, List, Some, refl, subst, inl, inr, true, false}
+use Rattle.std.proofs.Common.{◌≡◌, ℕ, List, Option, Some, refl, subst, inl, inr, true, false}
 use Rattle.std.specs.Prelude.{◌↔◌}
 use Rattle.bal_base.specs.declared.fault.Fault.{Fault}
 use Rattle.bal_base.specs.declared.fault.FaultCode.{FaultCode}
 use Rattle.bal_base.specs.declared.fault.FaultCode.TheVariants.{BadMessage, SuccessBefore}
 use Rattle.bal_base.specs.declared.fault.Kept.{Kept}
 use Rattle.bal_base.specs.declared.fault.Kept.TheVariants as kept
-use Rattle.bal_base.specs.declared.shape.Shape.{Nil}
+use Rattle.bal_base.specs.declared.place.Place.{Place}
+use Rattle.bal_base.specs.declared.shape.Shape.{Shape, Nil, Bool, Int, Str, List', Mapping', Error', Function, Future'}
+use Rattle.bal_base.specs.Valid.{IsValid}
 use Rattle.type_model.specs.declared.answers.TypeLimit.{TypeLimit}
 use Rattle.type_model.specs.declared.atoms.AtomDef.{AtomDef}
 use Rattle.type_model.specs.declared.basic.BasicSet.TheVariants as basic
-use Rattle.type_model.specs.declared.basic.SemType.{Basic}
+use Rattle.type_model.specs.declared.basic.BasicSet.{BasicSet}
+use Rattle.type_model.specs.declared.basic.SemType.{SemType, Basic, Atom, Or', And', Not'}
+use Rattle.type_model.specs.Basic.{InBasic}
+use Rattle.type_model.specs.Membership.{In}
+use Rattle.type_model.specs.SameType.{IsSameType}
 use Rattle.type_model.specs.Calls.{Asked}
 use Rattle.typed_tree.specs.declared.event.Plan.{Plan}
 use Rattle.checks.specs.Checks.{Check, Outcome, Gives, Refuses, gives, gives_some, refuses, either, ◌▷◌}
 use Rattle.checks.specs.Questions.{IsFault, is_below}
 use Rattle.worker_pairing.specs.Cases.{here}
-use Rattle.worker_pairing.specs.FaultCases.{ConditionComesFirst, NamesItself, PairComesFirst, PairsByPeers, PeerComesFirst, ReceivesTooOften, ReturnsBeforeReceive, ReturnsBeforeSend, SendsInBranch, SendsNil, TooManyWorkers, WaitsInitially, nil_as_string, return_before_receive, return_before_send}
-use Rattle.worker_pairing.specs.Faults.{Atoms, all_pass, error_type, fits, member_passes, message_passes, named_first, ordered}
+use Rattle.worker_pairing.specs.FaultCases.{FailureIsOutside, NoPlanInRing, PlansOneMessage, failing_sender, one_message, one_plan, peers_in_ring, ConditionComesFirst, NamesItself, PairComesFirst, PairsByPeers, PeerComesFirst, ReceivesTooOften, ReturnsBeforeReceive, ReturnsBeforeSend, SendsInBranch, SendsNil, TooManyWorkers, WaitsInitially, nil_as_string, return_before_receive, return_before_send}
+use Rattle.worker_pairing.specs.Faults.{Atoms, IsBothOf, IsPlan, all_pass, error_type, failure_fits, fits, member_passes, message_passes, named_first, ordered, plans, rank_in}
 use Rattle.worker_pairing.specs.Marks.{Members, in_text, nil_type}
+use Rattle.worker_pairing.proofs.Numberings.{message-numbering, ring-has-none}
+use Rattle.worker_pairing.proofs.Plans.{plans-pair-up}
 
 -- what gives just this adds nothing
 pub skip-by : {A B : Type 0} (m : Check Atoms A) (a : A) (next : A → Check Atoms B) (n : Check Atoms B) → ((old : Atoms) (o : Outcome A) (new : Atoms) → m old o new ↔ gives a old o new) → ((old : Atoms) (o : Outcome B) (new : Atoms) → next a old o new ↔ n old o new)
@@ -153,3 +161,86 @@ module _ (passes : List AtomDef → Asked → TypeLimit → Type 0) where
       refused-by _ (messages nil_as_string) BadMessage 20 (kept.Shape Nil)
       (skip tt _ _ (skip tt _ _ (skip tt _ _ (skip tt _ _ (skip tt _ _ (skip-by _ tt _ _ (skip tt _ _ (skip tt _ _ (skip tt _ _ (itself _)))) (itself _)))))))
       (in-front _ _ _ _ _ (refused-by _ _ _ _ _ (skip tt _ _ (skip tt _ _ (itself _))) (fitting-of _ _ _)))
+
+-- ---- where a plan comes
+
+pub then-gives : {A B : Type 0} (m : Check Atoms A) (next : A → Check Atoms B) (old mid new : Atoms) (a : A) (b : B) → m old (Gives a) mid → next a mid (Gives b) new → (m ▷ next) old (Gives b) new
+unfolding ◌▷◌
+then-gives m next old mid new a b h k = (a, mid, h, k)
+
+pub just : {A : Type 0} (a : A) (old : Atoms) → gives a old (Gives a) old
+unfolding gives_some
+just a old = (refl, refl)
+
+module _ (passes : List AtomDef → Asked → TypeLimit → Type 0) where
+  nil-fits : (at : Option Place) (old : Atoms) → fits passes nil_type nil_type at old (Gives tt) old
+  unfolding fits
+  nil-fits at old = ((λ x valid h. h), refl)
+
+  is-plan : (ms : Members) (p : Plan) (old : Atoms) → IsPlan ms p → ordered ms old (Gives p) old
+  unfolding ordered
+  is-plan ms p old h = (h, refl)
+
+  -- what is sent is nil, and so is what is received
+  message-passes : (old : Atoms) → all_pass (message_passes passes one_message) (in_text one_message) old (Gives tt) old
+  message-passes old =
+      then-gives _ _ old old old tt tt (just tt old) (then-gives _ _ old old old tt tt (just tt old)
+      (then-gives _ _ old old old tt tt (then-gives _ _ old old old tt tt (then-gives _ _ old old old tt tt (nil-fits _ old) (just tt old)) (just tt old))
+      (then-gives _ _ old old old tt tt (just tt old) (then-gives _ _ old old old tt tt (just tt old) (just tt old)))))
+
+  pub plans-one-message : PlansOneMessage passes
+  plans-one-message old =
+      (skip tt _ _ (skip tt _ _ (skip tt _ _ (skip tt _ _ (skip tt _ _ (skip-by _ tt _ _ (skip tt _ _ (skip tt _ _ (skip tt _ _ (itself _)))) (itself _)))))) old (Gives one_plan) old).1
+      (then-gives (all_pass (message_passes passes one_message) (in_text one_message)) (λ _. ordered one_message) old old old tt one_plan (message-passes old)
+      (is-plan one_message one_plan old (record { pairs = refl; long = refl; numbering = message-numbering })))
+
+  pub no-plan-in-ring : NoPlanInRing passes
+  no-plan-in-ring old p new h = ring-has-none (rank_in peers_in_ring p.ranks, (plans-pair-up passes (here 1) peers_in_ring old new p h).1)
+
+-- ---- what a sender may fail with
+
+no-nil-error : (x : Shape) → InBasic x basic.ErrorAll → InBasic x basic.Nil → ⊥
+no-nil-error Nil h k = h
+no-nil-error (Bool b) h k = k
+no-nil-error (Int i) h k = k
+no-nil-error (Str t) h k = k
+no-nil-error (List' mark _ items) h k = k
+no-nil-error (Mapping' mark _ fields) h k = k
+no-nil-error (Error' _ detail) h k = k
+no-nil-error (Function isolated graph) h k = k
+no-nil-error (Future' _ results) h k = k
+
+same-basic : (env : Atoms) (x : Shape) (b : BasicSet) (t : SemType) → IsSameType (Basic b) t → InBasic x b → In env x t
+same-basic env x b (Basic c) same h = subst (InBasic x) same h
+same-basic env x b (Atom n) same h = absurd same
+same-basic env x b (Or' _ s _ t) same h = absurd same
+same-basic env x b (And' _ s _ t) same h = absurd same
+same-basic env x b (Not' _ t) same h = absurd same
+
+both-errors : (env : Atoms) (x : Shape) (fail : SemType) → IsBothOf error_type error_type fail → InBasic x basic.ErrorAll → In env x fail
+both-errors env x (And' _ s _ t) (a, b) h = (same-basic env x basic.ErrorAll s a h, same-basic env x basic.ErrorAll t b h)
+both-errors env x (Basic b) both h = absurd both
+both-errors env x (Atom n) both h = absurd both
+both-errors env x (Or' _ s _ t) both h = absurd both
+both-errors env x (Not' _ t) both h = absurd both
+
+module _ (passes : List AtomDef → Asked → TypeLimit → Type 0) (x : Shape) (valid : IsValid x) (error : InBasic x basic.ErrorAll) where
+  failure-outside : (at : Option Place) (old : Atoms) (u : Unit {0}) (new : Atoms) → failure_fits passes error_type nil_type at old (Gives u) new → ⊥
+  unfolding ◌▷◌ gives_some fits
+  failure-outside at old u new (fail, mid, (both, stays), (sub, same)) = no-nil-error x error (sub x valid (both-errors mid x fail both error))
+
+  behind-one : {A B : Type 0} (m : Check Atoms A) (next : A → Check Atoms B) → ((a : A) (old : Atoms) (b : B) (new : Atoms) → next a old (Gives b) new → ⊥) → (old : Atoms) (b : B) (new : Atoms) → (m ▷ next) old (Gives b) new → ⊥
+  unfolding ◌▷◌
+  behind-one m next none old b new (a, mid, h, k) = none a mid b new k
+
+  message-outside : (old : Atoms) (u : Unit {0}) (new : Atoms) → all_pass (message_passes passes failing_sender) (in_text failing_sender) old (Gives u) new → ⊥
+  message-outside =
+      behind-one _ _ (λ a. behind-one _ _ (λ b. wrap-gives _ _ (wrap-gives _ _ (behind-one _ _ (λ c. failure-outside (Some (here 20)))))))
+
+  pub failure-is-outside : (old : Atoms) (p : Plan) (new : Atoms) → plans passes (here 1) failing_sender old (Gives p) new → ⊥
+  failure-is-outside old p new h =
+      wrap-gives _ _ message-outside old p new
+      ((skip tt _ _ (skip tt _ _ (skip tt _ _ (skip tt _ _ (skip tt _ _ (skip-by _ tt _ _ (skip tt _ _ (skip tt _ _ (skip tt _ _ (itself _)))) (itself _)))))) old (Gives p) new).0 h)
+
+pub failure-outside-so : (passes : List AtomDef → Asked → TypeLimit → Type 0) → FailureIsOutside passes
+failure-outside-so passes old x shape p new h = failure-is-outside passes x shape.0 shape.1 old p new h

@@ -5,21 +5,22 @@ use Rattle.bal_base.specs.declared.fault.FaultCode.{FaultCode}
 use Rattle.bal_base.specs.declared.fault.FaultCode.TheVariants.{BadMessage, Conditional, NoPeer, SuccessBefore, Unpaired, WorkerLimit}
 use Rattle.bal_base.specs.declared.fault.Kept.{Kept}
 use Rattle.bal_base.specs.declared.fault.Kept.TheVariants as kept
-use Rattle.bal_base.specs.declared.shape.Shape.{Nil}
+use Rattle.bal_base.specs.declared.shape.Shape.{Shape, Nil}
 use Rattle.type_model.specs.declared.answers.TypeLimit.{TypeLimit}
 use Rattle.type_model.specs.declared.atoms.AtomDef.{AtomDef}
 use Rattle.type_model.specs.declared.basic.BasicSet.TheVariants as basic
 use Rattle.type_model.specs.declared.basic.SemType.{SemType, Basic}
 use Rattle.type_model.specs.Calls.{Asked}
+use Rattle.type_model.specs.Inclusion.{IsShapeOf}
 use Rattle.typed_tree.specs.declared.event.EventKind.{EventKind}
 use Rattle.typed_tree.specs.declared.event.EventKind.TheVariants.{Send, Receive, Wait}
 use Rattle.typed_tree.specs.declared.event.Plan.{Plan}
 use Rattle.typed_tree.specs.Listed.{Listed, nothing, one, ◌&◌}
 use Rattle.checks.specs.Checks.{Outcome, Gives, Refuses, refuses}
 use Rattle.checks.specs.Questions.{IsFault}
-use Rattle.worker_pairing.specs.Cases.{here, says, worker}
-use Rattle.worker_pairing.specs.Faults.{Atoms, plans}
-use Rattle.worker_pairing.specs.Marks.{Mark, Says, Returns, Members, member_of, nil_type, set_apart}
+use Rattle.worker_pairing.specs.Cases.{here, numbered, saying_at, says, worker}
+use Rattle.worker_pairing.specs.Faults.{Atoms, error_type, pair_with, plans}
+use Rattle.worker_pairing.specs.Marks.{Mark, Says, Early, Returns, Members, member_of, nil_type, set_apart}
 
 -- ---- functions
 
@@ -74,6 +75,25 @@ typed kind n type = one (Says kind (here n) false type)
 abbrev pub nil_as_string : Members
 nil_as_string = worker nothing ∷ worker (typed (Send (Some 2)) 10 nil_type) ∷ worker (typed (Receive (Some 1)) 20 (Basic basic.StringAll)) ∷ []
 
+-- worker A returns error { check f(); () -> B; .. } worker B { () x = <- A; }
+abbrev pub failing_sender : Members
+failing_sender = worker nothing ∷ member_of error_type nothing (one Early & says (Send (Some 2)) 10) (here 99) ∷ worker (says (Receive (Some 1)) 20) ∷ []
+
+-- worker A { 1 -> B; } worker B { int x = <- A; }, and its plan
+abbrev pub one_message : Members
+one_message = worker nothing ∷ worker (says (Send (Some 2)) 10) ∷ worker (says (Receive (Some 1)) 20) ∷ []
+
+abbrev pub one_plan : Plan
+one_plan =
+    record {
+      pairs = pair_with (numbered 1 0 (saying_at (Send (Some 2)) 10 false)) (numbered 2 0 (saying_at (Receive (Some 1)) 20 false)) ∷ [];
+      ranks = 0 ∷ 1 ∷ 2 ∷ 3 ∷ 4 ∷ [];
+    }
+
+-- worker A { int x = <- B; 1 -> B; } worker B { int y = <- A; 2 -> A; }
+abbrev pub peers_in_ring : Members
+peers_in_ring = worker nothing ∷ worker (says (Receive (Some 2)) 10 & says (Send (Some 2)) 11) ∷ worker (says (Receive (Some 1)) 20 & says (Send (Some 1)) 21) ∷ []
+
 -- ---- what comes of them, where `passes` says which questions pass a limit
 
 module _ (passes : List AtomDef → Asked → TypeLimit → Type 0) where
@@ -127,3 +147,15 @@ module _ (passes : List AtomDef → Asked → TypeLimit → Type 0) where
   -- and nil shows it
   abbrev pub SendsNil : Type 0
   SendsNil = MayBeRefusedSo nil_as_string BadMessage 20 (kept.Shape Nil)
+
+  -- what its sender may fail with is received as well
+  abbrev pub FailureIsOutside : Type 0
+  FailureIsOutside = (old : Atoms) (x : Shape) → IsShapeOf old error_type x → (p : Plan) (new : Atoms) → ¬ (plans passes (here 1) failing_sender old (Gives p) new)
+
+  -- ---- a plan, and none
+
+  abbrev pub PlansOneMessage : Type 0
+  PlansOneMessage = (old : Atoms) → plans passes (here 1) one_message old (Gives one_plan) old
+
+  abbrev pub NoPlanInRing : Type 0
+  NoPlanInRing = (old : Atoms) (p : Plan) (new : Atoms) → ¬ (plans passes (here 1) peers_in_ring old (Gives p) new)

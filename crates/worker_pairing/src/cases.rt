@@ -1,6 +1,6 @@
 //! Worked cases of the definitions. These calls do nothing: their clauses are the cases.
 ghost use Rattle.worker_pairing.specs.Cases.{CountsOfFew, EventsOfTwo, FlushesNothing, InitialIsExempt, LeavesTheSecond, MarksOfCareful, NamesNone, PairsOfTwo, RanksOfTwo, RingHasNone, WaitsForItself};
-ghost use Rattle.worker_pairing.specs.FaultCases.{ConditionComesFirst, NamesItself, PairComesFirst, PairsByPeers, PeerComesFirst, ReceivesTooOften, ReturnsBeforeReceive, ReturnsBeforeSend, SendsInBranch, SendsNil, TooManyWorkers, WaitsInitially};
+ghost use Rattle.worker_pairing.specs.FaultCases.{ConditionComesFirst, FailureIsOutside, NamesItself, NoPlanInRing, PairComesFirst, PairsByPeers, PeerComesFirst, PlansOneMessage, ReceivesTooOften, ReturnsBeforeReceive, ReturnsBeforeSend, SendsInBranch, SendsNil, TooManyWorkers, WaitsInitially};
 
 use type_model::Types;
 
@@ -19,7 +19,8 @@ pub fn definitions_come_to_cases()
     ensures waits_for_itself { WaitsForItself }
 {}
 
-/// Which fault comes first in small functions, at which place and with what it shows, as it was reasoned out by hand.
+/// Which fault comes first in small functions, at which place and with what it shows, and which plan one has, as it was reasoned
+/// out by hand.
 pub fn faults_come_to_cases<T: Types>()
     ensures too_many_workers { TooManyWorkers T.passes }
     ensures names_itself { NamesItself T.passes }
@@ -33,4 +34,7 @@ pub fn faults_come_to_cases<T: Types>()
     ensures returns_before_send { ReturnsBeforeSend T.passes }
     ensures returns_before_receive { ReturnsBeforeReceive T.passes }
     ensures sends_nil { SendsNil T.passes }
+    ensures failure_is_outside { FailureIsOutside T.passes }
+    ensures plans_one_message { PlansOneMessage T.passes }
+    ensures no_plan_in_ring { NoPlanInRing T.passes }
 {}

@@ -1,4 +1,4 @@
-use Rattle.worker_pairing.proofs.Refusals.{condition-comes-first, names-itself, pair-comes-first, pairs-by-peers, peer-comes-first, receives-too-often, returns-before-receive, returns-before-send, sends-in-branch, sends-nil, too-many-workers, waits-initially}
+use Rattle.worker_pairing.proofs.Refusals.{condition-comes-first, failure-outside-so, names-itself, no-plan-in-ring, pair-comes-first, pairs-by-peers, peer-comes-first, plans-one-message, receives-too-often, returns-before-receive, returns-before-send, sends-in-branch, sends-nil, too-many-workers, waits-initially}
 use Rattle.worker_pairing.proofs.cases.faults_come_to_cases.Goals as goal
 
 pub returns-clause-too_many_workers : goal.returns-clause-too_many_workers
@@ -36,3 +36,12 @@ returns-clause-returns_before_receive g c = returns-before-receive g.T.Types.pas
 
 pub returns-clause-sends_nil : goal.returns-clause-sends_nil
 returns-clause-sends_nil g c = sends-nil g.T.Types.passes
+
+pub returns-clause-plans_one_message : goal.returns-clause-plans_one_message
+returns-clause-plans_one_message g c = plans-one-message g.T.Types.passes
+
+pub returns-clause-no_plan_in_ring : goal.returns-clause-no_plan_in_ring
+returns-clause-no_plan_in_ring g c = no-plan-in-ring g.T.Types.passes
+
+pub returns-clause-failure_is_outside : goal.returns-clause-failure_is_outside
+returns-clause-failure_is_outside g c = failure-outside-so g.T.Types.passes
