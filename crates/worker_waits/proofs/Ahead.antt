@@ -135,7 +135,7 @@ performs-ahead f es ts none h =
 no-messages : (a : Shown) → Told a → a.size ≡ 0 → a.messages ≡ 0
 no-messages a A none = let s = same-sizes a nothing_shown A told-nothing (fair a A none) in s.1
 
-block-ahead : (ss : List TypedStmt) (ts : List Task) (n m : ℕ) → (stmts_shown ss).size ≡ 0 → AheadOf n m ts → AheadOf n m (execs ss ts)
+pub block-ahead : (ss : List TypedStmt) (ts : List Task) (n m : ℕ) → (stmts_shown ss).size ≡ 0 → AheadOf n m ts → AheadOf n m (execs ss ts)
 block-ahead ss ts n m none h = let z = no-messages (stmts_shown ss) (told-stmts ss) none in execs-ahead ss ts n m (ahead-less ts _ _ _ _ (omega (arith, none)) (omega (arith, z)) h)
 
 blocks-ahead : (ss : List TypedStmt) (ts : List Task) → Keeps (within (stmts_shown ss)) ts (execs ss ts)

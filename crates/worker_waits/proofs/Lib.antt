@@ -1,7 +1,17 @@
 pub mod Agreeing
 pub mod Ahead
+pub mod Asking
+pub mod Later
 pub mod Left
 pub mod LeftStmts
 pub mod NoRing
 pub mod NoStall
+pub mod PlannedTrees
+pub mod Readying
+pub mod Staying
+pub mod Stepping
 pub mod Told
+pub mod TreeFits
+pub mod TreeKeeping
+pub mod TreeStanding
+pub mod TreeSteps

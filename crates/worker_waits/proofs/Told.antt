@@ -44,7 +44,7 @@ pub record Told (a : Shown) : Type 0 where
 
 -- ---- what is put together
 
-pub told-nothing : Told nothing_shown
+abbrev pub told-nothing : Told nothing_shown
 told-nothing = record { steps = []; own = λ k. refl; size = refl; messages = refl }
 
 pub told-then : (a b : Shown) → Told a → Told b → Told (then_shown a b)
@@ -69,27 +69,27 @@ told-before a w A = record { steps = A.steps; own = A.own; size = let x = A.size
 told-guarded : (a : Shown) → Told a → Told (guarded a)
 told-guarded a A = record { steps = A.steps; own = A.own; size = A.size; messages = A.messages }
 
-told-wrong : Told wrong_shown
+abbrev pub told-wrong : Told wrong_shown
 told-wrong = record { steps = []; own = λ k. refl; size = refl; messages = refl }
 
-told-one : (e : EventKind) → Told (one_shown e)
+abbrev pub told-one : (e : EventKind) → Told (one_shown e)
 told-one e = record { steps = Makes e ∷ []; own = λ k. refl; size = refl; messages = omega arith }
 
 told-peer : (show : ℕ → Shown) (peer : Option ℕ) → ((w : ℕ) → Told (show w)) → Told (by_peer show peer)
 told-peer show (Some w) h = h w
 told-peer show None h = told-wrong
 
-told-wait : (ns : List ℕ) → Told (wait_shown ns)
+abbrev pub told-wait : (ns : List ℕ) → Told (wait_shown ns)
 told-wait [] = told-nothing
 told-wait (n ∷ ns) = told-one (Wait (n ∷ ns))
 
-told-alternate : (names : List (Option ℕ)) → Told (alternate_shown names)
+abbrev pub told-alternate : (names : List (Option ℕ)) → Told (alternate_shown names)
 told-alternate [] = told-wrong
 told-alternate (name ∷ names) = told-wait (workers_in (name ∷ names))
 
 -- ---- operations and forms
 
-pub told-op : (o : Operation) → Told (op_shown o)
+abbrev pub told-op : (o : Operation) → Told (op_shown o)
 told-op (op.Const k) = told-nothing
 told-op (op.Load slot) = told-nothing
 told-op (op.Store slot) = told-nothing

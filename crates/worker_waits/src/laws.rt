@@ -1,7 +1,9 @@
 //! Laws of workers that wait. These calls do nothing: their clauses are laws.
-ghost use Rattle.worker_waits.specs.Laws.{BranchKeepsEvents, EndsAll, EvalKeepsEvents, ExecKeepsEvents, MarksAreShown, RingsNever, SilenceShowsNothing, TurnKeepsEvents};
+ghost use Rattle.worker_waits.specs.Laws.{BranchKeepsEvents, EndsAll, EvalKeepsEvents, ExecKeepsEvents, MarksAreShown, PlannedNeverRing, RingsNever, SilenceShowsNothing, TurnKeepsEvents};
 
 use machine_model::AnyMachine;
+use run_model::Meaning;
+use type_model::Types;
 
 /// Where the workers of an activation stand among events that are paired and numbered, no workers of it wait for one another.
 pub fn workers_in_no_ring<M: AnyMachine>()
@@ -30,4 +32,10 @@ pub fn statements_keep_events()
 /// The events that pairing sees in expressions and statements are just those that are made on the way through them.
 pub fn marks_are_shown()
     ensures { MarksAreShown }
+{}
+
+/// In a package in which each function has a plan no workers of an activation wait for one another in a ring, at no time of any
+/// run, nor does any set of them in which each waits for another one; also where workers have ended early, with an error or a panic.
+pub fn planned_workers_never_ring<T: Types, N: Meaning>()
+    ensures { PlannedNeverRing T.passes N.answers }
 {}
