@@ -166,7 +166,7 @@ module _ (code : Code) (t : WellTyped code) where
   captures-none unit g e (inl initial) = (of-some (IsInitialiserWell code unit) (slice_get code.units unit) g e (initialiser unit initial)).1
   captures-none unit g e (inr main) = (of-some (IsMain code) (slice_get code.units code.start) g (ap (λ n. slice_get code.units n) (sym main) ∙ e) t.fields.main).0
 
-  frame-fits : (c : Common) (unit : ℕ) (args : List Value) (g : CodeUnit) → slice_get code.units unit ≡ Some g → IsFirst unit → AllFit code c args g.params → TopFits code c (record { unit = unit; role = None; control = entry args g })
+  pub frame-fits : (c : Common) (unit : ℕ) (args : List Value) (g : CodeUnit) → slice_get code.units unit ≡ Some g → IsFirst unit → AllFit code c args g.params → TopFits code c (record { unit = unit; role = None; control = entry args g })
   frame-fits c unit args g e first fit =
       let station : Station = record { function = unit; worker = 0 } in
       let stationed : IsStation code unit station = (first-of-crew code unit g e, λ z. no-worker unit g e first) in

@@ -30,5 +30,6 @@ pub mod Staying
 pub mod Taking
 pub mod Talking
 pub mod Trapped
+pub mod Unstuck
 pub mod Valuing
 pub mod Varying

@@ -3,6 +3,7 @@ use Rattle.std.specs.Prelude.{◌≡◌, ◌⊎◌, ◌<◌, ◌+◌, ℕ, Bool,
 use Rattle.bal_base.specs.declared.text.Text.{Text}
 use Rattle.bal_base.specs.Valid.{IsText}
 use Rattle.type_model.specs.declared.basic.SemType.{SemType}
+use Rattle.operations.specs.declared.operation.Constant.{Constant}
 use Rattle.operations.specs.declared.operation.Operation.{Operation}
 use Rattle.operations.specs.declared.operation.Operation.TheVariants as op
 use Rattle.operations.specs.Talk.{Talk, NoTalk, Receives, Sends, talk_of}
@@ -27,7 +28,7 @@ use Rattle.machine_model.specs.Strands.{StrandsHold}
 use Rattle.stack_code.specs.declared.code.Code.{Code}
 use Rattle.stack_code.specs.declared.code.Unit.{Unit as CodeUnit}
 use Rattle.stack_code.specs.CodeMachine.{Standing, code_facts, codes}
-use Rattle.stack_code.specs.Commands.{Do, command_at}
+use Rattle.stack_code.specs.Commands.{CloseTrap, Command, Do, GoTo, GoToIfNot, OpenTrap, command_at}
 use Rattle.stack_code.specs.Flow.{tally_then}
 use Rattle.stack_code.specs.Frames.{AwaitsResult, TallyIs, TopFits}
 use Rattle.stack_code.specs.Activations.{FitsBehind, GoodActivations}
@@ -55,6 +56,20 @@ abbrev pub GoesOnByItself : Type 0
 GoesOnByItself =
     (code : Code) (fillers : ℕ → List Filler) (c : Common) (f : Frame Standing) (next : Standing) →
     WellTyped code → IsClosed c.world.heap → TopFits code c f → (codes fillers code).look f.unit f.control ≡ On next → TopFits code c (goes_to f next)
+
+-- it goes on by itself, and fits there
+abbrev pub GoesOn : Code → (ℕ → List Filler) → Common → Frame Standing → Type 0
+GoesOn code fillers c f = (next : Standing) × ((codes fillers code).look f.unit f.control ≡ On next) × TopFits code c (goes_to f next)
+
+-- and is never stuck, at a place with such a command
+abbrev pub IsNeverStuck : Code → (ℕ → List Filler) → Common → Frame Standing → Type 0
+IsNeverStuck code fillers c f =
+    let At : Command → Type 0 = λ command. command_at code f.control.place ≡ Some command → GoesOn code fillers c f in
+    ((k : Constant) → At (Do (op.Const k))) × ((slot : ℕ) → At (Do (op.Store slot))) × At (Do op.Pop) × ((to : ℕ) → At (GoTo to)) × ((to : ℕ) → At (GoToIfNot to)) × ((to : ℕ) → At (OpenTrap to)) × At CloseTrap
+
+abbrev pub NeverStuck : Type 0
+NeverStuck =
+    (code : Code) (fillers : ℕ → List Filler) (c : Common) (f : Frame Standing) → WellTyped code → GoodCommon code c Running → TopFits code c f → IsNeverStuck code fillers c f
 
 -- ---- operands
 

@@ -1,5 +1,5 @@
 //! Laws of steps. These calls do nothing: their clauses are laws.
-ghost use Rattle.code_keeping.specs.Laws.{AwaitedComes, CallsKeep, EndsKeep, FlushesKeep, GoesOnByItself, GoodHeapsAreServed, MessagesKeep, NoTrappedReceive, NoTrappedSend, NumbersAndTextsAreDone, OperandsAreOfKinds, PanicsAreDone, ReachedAreGood, ReturnsKeep, SendsKeep, SettlingKeeps, StartsWell, StrandsOfCodeHold, StrictOperationsCome, StrictOperationsKeep, TestsAreDone, VariablesAreDone};
+ghost use Rattle.code_keeping.specs.Laws.{AwaitedComes, CallsKeep, EndsKeep, FlushesKeep, GoesOnByItself, GoodHeapsAreServed, MessagesKeep, NeverStuck, NoTrappedReceive, NoTrappedSend, NumbersAndTextsAreDone, OperandsAreOfKinds, PanicsAreDone, ReachedAreGood, ReturnsKeep, SendsKeep, SettlingKeeps, StartsWell, StrandsOfCodeHold, StrictOperationsCome, StrictOperationsKeep, TestsAreDone, VariablesAreDone};
 
 use run_model::Meaning;
 
@@ -8,9 +8,10 @@ pub fn runs_start_well()
     ensures { StartsWell }
 {}
 
-/// A frame of well-typed code that fits its place fits where it goes on by itself.
+/// A frame of well-typed code that fits its place fits where it goes on by itself, and where it has to, it does.
 pub fn goes_on_by_itself()
-    ensures { GoesOnByItself }
+    ensures fits { GoesOnByItself }
+    ensures comes { NeverStuck }
 {}
 
 /// Operands in types all of whose shapes are of some kinds are of one of these kinds.
