@@ -1,54 +1,38 @@
 -- A structure is made behind those that are there: a list or a mapping of an atom.
-use Rattle.std.proofs.Common.{◌≡◌, ◌<◌, ◌≤◌, ◌+◌, ◌^◌, ◌∙◌, ℕ, zero, suc, Bool, true, false, List, [], ◌∷◌, ◌++◌, Option, Some, None, inl, inr, length, refl, sym, ap, subst, arith}
+use Rattle.std.proofs.Common.{◌≡◌, ◌<◌, ◌≤◌, ◌+◌, ◌^◌, ℕ, zero, suc, Bool, true, false, List, [], ◌∷◌, ◌++◌, Option, Some, None, inl, inr, length, refl, sym, subst, arith}
 use Rattle.std.proofs.lemmas.List.{append-nil, length-append}
-use Rattle.std.specs.Prelude.{◌⊎◌, All, IsFalse, IsSomeAnd, IsTrue, not, option_to_list, slice_get, sum_by}
-use Rattle.std.specs.List.{AllZip, fold}
+use Rattle.std.specs.Prelude.{◌⊎◌, All, IsFalse, IsTrue, not, slice_get, sum_by}
+use Rattle.std.specs.List.{fold}
 use Rattle.bal_base.specs.declared.shape.Shape.{Shape, Nil as NilShape, Bool as BoolShape, Int as IntShape, Str as StrShape, List', Mapping', Error', Function as FunctionShape, Future'}
-use Rattle.bal_base.specs.Valid.{IsFrozen, IsValid}
+use Rattle.bal_base.specs.Valid.{IsValid}
 use Rattle.type_model.specs.declared.atoms.AtomDef.{AtomDef}
-use Rattle.type_model.specs.declared.atoms.AtomDef.TheVariants.{List as ListAtom}
-use Rattle.type_model.specs.declared.basic.BasicSet.TheVariants.{Readonly}
-use Rattle.type_model.specs.declared.basic.SemType.{SemType, Atom, Basic}
-use Rattle.type_model.specs.declared.basic.Ty.{Ty}
+use Rattle.type_model.specs.declared.basic.SemType.{SemType, Atom}
 use Rattle.type_model.specs.Membership.{In}
-use Rattle.type_model.specs.Places.{item_type}
 use Rattle.type_model.proofs.SameShapes.{In-same}
-use Rattle.operations.specs.declared.operation.Operation.TheVariants as op
 use Rattle.operations.specs.Kinds.{IsReadonly}
-use Rattle.operations.specs.Rows.{IsWithin, ResultHas}
-use Rattle.operations.specs.Structures.{IsListAtom, IsMade as IsMadeOf, ItemsFit, MayStandIn}
-use Rattle.value_model.specs.declared.filler.Filler.{Filler}
-use Rattle.value_model.specs.declared.value.Value.{Value}
+use Rattle.operations.specs.Rows.{ResultHas}
+use Rattle.operations.specs.Structures.{IsMade as IsMadeOf}
 use Rattle.value_model.specs.declared.value.Value.TheVariants.{Struct}
 use Rattle.value_model.specs.Heap.{Grows, Heap, Members, Stays, Structure, cells, values_of}
-use Rattle.value_model.specs.Meaning.{Answers}
 use Rattle.value_model.specs.Stands.{HasShape, IsUnmarked, MembersBelong, Stands, StructureStands}
 use Rattle.value_model.specs.Valid.{AreValidMembers}
-use Rattle.value_model.specs.World.{Gave, World}
+use Rattle.value_model.specs.World.{World}
 use Rattle.value_model.proofs.OneShape.{one}
-use Rattle.value_model.proofs.Stability.{HasShape-stable}
 use Rattle.run_model.specs.Common.{Common}
 use Rattle.run_model.specs.Effects.{lifted, with_world}
 use Rattle.run_model.specs.Limits.{most_cells}
 use Rattle.run_model.specs.Rows.{gives_structure, makes, new_structure, size_of}
 use Rattle.machine_model.specs.Runs.{Running}
-use Rattle.machine_model.proofs.Once.{some-same}
 use Rattle.stack_code.specs.declared.code.Code.{Code}
-use Rattle.stack_code.specs.declared.code.Unit.{Unit as CodeUnit}
 use Rattle.stack_code.specs.Good.{GoodCommon}
-use Rattle.stack_code.specs.Places.{Station, surroundings}
 use Rattle.stack_code.specs.Tables.{IsInherent}
-use Rattle.stack_code.specs.Values.{AllFit, Fits, GoodHeap, IsMade, IsWithinAtom, code_types}
-use Rattle.stack_code.specs.WellTyped.{WellTyped}
-use Rattle.code_keeping.specs.Rows.{EffectTyped, NamesWell}
-use Rattle.code_keeping.proofs.Beginning.{list-of as list-atom}
-use Rattle.code_keeping.proofs.Coming.{RowHolds, at-once}
-use Rattle.code_keeping.proofs.Growing.{IsGrown, IsNewStructure, belongs-there, front-or-behind, gave-typed, get-front, get-last, later, made-there, one-given, within-gave}
-use Rattle.code_keeping.proofs.Lists.{all-at, at-some, of-some, some-to, zip-to}
-use Rattle.code_keeping.proofs.Serving.{all-to, all-zipped}
+use Rattle.stack_code.specs.Values.{IsMade, code_types}
+use Rattle.code_keeping.specs.Rows.{EffectTyped}
+use Rattle.code_keeping.proofs.Growing.{IsGrown, IsNewStructure, front-or-behind, gave-typed, get-front, get-last, later, made-there, one-given, within-gave}
+use Rattle.code_keeping.proofs.Lists.{at-some, of-some}
+use Rattle.code_keeping.proofs.Serving.{all-to}
 use Rattle.code_keeping.proofs.Staying.{stays-same}
 use Rattle.code_keeping_heap.proofs.Making.{one-there}
-use Rattle.code_keeping_heap.proofs.Shaping.{IsShown, all-frozen, all-shown, list-in, list-of, list-stands, list-valid, zip-long, zip-second}
 
 -- what is made last takes its own cells
 pub greatest-last : (ss : List Structure) (s : Structure) (before : ℕ) → s.greatest ≤ fold (λ a x. a + (x.greatest + 1)) before (ss ++ s ∷ [])

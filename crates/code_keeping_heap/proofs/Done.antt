@@ -1,9 +1,8 @@
 -- What a frame asks for with an operation on structures fits, and something comes.
-use Rattle.std.proofs.Common.{◌≡◌, ℕ, suc, Bool, List, refl, sym}
+use Rattle.std.proofs.Common.{suc, refl}
 use Rattle.operations.specs.declared.operation.Operation.TheVariants as op
-use Rattle.value_model.specs.declared.filler.Filler.{Filler}
 use Rattle.value_model.specs.Meaning.{Answers}
-use Rattle.run_model.specs.Local.{takes, twice}
+use Rattle.run_model.specs.Local.{twice}
 use Rattle.stack_code.specs.Places.{surroundings}
 use Rattle.code_keeping.proofs.Done.{row-done-at, takes-all}
 use Rattle.code_keeping.proofs.Operands.{one-long, two-long}

@@ -1,9 +1,9 @@
 -- Errors are made, each with its detail.
-use Rattle.std.proofs.Common.{◌≡◌, ◌<◌, ◌≤◌, ◌+◌, ◌^◌, ◌∙◌, ℕ, zero, suc, Bool, true, false, List, [], ◌∷◌, ◌++◌, Option, Some, None, inl, inr, length, map, refl, sym, ap, subst, arith}
+use Rattle.std.proofs.Common.{◌≡◌, ◌<◌, ◌≤◌, ◌+◌, ◌^◌, ℕ, zero, suc, false, List, [], ◌∷◌, Option, Some, None, inl, inr, length, map, refl, sym, ap, subst, arith}
 use Rattle.std.proofs.lemmas.List.{append-nil, length-append}
 use Rattle.std.proofs.lemmas.List.Elements.{All-cons, All-head, All-nil, All-tail}
-use Rattle.std.specs.Prelude.{◌⊎◌, All, Any, IfSome, IsFalse, IsSomeAnd, IsTrue, slice_get, sum_by, ⊤}
-use Rattle.std.specs.List.{AllZip, fold}
+use Rattle.std.specs.Prelude.{◌⊎◌, All, Any, IfSome, IsSomeAnd, slice_get, sum_by, ⊤}
+use Rattle.std.specs.List.{AllZip}
 use Rattle.std.specs.Ptr.{null_ptr}
 use Rattle.bal_base.specs.declared.shape.Shape.{Shape, Nil as NilShape, Bool as BoolShape, Int as IntShape, Str as StrShape, List', Mapping', Error', Function as FunctionShape, Future', items-the_row-Fields-items-2 as fields_in}
 use Rattle.bal_base.specs.declared.text.Text.{Text}
@@ -20,22 +20,22 @@ use Rattle.value_model.specs.declared.value.Value.TheVariants.{Nil, Bool as Trut
 use Rattle.value_model.specs.Heap.{Entries, ErrorObject, Grows, Heap, Items, Members, Stays, Structure, cells, entry_at}
 use Rattle.value_model.specs.Meaning.{Answers}
 use Rattle.value_model.specs.Stands.{HasShape, Stands}
-use Rattle.value_model.specs.World.{Came, World}
+use Rattle.value_model.specs.World.{World}
 use Rattle.value_model.proofs.Stability.{HasShape-stable}
 use Rattle.run_model.specs.Common.{Common}
 use Rattle.run_model.specs.Effects.{lifted, with_world}
 use Rattle.run_model.specs.Limits.{most_cells}
 use Rattle.run_model.specs.Local.{twice}
-use Rattle.run_model.specs.Operands.{cause_of, pairs_of}
+use Rattle.run_model.specs.Operands.{pairs_of}
 use Rattle.run_model.specs.Performs.{Performs}
-use Rattle.run_model.specs.Rows.{gives, makes_error, new_structure, next_error, size_of, within}
+use Rattle.run_model.specs.Rows.{gives, makes_error, new_structure, next_error, within}
 use Rattle.run_model.specs.Stores.{entries_from}
 use Rattle.run_model.specs.StructureRows.{MakesError}
 use Rattle.machine_model.specs.Runs.{Running}
 use Rattle.stack_code.specs.declared.code.Code.{Code}
 use Rattle.stack_code.specs.CodeMachine.{code_facts}
 use Rattle.stack_code.specs.Good.{GoodCommon}
-use Rattle.stack_code.specs.Values.{AllFit, Fits, IsMade, code_types}
+use Rattle.stack_code.specs.Values.{Fits, IsMade, code_types}
 use Rattle.stack_code.specs.WellTyped.{WellTyped}
 use Rattle.code_keeping.specs.Kinds.{Errors, Kind, Nils, Strings, kind_of, members_kind, structure_kind, value_kind}
 use Rattle.code_keeping.specs.Rows.{EffectTyped}
@@ -50,9 +50,9 @@ use Rattle.code_keeping_heap.proofs.Adding.{greatest-last}
 use Rattle.code_keeping_heap.proofs.Entries.{PairFits, entries-all, entries-apart, entries-there, paired, pairs-long, strings-of}
 use Rattle.code_keeping_heap.proofs.Making.{one-there}
 use Rattle.code_keeping_heap.proofs.Mapped.{AreApart, IsFrozenAs, IsHeld, entry-all, frozen-as}
-use Rattle.code_keeping_heap.proofs.Mapping.{HasFrozen, frozen-shape, frozen-stands, frozen-valid, pair-frozen, pairs-all, pairs-any}
+use Rattle.code_keeping_heap.proofs.Mapping.{HasFrozen, frozen-shape, frozen-stands, frozen-valid, pair-frozen, pairs-all}
 use Rattle.code_keeping_heap.proofs.Reading.{has-stands}
-use Rattle.code_keeping_heap.proofs.Sorting.{Fields, Has, has-any}
+use Rattle.code_keeping_heap.proofs.Sorting.{Fields, has-any}
 
 -- ---- an error with this detail
 

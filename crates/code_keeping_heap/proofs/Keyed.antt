@@ -1,6 +1,6 @@
 -- Members of mappings are read: by a key, which may be one or any, and by the name of a field.
-use Rattle.std.proofs.Common.{◌≡◌, ◌<◌, ◌^◌, ℕ, Bool, List, [], ◌∷◌, Option, Some, None, inl, inr, length, refl, sym, ap, subst}
-use Rattle.std.specs.Prelude.{◌⊎◌, All, IsSomeAnd, map, option_to_list, slice_get}
+use Rattle.std.proofs.Common.{◌≡◌, ◌<◌, ◌^◌, ℕ, List, [], ◌∷◌, Option, Some, None, inl, inr, length, refl, sym, ap, subst}
+use Rattle.std.specs.Prelude.{◌⊎◌, IsSomeAnd, option_to_list, slice_get}
 use Rattle.bal_base.specs.declared.shape.Shape.{Shape, Nil as NilShape, Str as StrShape, Mapping'}
 use Rattle.bal_base.specs.declared.text.Text.{Text}
 use Rattle.bal_base.specs.Valid.{IsValid}

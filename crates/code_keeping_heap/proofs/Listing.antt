@@ -1,35 +1,26 @@
 -- Lists are made.
-use Rattle.std.proofs.Common.{◌≡◌, ◌<◌, ◌≤◌, ◌+◌, ◌^◌, ◌∙◌, ℕ, zero, suc, Bool, true, false, List, [], ◌∷◌, ◌++◌, Option, Some, None, inl, inr, length, refl, sym, ap, subst, arith}
-use Rattle.std.proofs.lemmas.List.{append-nil, length-append}
-use Rattle.std.specs.Prelude.{◌⊎◌, All, IsFalse, IsSomeAnd, IsTrue, not, option_to_list, slice_get, sum_by}
-use Rattle.std.specs.List.{AllZip, fold}
-use Rattle.bal_base.specs.declared.shape.Shape.{Shape, Nil as NilShape, Bool as BoolShape, Int as IntShape, Str as StrShape, List', Mapping', Error', Function as FunctionShape, Future'}
+use Rattle.std.proofs.Common.{◌≡◌, ◌<◌, ◌≤◌, ◌+◌, ◌^◌, ℕ, zero, suc, Bool, true, false, List, [], ◌∷◌, Option, Some, length, refl, ap, subst, arith}
+use Rattle.std.specs.Prelude.{All, not, slice_get}
+use Rattle.std.specs.List.{AllZip}
+use Rattle.bal_base.specs.declared.shape.Shape.{Shape}
 use Rattle.bal_base.specs.Valid.{IsFrozen, IsValid}
-use Rattle.type_model.specs.declared.atoms.AtomDef.{AtomDef}
 use Rattle.type_model.specs.declared.atoms.AtomDef.TheVariants.{List as ListAtom}
-use Rattle.type_model.specs.declared.basic.BasicSet.TheVariants.{Readonly}
-use Rattle.type_model.specs.declared.basic.SemType.{SemType, Atom, Basic}
+use Rattle.type_model.specs.declared.basic.SemType.{SemType}
 use Rattle.type_model.specs.declared.basic.Ty.{Ty}
 use Rattle.type_model.specs.Membership.{In}
 use Rattle.type_model.specs.Places.{item_type}
-use Rattle.type_model.proofs.SameShapes.{In-same}
 use Rattle.operations.specs.declared.operation.Operation.TheVariants as op
-use Rattle.operations.specs.Kinds.{IsReadonly}
 use Rattle.operations.specs.Rows.{IsWithin, ResultHas}
-use Rattle.operations.specs.Structures.{IsListAtom, IsMade as IsMadeOf, ItemsFit, MayStandIn}
+use Rattle.operations.specs.Structures.{IsMade as IsMadeOf, ItemsFit, MayStandIn}
 use Rattle.value_model.specs.declared.filler.Filler.{Filler}
 use Rattle.value_model.specs.declared.value.Value.{Value}
-use Rattle.value_model.specs.declared.value.Value.TheVariants.{Struct}
-use Rattle.value_model.specs.Heap.{Grows, Heap, Items, Stays, Structure, cells}
+use Rattle.value_model.specs.Heap.{Heap, Items}
 use Rattle.value_model.specs.Meaning.{Answers}
-use Rattle.value_model.specs.Stands.{Belongs, BelongsIf, HasShape, MembersBelong, Stands, StructureStands}
-use Rattle.value_model.specs.World.{Gave, World}
-use Rattle.value_model.proofs.OneShape.{one}
+use Rattle.value_model.specs.Stands.{Belongs, BelongsIf, HasShape}
+use Rattle.value_model.specs.World.{World}
 use Rattle.value_model.proofs.Stability.{HasShape-stable}
 use Rattle.run_model.specs.Common.{Common}
-use Rattle.run_model.specs.Effects.{lifted, with_world}
-use Rattle.run_model.specs.Limits.{most_cells}
-use Rattle.run_model.specs.Rows.{makes, new_structure}
+use Rattle.run_model.specs.Effects.{lifted}
 use Rattle.run_model.specs.StructureRows.{makes_list}
 use Rattle.machine_model.specs.Runs.{Running}
 use Rattle.machine_model.proofs.Once.{some-same}
@@ -38,15 +29,14 @@ use Rattle.stack_code.specs.declared.code.Unit.{Unit as CodeUnit}
 use Rattle.stack_code.specs.Good.{GoodCommon}
 use Rattle.stack_code.specs.Places.{Station, surroundings}
 use Rattle.stack_code.specs.Tables.{IsInherent}
-use Rattle.stack_code.specs.Values.{AllFit, Fits, GoodHeap, IsMade, IsWithinAtom, code_types}
+use Rattle.stack_code.specs.Values.{AllFit, Fits, IsMade, code_types}
 use Rattle.stack_code.specs.WellTyped.{WellTyped}
 use Rattle.code_keeping.specs.Rows.{EffectTyped, NamesWell}
 use Rattle.code_keeping.proofs.Beginning.{list-of as list-atom}
 use Rattle.code_keeping.proofs.Coming.{RowHolds, at-once}
-use Rattle.code_keeping.proofs.Growing.{IsGrown, IsNewStructure, belongs-there, front-or-behind, gave-typed, get-front, get-last, later, made-there, one-given, within-gave}
-use Rattle.code_keeping.proofs.Lists.{all-at, at-some, of-some, some-to, zip-to}
+use Rattle.code_keeping.proofs.Growing.{belongs-there}
+use Rattle.code_keeping.proofs.Lists.{all-at, some-to, zip-to}
 use Rattle.code_keeping.proofs.Serving.{all-to, all-zipped}
-use Rattle.code_keeping.proofs.Staying.{stays-same}
 use Rattle.code_keeping_heap.proofs.Adding.{IsFine, IsSmall, added, at-last, grows, number, short, structure-typed, world-then}
 use Rattle.code_keeping_heap.proofs.Shaping.{IsShown, all-frozen, all-shown, list-in, list-of, list-stands, list-valid, zip-long, zip-second}
 

@@ -1,9 +1,8 @@
 -- Function values are made.
-use Rattle.std.proofs.Common.{◌≡◌, ◌<◌, ◌+◌, ◌≤◌, ℕ, zero, suc, List, [], ◌∷◌, ◌++◌, Option, Some, None, inl, inr, length, refl, sym, subst, arith}
+use Rattle.std.proofs.Common.{◌≡◌, ◌+◌, ℕ, zero, suc, List, [], ◌∷◌, ◌++◌, Option, Some, None, inl, inr, length, refl, sym, subst, arith}
 use Rattle.std.proofs.lemmas.List.{append-nil, length-append}
-use Rattle.std.specs.Prelude.{◌⊎◌, IsSomeAnd, option_to_list, slice_get}
+use Rattle.std.specs.Prelude.{◌⊎◌, IsSomeAnd, slice_get}
 use Rattle.bal_base.specs.declared.shape.Shape.{Shape}
-use Rattle.bal_base.specs.Valid.{IsValid}
 use Rattle.type_model.specs.declared.basic.SemType.{SemType, Atom}
 use Rattle.type_model.specs.Membership.{In}
 use Rattle.operations.specs.declared.operation.Operation.TheVariants as op
@@ -11,10 +10,10 @@ use Rattle.operations.specs.Rows.{AreBelow, ResultHas}
 use Rattle.value_model.specs.declared.filler.Filler.{Filler}
 use Rattle.value_model.specs.declared.value.Value.{Value}
 use Rattle.value_model.specs.declared.value.Value.TheVariants.{Function}
-use Rattle.value_model.specs.Heap.{FunctionObject, Grows, Heap, Stays}
+use Rattle.value_model.specs.Heap.{FunctionObject, Grows, Stays}
 use Rattle.value_model.specs.Meaning.{Answers}
 use Rattle.value_model.specs.Stands.{Stands}
-use Rattle.value_model.specs.World.{Gave, World}
+use Rattle.value_model.specs.World.{World}
 use Rattle.run_model.specs.Common.{Common}
 use Rattle.run_model.specs.Effects.{lifted, with_world}
 use Rattle.run_model.specs.Rows.{with_heap}

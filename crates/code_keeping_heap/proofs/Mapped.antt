@@ -1,15 +1,14 @@
 -- Shapes of mappings, put together of those of their members; and a mapping stands for one in which a member is any shape of its own.
-use Rattle.std.proofs.Common.{◌≡◌, ◌<◌, ◌≤◌, ◌^◌, ◌∙◌, ℕ, zero, suc, Bool, true, false, List, [], ◌∷◌, Option, Some, None, inl, inr, cond, length, map, refl, sym, ap, subst, arith}
+use Rattle.std.proofs.Common.{◌≡◌, ◌<◌, ◌≤◌, ◌^◌, ◌∙◌, ℕ, zero, suc, Bool, true, false, List, [], ◌∷◌, Option, Some, None, inl, inr, length, map, refl, sym, ap, subst, arith}
 use Rattle.std.proofs.Math.ListN.{length-map}
 use Rattle.std.proofs.lemmas.List.Elements.{All-cons, All-head, All-nil, All-tail}
-use Rattle.std.specs.Prelude.{◌⊎◌, All, Any, Contains, IsFalse, IsSomeAnd, IsTrue, if◌then◌else◌, is_some, slice_get, ⊤}
+use Rattle.std.specs.Prelude.{◌⊎◌, All, Contains, IsFalse, IsSomeAnd, IsTrue, if◌then◌else◌, is_some, slice_get, ⊤}
 use Rattle.std.specs.List.{AllZip}
 use Rattle.std.specs.Ptr.{null_ptr}
 use Rattle.bal_base.specs.declared.shape.Shape.{Shape, Nil as NilShape, Bool as BoolShape, Int as IntShape, Str as StrShape, Mapping as AMapping, List', Mapping', Error', Function as FunctionShape, Future', Row_of-Fields-items-2 as Row_of-Field, end_of-Fields-items-2 as end_of-Field, more_of-Fields-items-2 as more_of-Field, items-the_row-Fields-items-2 as fields_in, items_hidden-the_row-Fields-items-2-1}
 use Rattle.bal_base.specs.declared.shape.Fields.{Fields as FieldRow}
 use Rattle.bal_base.specs.declared.text.Text.{Text}
-use Rattle.bal_base.specs.Shapes.{fields_list}
-use Rattle.bal_base.specs.Valid.{AreTexts, FieldsValid, IsFrozen, IsText, IsValid}
+use Rattle.bal_base.specs.Valid.{FieldsValid, IsFrozen, IsText, IsValid}
 use Rattle.bal_base.proofs.Rows.{IsValid-Mapping, fields_of}
 use Rattle.bal_base.proofs.SameShapes.{IsFrozen-same, keys_of}
 use Rattle.type_model.specs.declared.answers.Keys.TheVariants.{AnyField, Field}
@@ -22,7 +21,7 @@ use Rattle.type_model.specs.Elements.{MemberIn}
 use Rattle.type_model.specs.Membership.{Fits as ShapeFits, In}
 use Rattle.type_model.specs.Parts.{StandsIn}
 use Rattle.type_model.specs.Places.{HasKey, HasRequired, is_same_text, key_type}
-use Rattle.type_model.proofs.TextOrder.{KeysSorted, Sorted, Sorted-rise, rise-Sorted}
+use Rattle.type_model.proofs.TextOrder.{Sorted-rise, rise-Sorted}
 use Rattle.type_model.proofs.Unfolding.{Fits-Mapping}
 use Rattle.operations.specs.Kinds.{HasMember as HasKeyIn}
 use Rattle.operations.specs.Rows.{IsWithin}
@@ -34,7 +33,6 @@ use Rattle.value_model.specs.Valid.{AreValidMembers, IsValidValue}
 use Rattle.value_model.proofs.EntryKeys.{HasEntry, keys-fill, same-text, text-same}
 use Rattle.value_model.proofs.OneShape.{fields-entries, one, rise-keys}
 use Rattle.run_model.specs.Common.{Common}
-use Rattle.run_model.specs.Rows.{size_of}
 use Rattle.machine_model.proofs.Once.{some-same}
 use Rattle.stack_code.specs.declared.code.Code.{Code}
 use Rattle.stack_code.specs.Tables.{IsInherent}
@@ -45,8 +43,8 @@ use Rattle.code_keeping.proofs.Lists.{all-at, at-some, of-some, some-there, some
 use Rattle.code_keeping.proofs.Serving.{all-to}
 use Rattle.code_keeping.proofs.Shapes.{has-shape}
 use Rattle.code_keeping_heap.proofs.Reading.{stands-has}
-use Rattle.code_keeping_heap.proofs.Shaping.{IsShown, zip-long, zip-second}
-use Rattle.code_keeping_heap.proofs.Sorting.{Fields, Has, Rises, any-has, has-all, has-any, put, put-all, put-keeps, put-long, put-more, put-rises, put-same, put-there, sorted, sorted-all, sorted-has, sorted-long, sorted-rises}
+use Rattle.code_keeping_heap.proofs.Shaping.{IsShown, zip-long}
+use Rattle.code_keeping_heap.proofs.Sorting.{Fields, Has, Rises, any-has, has-all, has-any, put, put-all, put-keeps, put-more, put-rises, put-same, put-there, sorted, sorted-all, sorted-has, sorted-long, sorted-rises}
 
 -- ---- a mapping in the heap
 

@@ -1,5 +1,5 @@
 -- Mappings are made.
-use Rattle.std.proofs.Common.{◌≡◌, ◌<◌, ◌≤◌, ◌+◌, ◌^◌, ◌∙◌, ℕ, zero, suc, Bool, true, false, List, [], ◌∷◌, Option, Some, None, inl, inr, length, map, refl, sym, ap, subst, arith}
+use Rattle.std.proofs.Common.{◌≡◌, ◌<◌, ◌^◌, ℕ, zero, suc, Bool, true, false, List, [], ◌∷◌, Option, Some, None, inl, inr, length, map, refl, sym, ap, subst, arith}
 use Rattle.std.proofs.lemmas.List.Elements.{All-cons, All-head, All-nil, All-tail}
 use Rattle.std.specs.Prelude.{◌⊎◌, All, Any, IsFalse, IsSomeAnd, IsTrue, not, slice_get, ⊤}
 use Rattle.std.specs.List.{AllZip}
@@ -14,21 +14,19 @@ use Rattle.type_model.specs.declared.basic.Ty.{Ty}
 use Rattle.type_model.specs.Membership.{In}
 use Rattle.type_model.specs.Places.{key_type}
 use Rattle.operations.specs.declared.operation.Operation.TheVariants as op
-use Rattle.operations.specs.Kinds.{IsString}
 use Rattle.operations.specs.Rows.{IsSingle, IsWithin, ResultHas}
 use Rattle.operations.specs.Structures.{IsMade as IsMadeOf, IsMappingAtom, MayStandIn, MemberFits, NamesRequired}
 use Rattle.value_model.specs.declared.filler.Filler.{Filler}
 use Rattle.value_model.specs.declared.value.Value.{Value}
-use Rattle.value_model.specs.declared.value.Value.TheVariants.{Str, Struct}
+use Rattle.value_model.specs.declared.value.Value.TheVariants.{Struct}
 use Rattle.value_model.specs.Heap.{Entries, Heap, Structure, entry_at}
 use Rattle.value_model.specs.Meaning.{Answers}
-use Rattle.value_model.specs.Stands.{Belongs, BelongsIf, HasShape, Stands}
+use Rattle.value_model.specs.Stands.{Belongs, BelongsIf, HasShape}
 use Rattle.value_model.specs.Valid.{IsValidValue}
-use Rattle.value_model.specs.World.{Came, World}
+use Rattle.value_model.specs.World.{World}
 use Rattle.value_model.proofs.Stability.{HasShape-stable}
 use Rattle.run_model.specs.Common.{Common}
 use Rattle.run_model.specs.Effects.{lifted}
-use Rattle.run_model.specs.Operands.{pairs_of}
 use Rattle.run_model.specs.Rows.{gives_structure, new_structure}
 use Rattle.run_model.specs.Stores.{entries_from}
 use Rattle.run_model.specs.StructureRows.{MakesMapping}
@@ -38,7 +36,7 @@ use Rattle.stack_code.specs.declared.code.Unit.{Unit as CodeUnit}
 use Rattle.stack_code.specs.Good.{GoodCommon}
 use Rattle.stack_code.specs.Places.{Station, surroundings}
 use Rattle.stack_code.specs.Tables.{IsInherent}
-use Rattle.stack_code.specs.Values.{Fits, GoodHeap, IsMade, code_types}
+use Rattle.stack_code.specs.Values.{GoodHeap, IsMade, code_types}
 use Rattle.stack_code.specs.WellTyped.{WellTyped}
 use Rattle.code_keeping.specs.Rows.{EffectTyped, NamesWell}
 use Rattle.code_keeping.proofs.Coming.{Does, RowHolds, does-else, on-world}
@@ -46,9 +44,9 @@ use Rattle.code_keeping.proofs.Growing.{belongs-there}
 use Rattle.code_keeping.proofs.Lists.{some-to, zip-to}
 use Rattle.code_keeping.proofs.Serving.{all-to}
 use Rattle.code_keeping.proofs.Shapes.{has-shape}
-use Rattle.code_keeping_heap.proofs.Adding.{IsFine, IsSmall, added, at-last, grows, number, short, structure-typed, world-then}
+use Rattle.code_keeping_heap.proofs.Adding.{IsFine, added, at-last, grows, number, short, structure-typed, world-then}
 use Rattle.code_keeping_heap.proofs.Entries.{PairFits, entries-all, entries-apart, entries-there, paired, strings-of}
-use Rattle.code_keeping_heap.proofs.Mapped.{AreApart, EntriesBelong, IsFieldOf, IsHeld, apart-held, as-many-fields, fields-all, fields-shown, mapping-in, mapping-of, mapping-stands, mapping-valid, sorted-in, sorted-short, sorted-texts, sorted-valid}
+use Rattle.code_keeping_heap.proofs.Mapped.{AreApart, EntriesBelong, IsFieldOf, IsHeld, apart-held, as-many-fields, fields-shown, mapping-in, mapping-of, mapping-stands, mapping-valid, sorted-in, sorted-short, sorted-texts, sorted-valid}
 use Rattle.code_keeping_heap.proofs.Shaping.{IsShown, has-frozen}
 use Rattle.code_keeping_heap.proofs.Sorting.{Fields, sorted, sorted-all, sorted-rises}
 

@@ -1,11 +1,10 @@
 -- Items of lists are read: what is read is of the result's type, and the index may name one place or any.
-use Rattle.std.proofs.Common.{◌≡◌, ◌<◌, ◌≤◌, ◌^◌, ◌∙◌, ℤ, ℕ, zero, suc, Bool, true, false, List, [], ◌∷◌, Option, Some, None, inl, inr, length, refl, sym, ap, subst, arith}
+use Rattle.std.proofs.Common.{◌≡◌, ◌<◌, ◌^◌, ◌∙◌, ℤ, ℕ, suc, Bool, true, false, List, [], ◌∷◌, Option, Some, None, inl, inr, length, refl, sym, ap, subst, arith}
 use Rattle.std.specs.Prelude.{◌⊎◌, All, Contains, IsFalse, IsSomeAnd, IsTrue, negsuc, option_to_list, pos, slice_get, slice_set}
 use Rattle.std.specs.List.{AllZip}
 use Rattle.bal_base.specs.declared.shape.Shape.{Shape, Nil as NilShape, Bool as BoolShape, Int as IntShape, Str as StrShape, List', Mapping', Error', Function as FunctionShape, Future', Row_of-Shape, end_of-Shape, more_of-Shape, items-the_row-Shape as shapes_in, items_hidden-the_row-Shape-0}
 use Rattle.bal_base.specs.declared.text.Text.{Text}
-use Rattle.bal_base.specs.Valid.{AreValid, IsFrozen, IsInt, IsValid}
-use Rattle.bal_base.proofs.Rows.{row_of}
+use Rattle.bal_base.specs.Valid.{AreValid, IsFrozen, IsValid}
 use Rattle.bal_base.proofs.SameShapes.{IsFrozen-same}
 use Rattle.type_model.specs.declared.answers.Keys.TheVariants.{AnyIndex, Index}
 use Rattle.type_model.specs.declared.atoms.AtomDef.{AtomDef}
@@ -16,20 +15,19 @@ use Rattle.type_model.specs.Membership.{In}
 use Rattle.type_model.specs.Parts.{StandsIn}
 use Rattle.type_model.proofs.Decided.{In-decided}
 use Rattle.operations.specs.declared.operation.Operation.TheVariants as op
-use Rattle.operations.specs.Kinds.{IsInteger, IsList}
-use Rattle.operations.specs.Rows.{IsSingle, IsWithin, ResultHas, StandsAtIndex, Surroundings}
+use Rattle.operations.specs.Rows.{IsSingle, ResultHas, StandsAtIndex, Surroundings}
 use Rattle.value_model.specs.declared.filler.Filler.{Filler}
 use Rattle.value_model.specs.declared.panics.PanicName.TheVariants.{IndexOutOfRange}
 use Rattle.value_model.specs.declared.value.Value.{Value}
 use Rattle.value_model.specs.declared.value.Value.TheVariants.{Nil, Bool as Truth, Int, Str, Struct, Error, Function, Future}
 use Rattle.value_model.specs.Heap.{Entries, Heap, IsThere, Items, Members, Structure, values_of}
 use Rattle.value_model.specs.Meaning.{Answers}
-use Rattle.value_model.specs.Stands.{HasShape, HaveShapes, IsFrozenWith, IsList as IsListOf, IsMapping as IsMappingOf, IsUnmarked, ItemsBelong, MembersBelong, Stands, StructureStands}
-use Rattle.value_model.specs.World.{Came, World}
+use Rattle.value_model.specs.Stands.{HasShape, HaveShapes, IsList as IsListOf, IsMapping as IsMappingOf, IsUnmarked, ItemsBelong, MembersBelong, Stands, StructureStands}
+use Rattle.value_model.specs.World.{Came}
 use Rattle.value_model.proofs.OneShape.{one}
 use Rattle.run_model.specs.Common.{Common}
 use Rattle.run_model.specs.Performs.{Performs}
-use Rattle.run_model.specs.Rows.{HasItems, ListAt, found, gives, size_of}
+use Rattle.run_model.specs.Rows.{HasItems, ListAt, found, size_of}
 use Rattle.run_model.specs.StructureRows.{ReadsItem, at_place}
 use Rattle.machine_model.specs.Runs.{Running}
 use Rattle.machine_model.proofs.Once.{some-same}

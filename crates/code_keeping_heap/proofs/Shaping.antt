@@ -1,12 +1,11 @@
 -- Shapes of lists, put together of those of their items.
-use Rattle.std.proofs.Common.{◌≡◌, ◌<◌, ◌≤◌, ◌^◌, ◌∙◌, ℕ, zero, suc, Bool, true, false, List, [], ◌∷◌, Option, Some, None, length, refl, sym, ap, subst, arith}
+use Rattle.std.proofs.Common.{◌≡◌, ◌<◌, ◌≤◌, ◌^◌, ℕ, zero, suc, Bool, true, false, List, [], ◌∷◌, Option, Some, None, length, refl, sym, ap, subst, arith}
 use Rattle.std.proofs.lemmas.List.Elements.{All-cons, All-nil}
-use Rattle.std.specs.Prelude.{All, IsFalse, IsSomeAnd, IsTrue, get_or, slice_get, slice_set}
+use Rattle.std.specs.Prelude.{All, IsFalse, IsTrue, get_or, slice_get, slice_set}
 use Rattle.std.specs.List.{AllZip}
 use Rattle.std.specs.Ptr.{null_ptr}
 use Rattle.bal_base.specs.declared.shape.Shape.{Shape, Nil as NilShape, Bool as BoolShape, Int as IntShape, Str as StrShape, List as AList, List', Mapping', Error', Function as FunctionShape, Future', Row_of-Shape, end_of-Shape, more_of-Shape, items-the_row-Shape as shapes_in, items_hidden-the_row-Shape-0}
 use Rattle.bal_base.specs.declared.shape.Shapes.{Shapes}
-use Rattle.bal_base.specs.Shapes.{shapes_list}
 use Rattle.bal_base.specs.Valid.{IsFrozen, IsValid}
 use Rattle.bal_base.proofs.Rows.{IsValid-List, row_of}
 use Rattle.type_model.specs.declared.atoms.AtomDef.{AtomDef}
@@ -19,7 +18,7 @@ use Rattle.type_model.specs.Places.{item_type}
 use Rattle.type_model.proofs.Unfolding.{Fits-List}
 use Rattle.value_model.specs.declared.value.Value.{Value}
 use Rattle.value_model.specs.declared.value.Value.TheVariants.{Nil, Bool as Truth, Int, Str, Struct, Error, Function, Future}
-use Rattle.value_model.specs.Heap.{Entries, Heap, Items, Members, Structure}
+use Rattle.value_model.specs.Heap.{Heap, Items, Structure}
 use Rattle.value_model.specs.Stands.{Belongs, BelongsIf, HasShape, HaveShapes, IsList, IsUnmarked, Stands, StructureStands}
 use Rattle.run_model.specs.Common.{Common}
 use Rattle.machine_model.proofs.Once.{some-same}

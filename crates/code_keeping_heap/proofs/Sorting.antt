@@ -1,14 +1,14 @@
 -- Fields of a mapping in the order of their keys: one is put at its place, and takes that of one with the same key.
-use Rattle.std.proofs.Common.{◌≡◌, ◌<◌, ◌≤◌, ◌+◌, ◌∙◌, ℕ, zero, suc, Bool, true, false, List, [], ◌∷◌, inl, inr, length, refl, sym, ap, subst, arith}
+use Rattle.std.proofs.Common.{◌≡◌, ◌≤◌, ◌∙◌, zero, suc, List, [], ◌∷◌, inl, inr, length, refl, sym, ap, subst, arith}
 use Rattle.std.proofs.lemmas.List.Elements.{All-cons, All-head, All-nil, All-tail}
-use Rattle.std.specs.Prelude.{◌⊎◌, All, Any, Contains}
+use Rattle.std.specs.Prelude.{◌⊎◌, All, Contains}
 use Rattle.std.specs.declared.cmp.Ordering.{Ordering}
 use Rattle.std.specs.declared.cmp.Ordering.TheVariants.{Less, Equal, Greater}
 use Rattle.std.specs.Ordering.{is_eq, nat_cmp}
 use Rattle.std.specs.Cmp.Lexicographic.{slice_cmp, texts_ties}
 use Rattle.bal_base.specs.declared.shape.Shape.{Shape}
 use Rattle.bal_base.specs.declared.text.Text.{Text}
-use Rattle.type_model.specs.Places.{HasKey, is_same_text}
+use Rattle.type_model.specs.Places.{HasKey}
 use Rattle.type_model.proofs.TextOrder.{Below, Sorted, above-below, below-apart, below-further, not-below-itself}
 use Rattle.value_model.proofs.EntryKeys.{same-text}
 
