@@ -1,6 +1,8 @@
 pub mod Blocking
 pub mod Closing
+pub mod Continuing
 pub mod Done
+pub mod Ending
 pub mod Following
 pub mod Hearing
 pub mod Lasting

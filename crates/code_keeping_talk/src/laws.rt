@@ -1,5 +1,5 @@
 //! Laws of steps that speak to workers, wait or end. These calls do nothing: their clauses are laws.
-ghost use Rattle.code_keeping_talk.specs.Laws.{BlockingKeeps, ClosingKeeps, LaterFollows, PickingKeeps, ReceivesAreDone, WhatHeldHolds};
+ghost use Rattle.code_keeping_talk.specs.Laws.{BlockingKeeps, ClosingKeeps, ContinuingKeeps, EndingKeeps, LaterFollows, PickingKeeps, ReceivesAreDone, WhatHeldHolds};
 
 use run_model::Meaning;
 
@@ -13,10 +13,13 @@ pub fn what_held_holds()
     ensures { WhatHeldHolds }
 {}
 
-/// A ready strand is picked, or a panic ends a worker: what is shared stays good.
+/// A ready strand is picked, a panic ends a worker, the running strand ends, or strand 0 begins its next unit: what is
+/// shared stays good.
 pub fn strands_keep()
     ensures picks { PickingKeeps }
     ensures closes { ClosingKeeps }
+    ensures ends { EndingKeeps }
+    ensures continues { ContinuingKeeps }
 {}
 
 /// Where the running strand blocks for something that is there and not met, all that is shared is good.

@@ -2,7 +2,7 @@
 //!
 //! - [`later_follows`]: what comes later than something that comes later.
 //! - [`what_held_holds`]: what held of frames and strands holds later.
-//! - [`strands_keep`]: a strand is picked, and a panic ends a worker.
+//! - [`strands_keep`]: a strand is picked, ends, or begins its next unit, and a panic ends a worker.
 //! - [`blocking_keeps`]: the running strand blocks.
 //! - [`receives_are_done`]: receives, flushes and the second halves of synchronous sends.
 //!
