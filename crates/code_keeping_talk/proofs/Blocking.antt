@@ -1,18 +1,18 @@
 -- The running strand blocks: what is shared stays good, and nobody whose need is met is blocked.
-use Rattle.std.proofs.Common.{◌≡◌, ◌≢◌, ◌<◌, ◌+◌, ◌∙◌, ℕ, zero, suc, Bool, true, false, List, [], ◌∷◌, Option, Some, None, inl, inr, length, refl, sym, ap, subst, arith}
+use Rattle.std.proofs.Common.{◌≡◌, ◌≢◌, ◌<◌, ◌+◌, ◌∙◌, ℕ, zero, suc, true, false, List, [], ◌∷◌, Option, Some, None, inl, inr, length, refl, sym, ap, subst, arith}
 use Rattle.std.specs.Prelude.{◌⊎◌, ◌&&◌, ◌||◌, All, Contains, IsSomeAnd, IsTrue, get_or, if◌then◌else◌, is_some, not, slice_get, slice_set}
 use Rattle.std.specs.List.{list_all, list_any}
 use Rattle.value_model.specs.Heap.{values_of}
-use Rattle.run_model.specs.Common.{AllEnded, AnyGiven, Common, End, IsActive, IsBlocked, IsEnded, Message, Need, Received, Role, Status, Strand}
+use Rattle.run_model.specs.Common.{AllEnded, AnyGiven, Common, End, IsActive, IsBlocked, Message, Need, Received, Role, Strand}
 use Rattle.run_model.specs.Strands.{end_in, end_of, ended_count, has_ended, has_success, is_success, met, no_strand, strand_at, strand_blocked, with_status}
 use Rattle.machine_model.specs.Runs.{Picking, Running}
 use Rattle.machine_model.proofs.Once.{some-same}
 use Rattle.stack_code.specs.declared.code.Code.{Code}
-use Rattle.stack_code.specs.Good.{GoodCommon, GoodReady, IsKnown, IsLater, IsSameStrand, NearlyCommon, NeedIsThere, StrandAt, StrandFits, WorkerStays}
+use Rattle.stack_code.specs.Good.{GoodCommon, GoodReady, IsKnown, IsLater, IsSameStrand, NeedIsThere, StrandAt, StrandFits, WorkerStays}
 use Rattle.stack_code.specs.Values.{AllFit, GoodHeap, IsMade, IsWithinUnit}
 use Rattle.code_keeping.proofs.Changing.{get-set-other, get-set-same, length-set, or-set-other, or-there, same-or-not}
 use Rattle.code_keeping.proofs.Later.{activation-later, end-later, strand-later, to-run-later, variables-later}
-use Rattle.code_keeping.proofs.Lists.{at-some, of-some, some-there, some-to}
+use Rattle.code_keeping.proofs.Lists.{at-some, some-there, some-to}
 use Rattle.code_keeping.proofs.Serving.{all-to}
 use Rattle.code_keeping.proofs.Settling.{all-same, any-same}
 use Rattle.code_keeping.proofs.Staying.{all-later, later-so, made-later, same-calls}

@@ -3,7 +3,7 @@ use Rattle.std.proofs.Common.{◌≡◌, ◌≢◌, ◌<◌, ◌∙◌, ℕ, zer
 use Rattle.std.specs.Prelude.{◌⊎◌, IsTrue, get_or, is_some, slice_get, slice_set}
 use Rattle.value_model.specs.declared.value.Value.{Value}
 use Rattle.run_model.specs.Common.{Activation, Common, End, Panicked, Role}
-use Rattle.run_model.specs.Strands.{activation_at, with_activation, worker_ended}
+use Rattle.run_model.specs.Strands.{with_activation, worker_ended}
 use Rattle.machine_model.specs.Runs.{Running}
 use Rattle.stack_code.specs.declared.code.Code.{Code}
 use Rattle.stack_code.specs.Activations.{GoodActivation, HasTally, WorkerEndFits}

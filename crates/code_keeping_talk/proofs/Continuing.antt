@@ -1,17 +1,15 @@
 -- Strand 0 begins its next unit: what is shared is good, and so is the unit's first frame.
-use Rattle.std.proofs.Common.{◌≡◌, ◌∙◌, ℕ, zero, suc, Bool, true, false, List, [], ◌∷◌, Option, Some, None, inl, inr, refl, sym, ap, subst}
+use Rattle.std.proofs.Common.{◌≡◌, ◌∙◌, ℕ, Bool, true, false, List, [], ◌∷◌, Option, Some, None, inl, inr, refl, sym, ap, subst}
 use Rattle.std.proofs.lemmas.Bool.{eqb-true}
 use Rattle.std.proofs.lemmas.List.Elements.{All-head, All-tail}
-use Rattle.std.specs.Prelude.{◌⊎◌, ◌&&◌, ◌==◌, All, IsSomeAnd, IsTrue, if◌then◌else◌, option_map, slice_get}
+use Rattle.std.specs.Prelude.{◌⊎◌, ◌&&◌, ◌==◌, All, if◌then◌else◌, option_map, slice_get}
 use Rattle.value_model.specs.declared.filler.Filler.{Filler}
 use Rattle.value_model.specs.declared.value.Value.{Value}
-use Rattle.run_model.specs.Common.{AllEnded, AnyGiven, Common, End, Message, Need, Received, Role, Strand}
+use Rattle.run_model.specs.Common.{AllEnded, AnyGiven, Common, Message, Need, Received, Role, Strand}
 use Rattle.run_model.specs.Strands.{end_in, is_success, settled}
-use Rattle.machine_model.specs.Machine.{next_units}
 use Rattle.machine_model.specs.Runs.{Running}
 use Rattle.machine_model.proofs.Once.{some-same}
 use Rattle.stack_code.specs.declared.code.Code.{Code}
-use Rattle.stack_code.specs.declared.code.Unit.{Unit as CodeUnit}
 use Rattle.stack_code.specs.CodeMachine.{Standing, codes, entry}
 use Rattle.stack_code.specs.Frames.{IsLowest, TopFits}
 use Rattle.stack_code.specs.Good.{GoodCommon, IsLater, IsToRun, NearlyCommon, NeedIsThere, WorkerStays}

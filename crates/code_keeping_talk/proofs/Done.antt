@@ -1,5 +1,5 @@
 -- Operations by families: what a frame asks for with each fits, and something comes.
-use Rattle.std.proofs.Common.{◌≡◌, ℕ, List, inl, inr, refl}
+use Rattle.std.proofs.Common.{inl, inr, refl}
 use Rattle.value_model.specs.Meaning.{Answers}
 use Rattle.operations.specs.declared.operation.Operation.TheVariants as op
 use Rattle.code_keeping.proofs.Places.{at-place}

@@ -1,7 +1,6 @@
 -- The running strand ends: what is shared stays good, before those who wake are ready.
-use Rattle.std.proofs.Common.{◌≡◌, ◌≢◌, ◌<◌, ◌+◌, ◌∙◌, ℕ, zero, suc, Bool, true, false, List, [], ◌∷◌, Option, Some, None, inl, inr, length, refl, sym, ap, subst, arith}
-use Rattle.std.specs.Prelude.{◌⊎◌, ◌&&◌, ◌||◌, All, Contains, IsSomeAnd, IsTrue, get_or, if◌then◌else◌, is_some, not, slice_get, slice_set}
-use Rattle.std.specs.List.{list_all, list_any}
+use Rattle.std.proofs.Common.{◌≡◌, ◌≢◌, ◌<◌, ◌+◌, ◌∙◌, ℕ, zero, suc, Bool, List, [], ◌∷◌, Option, Some, None, inl, inr, length, refl, sym, ap, subst, arith}
+use Rattle.std.specs.Prelude.{◌⊎◌, All, Contains, IsSomeAnd, IsTrue, get_or, if◌then◌else◌, is_some, slice_get, slice_set}
 use Rattle.bal_base.specs.declared.shape.Shape.{Shape}
 use Rattle.type_model.specs.declared.basic.SemType.{SemType}
 use Rattle.operations.specs.Kinds.{IsError, IsNil}
@@ -10,7 +9,7 @@ use Rattle.value_model.specs.declared.value.Value.{Value}
 use Rattle.value_model.specs.declared.value.Value.TheVariants.{Nil, Bool as Truth, Int, Str, Struct, Error, Function, Future}
 use Rattle.value_model.specs.Heap.{Entries, Items, Members, Structure, values_of}
 use Rattle.run_model.specs.Common.{AllEnded, AnyGiven, Common, End, IsActive, IsEnded, Message, Need, Panicked, Received, Returned, Role, Strand}
-use Rattle.run_model.specs.Strands.{end_in, end_of, ended_count, has_ended, has_success, is_success, met, no_strand, strand_at, strand_ended, with_status}
+use Rattle.run_model.specs.Strands.{end_in, ended_count, has_ended, no_strand, strand_at, strand_ended, with_status}
 use Rattle.machine_model.specs.Runs.{Picking, Running}
 use Rattle.machine_model.proofs.Once.{some-same}
 use Rattle.stack_code.specs.declared.code.Code.{Code}
@@ -21,7 +20,7 @@ use Rattle.stack_code.specs.Tables.{IsInitialiserWell, IsMain, ReturnsNilOrError
 use Rattle.stack_code.specs.Values.{AllFit, Fits, GoodHeap, IsMade, IsWithinUnit}
 use Rattle.stack_code.specs.WellTyped.{WellTyped}
 use Rattle.code_keeping.specs.Kinds.{Errors, Nils, kind_of, members_kind, structure_kind, value_kind}
-use Rattle.code_keeping.proofs.Changing.{get-set-other, get-set-same, length-set, or-set-other, or-there, same-or-not}
+use Rattle.code_keeping.proofs.Changing.{get-set-other, get-set-same, length-set, or-there, same-or-not}
 use Rattle.code_keeping.proofs.Later.{activation-later, end-later, strand-later, to-run-later, variables-later}
 use Rattle.code_keeping.proofs.Lists.{at-some, of-some, some-there, some-to}
 use Rattle.code_keeping.proofs.OfKind.{of-kind}

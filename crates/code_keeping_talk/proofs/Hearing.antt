@@ -1,9 +1,8 @@
 -- What a frame asks for with a receive, a flush and the second half of a synchronous send.
-use Rattle.std.proofs.Common.{◌≡◌, ◌≢◌, ◌≤◌, ◌<◌, ◌+◌, ◌∙◌, ℕ, zero, suc, Bool, true, false, List, [], ◌∷◌, ◌++◌, Option, Some, None, inl, inr, length, reverse, refl, sym, ap, subst, arith}
+use Rattle.std.proofs.Common.{◌≡◌, ◌≢◌, ◌≤◌, ◌<◌, ◌+◌, ◌∙◌, ℕ, true, false, List, [], ◌∷◌, ◌++◌, Option, Some, None, inl, inr, length, reverse, refl, sym, ap, subst, arith}
 use Rattle.std.proofs.lemmas.Bool.Decides.{leb_tells}
 use Rattle.std.proofs.lemmas.List.{append-nil, length-map, reverse-append}
-use Rattle.std.specs.Prelude.{◌⊎◌, ◌||◌, ◌↔◌, All, IsSome, IsSomeAnd, IsTrue, get_or, if◌then◌else◌, is_some, nat_le, option_to_list, slice_get}
-use Rattle.std.specs.List.{AllZip}
+use Rattle.std.specs.Prelude.{◌⊎◌, ◌||◌, ◌↔◌, All, IsSome, IsSomeAnd, if◌then◌else◌, is_some, nat_le, option_to_list, slice_get}
 use Rattle.type_model.specs.declared.basic.SemType.{SemType}
 use Rattle.operations.specs.declared.operation.Constant.TheVariants.{Nil as NilConstant}
 use Rattle.operations.specs.declared.operation.Operation.{Operation}
@@ -16,31 +15,29 @@ use Rattle.value_model.specs.declared.filler.Filler.{Filler}
 use Rattle.value_model.specs.declared.value.Value.{Value}
 use Rattle.value_model.specs.declared.value.Value.TheVariants.{Nil}
 use Rattle.value_model.specs.Meaning.{Answers}
-use Rattle.run_model.specs.Common.{Activation, Asker, Channel, Common, End, Message, Need, Panicked, Received, Returned, Role}
-use Rattle.run_model.specs.Effects.{Effect, Fails, Gives, Waits}
+use Rattle.run_model.specs.Common.{Activation, Asker, Channel, Common, End, Message, Panicked, Received, Returned, Role}
+use Rattle.run_model.specs.Effects.{Effect, Fails, Gives}
 use Rattle.run_model.specs.Local.{Later, Local, acts, with_stack}
-use Rattle.run_model.specs.Messages.{flushes, one_received, receives, receives_end, receives_from, flushes_end, with_received}
+use Rattle.run_model.specs.Messages.{flushes, receives, receives_end, receives_from, flushes_end}
 use Rattle.run_model.specs.Operands.{NoOperand as PerformsNone}
 use Rattle.run_model.specs.Performs.{AsWorker, Performs}
-use Rattle.run_model.specs.Strands.{activation_at, channel_at, is_there, met, settled, with_activation, woken, worker_end}
+use Rattle.run_model.specs.Strands.{activation_at, channel_at, is_there, settled, woken, worker_end}
 use Rattle.machine_model.specs.Following.{EndsFrame}
-use Rattle.machine_model.specs.Keeping.{AreApart, AskFits, EffectFits, KeepsStrands}
+use Rattle.machine_model.specs.Keeping.{AskFits, EffectFits, KeepsStrands}
 use Rattle.machine_model.specs.Machine.{Ask, Frame, asks, captured_slots, goes_to}
 use Rattle.machine_model.specs.Runs.{Running}
 use Rattle.stack_code.specs.declared.code.Code.{Code}
-use Rattle.stack_code.specs.declared.code.Unit.{Unit as CodeUnit}
-use Rattle.stack_code.specs.Activations.{FitsBehind, GoodActivations}
+use Rattle.stack_code.specs.Activations.{FitsBehind}
 use Rattle.stack_code.specs.CodeMachine.{Standing, code_facts, codes, obeys, standing}
 use Rattle.stack_code.specs.Commands.{Do, command_at}
 use Rattle.stack_code.specs.Flow.{DoesTyped, tally_behind, tally_landing, tally_then, tally_thrown}
-use Rattle.stack_code.specs.Frames.{IsOfItsUnit, StandsWell, TallyIs, TopFits, end_in_call}
+use Rattle.stack_code.specs.Frames.{IsOfItsUnit, TallyIs, TopFits, end_in_call}
 use Rattle.stack_code.specs.Good.{GoodCommon, IsLater, IsWorkerOf, NearlyCommon, code_invariant}
-use Rattle.stack_code.specs.Messages.{IsLast, IsOf, peers_in, worker}
-use Rattle.stack_code.specs.Places.{IsIn, IsStation, Station, Tally, crew, stack_at, surroundings, tally_at, traps_at}
+use Rattle.stack_code.specs.Messages.{peers_in}
+use Rattle.stack_code.specs.Places.{IsIn, IsStation, Tally, crew, stack_at, surroundings, tally_at, traps_at}
 use Rattle.stack_code.specs.Values.{AllFit, Fits, IsMadeError}
 use Rattle.stack_code.specs.WellTyped.{WellTyped}
-use Rattle.code_keeping.specs.Laws.{AskComes, EndIsReceived, OnlyOf, StandsAt, TalkedWell}
-use Rattle.code_keeping.specs.Rows.{Comes}
+use Rattle.code_keeping.specs.Laws.{AskComes, OnlyOf, StandsAt, TalkedWell}
 use Rattle.code_keeping.proofs.Calling.{ends-with}
 use Rattle.code_keeping.proofs.Changing.{get-set-same}
 use Rattle.code_keeping.proofs.Doing.{fits-behind, well-behind}
@@ -49,7 +46,7 @@ use Rattle.code_keeping.proofs.Growing.{one-given}
 use Rattle.code_keeping.proofs.Itself.{its-shape}
 use Rattle.code_keeping.proofs.Landing.{caught}
 use Rattle.code_keeping.proofs.Lists.{at-some, zip-both}
-use Rattle.code_keeping.proofs.Places.{IsAt, at-place, typed-by, typed-in}
+use Rattle.code_keeping.proofs.Places.{IsAt, typed-by, typed-in}
 use Rattle.code_keeping.proofs.Receiving.{ends-keep, messages-keep}
 use Rattle.code_keeping.proofs.Returning.{nearly-so}
 use Rattle.code_keeping.proofs.Settling.{settling-keeps}

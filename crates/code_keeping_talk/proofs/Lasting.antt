@@ -1,9 +1,9 @@
 -- What holds of frames, results, errors and strands holds later.
-use Rattle.std.proofs.Common.{◌≡◌, ◌∙◌, ℕ, zero, suc, Bool, true, List, [], ◌∷◌, Option, Some, None, inl, inr, reverse, refl, sym, ap, subst}
-use Rattle.std.specs.Prelude.{◌⊎◌, IsSomeAnd, IsTrue, get_or, is_some, slice_get}
+use Rattle.std.proofs.Common.{◌≡◌, ℕ, zero, suc, List, [], ◌∷◌, Option, Some, None, inl, inr, reverse, refl, sym, subst}
+use Rattle.std.specs.Prelude.{IsTrue, get_or, is_some, slice_get}
 use Rattle.value_model.specs.declared.value.Value.{Value}
-use Rattle.run_model.specs.Common.{Activation, Common, End, Role, Strand}
-use Rattle.run_model.specs.Strands.{activation_at, end_in, has_ended, no_activation, no_strand, strand_at}
+use Rattle.run_model.specs.Common.{Activation, Common, Role, Strand}
+use Rattle.run_model.specs.Strands.{end_in, has_ended, no_activation, no_strand}
 use Rattle.machine_model.specs.Keeping.{RunsOn}
 use Rattle.machine_model.specs.Machine.{Frame}
 use Rattle.stack_code.specs.declared.code.Code.{Code}
@@ -12,7 +12,7 @@ use Rattle.stack_code.specs.Frames.{AwaitsResult, IsLowest, StandsIn, StandsWell
 use Rattle.stack_code.specs.Good.{IsLater, IsSameCall, IsSameStrand}
 use Rattle.stack_code.specs.Places.{stack_at, tally_at, traps_at}
 use Rattle.stack_code.specs.Tables.{UnitAt}
-use Rattle.stack_code.specs.Values.{Fits, IsMadeError}
+use Rattle.stack_code.specs.Values.{Fits}
 use Rattle.code_keeping.proofs.Changing.{or-there}
 use Rattle.code_keeping.proofs.Later.{strand-later}
 use Rattle.code_keeping.proofs.Lists.{some-there, some-to, zip-to}

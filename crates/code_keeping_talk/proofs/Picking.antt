@@ -1,7 +1,7 @@
 -- A ready strand is picked: it runs, and what is shared stays good.
-use Rattle.std.proofs.Common.{◌≡◌, ◌≢◌, ◌<◌, ◌+◌, ◌∙◌, ℕ, zero, suc, List, [], ◌∷◌, Option, Some, None, inl, inr, length, refl, sym, ap, subst, arith}
+use Rattle.std.proofs.Common.{◌≡◌, ◌≢◌, ◌<◌, ◌∙◌, ℕ, zero, suc, List, [], ◌∷◌, Option, Some, None, inl, inr, length, refl, sym, subst, arith}
 use Rattle.std.proofs.lemmas.List.Elements.{All-cons, All-head, All-nil, All-tail}
-use Rattle.std.specs.Prelude.{◌⊎◌, All, AllPairs, Contains, IsSomeAnd, IsTrue, get_or, remove, slice_get, ⊤}
+use Rattle.std.specs.Prelude.{◌⊎◌, All, AllPairs, Contains, IsSomeAnd, IsTrue, remove, slice_get, ⊤}
 use Rattle.run_model.specs.Common.{AllEnded, AnyGiven, Common, IsActive, Message, Need, Received, Role, Strand}
 use Rattle.run_model.specs.Strands.{end_in, met}
 use Rattle.machine_model.specs.Runs.{Picking, Running, taken_up}
@@ -9,7 +9,7 @@ use Rattle.machine_model.proofs.Once.{some-same}
 use Rattle.stack_code.specs.declared.code.Code.{Code}
 use Rattle.stack_code.specs.Good.{GoodCommon, IsLater, NeedIsThere, StrandAt, WorkerStays}
 use Rattle.stack_code.specs.Values.{GoodHeap}
-use Rattle.code_keeping.proofs.Changing.{or-there, same-or-not, within}
+use Rattle.code_keeping.proofs.Changing.{within}
 use Rattle.code_keeping.proofs.Later.{activation-later, end-later, to-run-later}
 use Rattle.code_keeping.proofs.Lists.{all-at}
 use Rattle.code_keeping.proofs.Staying.{later-so, same-calls, same-strands}
