@@ -14,6 +14,7 @@ use Rattle.stack_code.specs.CodeMachine.{OpenedTrap, lands, standing}
 use Rattle.lower_model.specs.Following.{Follows, landings_of, waiting}
 use Rattle.lower_model.specs.Lowered.{Comes, Spot, code_ways}
 use Rattle.lower_model.proofs.CodeWays.{are-ways, loop-stays}
+use Rattle.lower_model.proofs.Lists.{same-head, same-tail}
 use Rattle.lower_model.proofs.TaskWays.{task-stays}
 
 module _ (code : Code) where
@@ -32,14 +33,6 @@ module _ (code : Code) where
   pub ready-follows : (l : Local) (ts : List Task) (p : Spot) (loop : Option (Turns Spot)) (traps : List OpenedTrap) → Ready ts p loop traps → Follows code (doing l ts) (standing p.place traps l)
   ready-follows l ts p loop traps r =
       record { local = refl; way = (loop, subst (λ x. TasksOver W ts (record { place = p.place; landings = x }) loop) r.landings r.way); below = r.below }
-
-  -- ---- lists that begin alike
-
-  pub same-head : {A : Type 0} (x y : A) (xs ys : List A) → x ∷ xs ≡ y ∷ ys → x ≡ y
-  same-head x y xs ys e = let q : x ≡ y = cc in q
-
-  pub same-tail : {A : Type 0} (x y : A) (xs ys : List A) → x ∷ xs ≡ y ∷ ys → xs ≡ ys
-  same-tail x y xs ys e = let q : xs ≡ ys = cc in q
 
   -- ---- panics
 

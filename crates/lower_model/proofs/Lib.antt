@@ -1,10 +1,12 @@
 pub mod Allowed
+pub mod Assembled
 pub mod Bodies
 pub mod CodeWays
 pub mod Entered
 pub mod Guarded
 pub mod Landing
 pub mod Laying
+pub mod Lists
 pub mod Lowering
 pub mod LoweringStmts
 pub mod SameOperations

@@ -38,7 +38,8 @@ use Rattle.lower_model.proofs.CodeWays.{are-ways}
 use Rattle.lower_model.proofs.Entered.{Entered, entered}
 use Rattle.lower_model.proofs.Guarded.{branch-leaves, eval-leaves, exec-leaves, opens_trap, turn-leaves, waits_too}
 use Rattle.lower_model.proofs.SameOperations.{alike, casting, loading}
-use Rattle.lower_model.proofs.Landing.{Ready, belows, catches, ready-follows, same-tail}
+use Rattle.lower_model.proofs.Landing.{Ready, belows, catches, ready-follows}
+use Rattle.lower_model.proofs.Lists.{same-tail}
 
 module _ (atoms : List AtomDef) (p : TypedPackage) (fillers : ℕ → List Filler) (code : Code) (natives : Answers) (asker : Asker) (common : Common) where
   abbrev M : Machine Doing
@@ -191,7 +192,7 @@ module _ (atoms : List AtomDef) (p : TypedPackage) (fillers : ℕ → List Fille
         standing q.place traps l,
         steps look (jumps (m.place + 1) q.place traps l leaves),
         ready-follows code l ts q loop traps
-            (record { way = f; landings = same-tail code landing t.landing q.landings (landings_of traps) (sym is ∙ ls); below = same-tail code vs t.below (waiting ts) (belows code traps) w }),
+            (record { way = f; landings = same-tail landing t.landing q.landings (landings_of traps) (sym is ∙ ls); below = same-tail vs t.below (waiting ts) (belows code traps) w }),
       )
 
   -- every task

@@ -1,3 +1,4 @@
+pub mod Assembled
 pub mod Cases
 pub mod Following
 pub mod Laws

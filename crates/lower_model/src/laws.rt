@@ -1,4 +1,5 @@
 //! Laws of lowering. These calls do nothing: their clauses are laws.
+ghost use Rattle.lower_model.specs.Assembled.{AssembledIsLowered};
 ghost use Rattle.lower_model.specs.Laws.{LoweredFramesFollow};
 ghost use Rattle.lower_model.specs.Laying.{ExpressionsAreLaid, StatementsAreLaid, UnitsAreLaid};
 ghost use Rattle.lower_model.specs.Whole.{CodeDoesTheSame, SameIsAllowed};
@@ -20,4 +21,9 @@ pub fn what_is_made_stands()
     ensures expressions { ExpressionsAreLaid }
     ensures statements { StatementsAreLaid }
     ensures units { UnitsAreLaid }
+{}
+
+/// Code that is put together of what is made for all units of a package is lowered from the package.
+pub fn assembled_code_is_lowered()
+    ensures { AssembledIsLowered }
 {}
