@@ -1,0 +1,4 @@
+pub mod ActionTable
+pub mod ExprTable
+pub mod Needs
+pub mod Operators
