@@ -1,0 +1,17 @@
+pub mod Actions
+pub mod Branches
+pub mod Calls
+pub mod Constructors
+pub mod Joins
+pub mod Kinds
+pub mod Library
+pub mod Members
+pub mod Meets
+pub mod Seen
+pub mod Stands
+pub mod State
+pub mod Statements
+pub mod StmtViews
+pub mod Units
+pub mod Values
+pub mod Words
