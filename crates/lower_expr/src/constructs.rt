@@ -91,21 +91,17 @@ fn call<'a>(draft: &mut Draft<'a>, called: Callee, count: u64) -> Result<(), Mem
             rest: Some(atom),
         } => {
             let passed = fixed as u64 + 1;
-            draft.dos(
-                &[
-                    rest_list(count, fixed, atom),
-                    Op::Call {
-                        unit,
-                        count: passed,
-                    },
-                ],
-            )
+            draft.dos(&[
+                rest_list(count, fixed, atom),
+                Op::Call {
+                    unit,
+                    count: passed,
+                },
+            ])
         }
-        Callee::Value => draft.dos(
-            &[Op::CallValue {
-                count: count.saturating_sub(1),
-            }],
-        ),
+        Callee::Value => draft.dos(&[Op::CallValue {
+            count: count.saturating_sub(1),
+        }]),
     }
 }
 
@@ -125,21 +121,17 @@ fn start<'a>(draft: &mut Draft<'a>, started: Callee, count: u64) -> Result<(), M
             rest: Some(atom),
         } => {
             let passed = fixed as u64 + 1;
-            draft.dos(
-                &[
-                    rest_list(count, fixed, atom),
-                    Op::Start {
-                        unit,
-                        count: passed,
-                    },
-                ],
-            )
+            draft.dos(&[
+                rest_list(count, fixed, atom),
+                Op::Start {
+                    unit,
+                    count: passed,
+                },
+            ])
         }
-        Callee::Value => draft.dos(
-            &[Op::StartValue {
-                count: count.saturating_sub(1),
-            }],
-        ),
+        Callee::Value => draft.dos(&[Op::StartValue {
+            count: count.saturating_sub(1),
+        }]),
     }
 }
 
