@@ -62,7 +62,9 @@ pub fn stmt<'a>(
             Ok(())
         }
         TypedStmt::While {
-            condition, body, ..
+            condition,
+            body,
+            ..
         } => {
             let turning = begin_turns(draft)?;
             expr(draft, condition)?;
@@ -75,7 +77,10 @@ pub fn stmt<'a>(
         TypedStmt::Break { .. } => breaks(draft, around),
         TypedStmt::Continue { .. } => continues(draft, around),
         TypedStmt::Update {
-            target, op, value, ..
+            target,
+            op,
+            value,
+            ..
         } => updates(draft, target, *op, value),
         TypedStmt::Foreach {
             slot,
