@@ -172,7 +172,11 @@ fn call<M: MeetsExprs>(work: &mut M, e: &Call, expected: Expected)
     ensures met { Runs M.meaning ((read_call e.now).needs expected) (M.going work.old) (M.going work.new) }
 {
     match e {
-        Call::Function { callee: f, args, at } => {
+        Call::Function {
+            callee: f,
+            args,
+            at,
+        } => {
             callee(work, false, f, args.len(), *at);
             arguments(work, args, *at);
             work.makes_call(*at)
@@ -208,11 +212,19 @@ pub(crate) fn started<M: MeetsExprs>(work: &mut M, e: &Call)
     ensures met { Runs M.meaning ((read_call e.now).starts) (M.going work.old) (M.going work.new) }
 {
     match e {
-        Call::Function { callee: f, args, at } => {
+        Call::Function {
+            callee: f,
+            args,
+            at,
+        } => {
             callee(work, true, f, args.len(), *at);
             arguments(work, args, *at)
         }
-        Call::Method { receiver, method, .. } => {
+        Call::Method {
+            receiver,
+            method,
+            ..
+        } => {
             postfix(work, receiver, Expected::Nothing);
             work.fails(FaultCode::Unknown, method.at)
         }

@@ -16,8 +16,8 @@ call-arguments-requires-in-Method g t c κs within = (search (rules, arith, expr
 pub call-returns-in-Function-clause-met : goal.call-returns-in-Function-clause-met
 call-returns-in-Function-clause-met g t c =
     let e : (read_call c.args.e.now).needs c.args.expected
-        ≡ called_needs false (read_postfix c.deref.result.now) (map read_expr c.deref-in-Function.result.now) c.in-Function.at
-        & one (MakesCall c.in-Function.at) = search (rules, expr_layers) in
+    ≡ called_needs false (read_postfix c.deref.result.now) (map read_expr c.deref-in-Function.result.now) c.in-Function.at
+    & one (MakesCall c.in-Function.at) = search (rules, expr_layers) in
     let many : c.len.result ≡ length (map read_expr c.deref-in-Function.result.now) = search (rules, running) in
     subst (λ l. Runs g.M.MeetsExprs.meaning l (g.M.MeetsExprs.going c.args.work.now) (g.M.MeetsExprs.going c.makes_call.new.self)) (sym e)
     (runs-both _ _ _ _ _ _ (runs-both _ _ _ _ _ _
@@ -28,8 +28,8 @@ call-returns-in-Function-clause-met g t c =
 pub call-returns-in-Method-clause-met : goal.call-returns-in-Method-clause-met
 call-returns-in-Method-clause-met g t c =
     let e : (read_call c.args.e.now).needs c.args.expected
-        ≡ method_needs (read_postfix c.deref-in-Method.result.now) c.in-Method.method (map read_expr c.deref-in-Method-2.result.now) c.in-Method.at
-        & one (MakesCall c.in-Method.at) = search (rules, expr_layers) in
+    ≡ method_needs (read_postfix c.deref-in-Method.result.now) c.in-Method.method (map read_expr c.deref-in-Method-2.result.now) c.in-Method.at
+    & one (MakesCall c.in-Method.at) = search (rules, expr_layers) in
     let many : c.len-in-Method.result ≡ length (map read_expr c.deref-in-Method-2.result.now) = search (rules, running) in
     subst (λ l. Runs g.M.MeetsExprs.meaning l (g.M.MeetsExprs.going c.args.work.now) (g.M.MeetsExprs.going c.makes_call-in-Method.new.self)) (sym e)
     (runs-both _ _ _ _ _ _ (runs-both _ _ _ _ _ _
