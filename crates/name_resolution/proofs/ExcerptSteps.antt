@@ -10,7 +10,7 @@ use Rattle.descriptors.specs.Described.{Atoms}
 use Rattle.name_resolution.specs.Excerpts.{picked}
 use Rattle.name_resolution.specs.Faults.{AreNamed, all_named, definitions_named}
 use Rattle.name_resolution.specs.MainExcerpt.{FindsFault, FindsNothing, IsMain, IsMainExcerpt, IsOrdered, IsWhether, TellsOf, named_up_to}
-use Rattle.name_resolution.specs.Ordering.{IsOrder}
+use Rattle.graphs.specs.Ordering.{IsOrder}
 use Rattle.name_resolution.specs.Reached.{AreReached, is_reached}
 use Rattle.name_resolution.specs.Resolved.{parts}
 use Rattle.name_resolution.specs.declared.excerpts.Excerpt.{Excerpt}

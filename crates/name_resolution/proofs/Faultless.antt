@@ -7,11 +7,11 @@ use Rattle.std.proofs.lemmas.Bool.{false≢true}
 use Rattle.bal_base.specs.declared.fault.Fault.{Fault}
 use Rattle.checks.specs.Checks.{Gives, refuses, ◌▷◌}
 use Rattle.name_resolution.specs.declared.outlines.Outline.{Outline}
-use Rattle.name_resolution.specs.Cycles.{IsOnCycle, IsWay}
+use Rattle.graphs.specs.Cycles.{IsOnCycle, IsWay}
 use Rattle.name_resolution.specs.Faults.{AreNamed, all_named, definition_fault, definition_named, definitions_named, form_fault, no_cycle, unless}
 use Rattle.name_resolution.specs.Resolved.{first_fault, parts, parts_of}
 use Rattle.name_resolution.proofs.Known.{either-none}
-use Rattle.name_resolution.proofs.Levels.{follows-place}
+use Rattle.graphs.proofs.Levels.{follows-place}
 
 is-there : {X : Type 0} (xs : List X) (n : ℕ) → n < length xs → is_some (slice_get xs n) ≡ true
 is-there [] n lt = absurd (omega (arith, lt))

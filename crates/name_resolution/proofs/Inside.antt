@@ -9,7 +9,7 @@ use Rattle.std.proofs.lemmas.Option.{get_or_from_slice_get, slice_get-get_or, sl
 use Rattle.bal_base.specs.declared.fault.FaultCode.{FaultCode}
 use Rattle.bal_base.specs.declared.fault.FaultCode.TheVariants.{NotPublic, Unknown}
 use Rattle.bal_base.specs.declared.text.Name.{Name}
-use Rattle.name_resolution.specs.Ordering.{IsInside}
+use Rattle.graphs.specs.Ordering.{IsInside}
 use Rattle.name_resolution.specs.Reached.{used_by, uses, uses_of}
 use Rattle.name_resolution.specs.Resolved.{first_defined, if_defined, if_seen, if_stands, is_type, part, parts, parts_of, parts_of_kind, resolved}
 use Rattle.name_resolution.specs.declared.mentions.Mention.{Mention}
@@ -18,8 +18,8 @@ use Rattle.name_resolution.specs.declared.outlines.Kind.{Kind}
 use Rattle.name_resolution.specs.declared.outlines.Kind.TheVariants.{TypeName, Constant, Variable, Function}
 use Rattle.name_resolution.specs.declared.outlines.Outline.{Outline}
 use Rattle.name_resolution.proofs.Known.{one-of}
-use Rattle.name_resolution.proofs.Levels.{follows-place}
-use Rattle.name_resolution.proofs.Noting.{none-among, none-some}
+use Rattle.graphs.proofs.Levels.{follows-place}
+use Rattle.graphs.proofs.Noting.{none-among, none-some}
 use Rattle.name_resolution.proofs.Standing.{found, wrong-ok}
 
 module _ (outlines : List Outline) where

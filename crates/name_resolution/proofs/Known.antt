@@ -19,7 +19,7 @@ use Rattle.bal_tree.specs.declared.package.Package.{Package}
 use Rattle.bal_tree.specs.declared.params.Param.{Param}
 use Rattle.descriptors.specs.declared.names.Source.{Source}
 use Rattle.descriptors.specs.Descriptors.{descriptor_of, descriptor_if}
-use Rattle.name_resolution.specs.Cycles.{Follows}
+use Rattle.graphs.specs.Cycles.{Follows}
 use Rattle.name_resolution.specs.Definitions.{Placed, defines as defines_at, definitions_of, name_of, placed}
 use Rattle.name_resolution.specs.Faults.{AreNamed}
 use Rattle.name_resolution.specs.Mentions.{home_of, mentioned, mentioned_if, use_of}
@@ -30,7 +30,7 @@ use Rattle.name_resolution.specs.declared.mentions.Mention.{Mention}
 use Rattle.name_resolution.specs.declared.mentions.Mention.TheVariants.{Again, Own}
 use Rattle.name_resolution.specs.declared.outlines.Outline.{Outline}
 use Rattle.name_resolution.proofs.Clearing.{clear, if-clear, if-keeps, keeps}
-use Rattle.name_resolution.proofs.Noting.{none-among, none-some, some-same}
+use Rattle.graphs.proofs.Noting.{none-among, none-some, some-same}
 use Rattle.name_resolution.proofs.Placed.{outline_at, outlines-placed}
 
 -- what is wrong with a name, where nothing is

@@ -11,7 +11,7 @@ use Rattle.name_resolution.specs.declared.mentions.Mention.{Mention}
 use Rattle.descriptors.specs.declared.names.Source.{Source}
 use Rattle.descriptors.specs.Descriptors.{Descriptor, FieldOf, in_a_row, fields_in_a_row}
 use Rattle.name_resolution.specs.Mentions.{again_if, mentioned, all_mentioned, fields_mentioned}
-use Rattle.name_resolution.proofs.Rows.{map-more}
+use Rattle.graphs.proofs.Rows.{map-more}
 
 pub same_text-sym : (s t : List ℕ) → is_same_text s t ≡ is_same_text t s
 same_text-sym s t = let d = bytes_decides s t in let e = bytes_decides t s in

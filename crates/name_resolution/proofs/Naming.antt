@@ -8,13 +8,13 @@ use Rattle.bal_base.specs.declared.stop.Stop.TheVariants.{Fault as OwnFault}
 use Rattle.checks.specs.Checks.{Comes, refuses}
 use Rattle.checks.proofs.Steps.{goes_on, stops, some_is}
 use Rattle.name_resolution.specs.declared.outlines.Outline.{Outline}
-use Rattle.name_resolution.specs.Cycles.{IsFirstCycle, IsOnCycle}
+use Rattle.graphs.specs.Cycles.{IsFirstCycle, IsOnCycle}
 use Rattle.std.specs.Option.{option_map}
 use Rattle.descriptors.specs.Described.{Atoms}
-use Rattle.name_resolution.specs.Distances.{IsCycleFound}
+use Rattle.graphs.specs.Cycles.{IsCycleFound}
 use Rattle.name_resolution.specs.Faults.{cycle_fault, definition_fault, definition_named, definitions_named, name_if, names_of, no_cycle, unless}
 use Rattle.name_resolution.specs.Resolved.{parts}
-use Rattle.name_resolution.proofs.Rows.{drop-more, take-more}
+use Rattle.graphs.proofs.Rows.{drop-more, take-more}
 
 abbrev Answer : Type 0
 Answer = Result (Unit {0}) (Stop Fault)

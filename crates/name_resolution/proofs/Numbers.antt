@@ -11,7 +11,7 @@ use Rattle.type_model.specs.Places.{is_same_text}
 use Rattle.name_resolution.specs.declared.outlines.Outline.{Outline}
 use Rattle.name_resolution.specs.Resolved.{defines, first_defined}
 use Rattle.name_resolution.proofs.MentionLoops.{same_text-sym}
-use Rattle.name_resolution.proofs.Rows.{take-more}
+use Rattle.graphs.proofs.Rows.{take-more}
 
 position-push : {X : Type 0} (test : X → Bool) (first : ℕ) (xs : List X) (x : X)
     → position_from test first (xs ++ x ∷ []) ≡ option_or (position_from test first xs) (cond (test x) (Some (first + length xs)) None)

@@ -10,7 +10,7 @@ use Rattle.name_resolution.specs.declared.outlines.Outline.{Outline}
 use Rattle.descriptors.specs.declared.names.Source.{Source}
 use Rattle.descriptors.specs.declared.names.Source.TheVariants.{Library}
 use Rattle.name_resolution.specs.Outlines.{file_outlines, import_source, outlines_from, prefix_of}
-use Rattle.name_resolution.proofs.Rows.{map-more, take-more}
+use Rattle.graphs.proofs.Rows.{map-more, take-more}
 use Rattle.name_resolution.proofs.MentionLoops.{same_text-sym}
 
 -- ---- lists

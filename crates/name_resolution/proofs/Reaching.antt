@@ -2,9 +2,9 @@
 use Rattle.std.proofs.Common.{◌≡◌, ℕ, zero, suc, ◌⊎◌, inl, inr, ◌↔◌, true, false, List, [], ◌∷◌, ◌++◌, get_or, refl, ap, subst, Option, None, Some, Result, Ok, Err, IfOk}
 use Rattle.std.specs.Option.{is_some}
 use Rattle.std.proofs.lemmas.Bool.{false≢true}
-use Rattle.name_resolution.specs.Cycles.{Follows, IsWay}
-use Rattle.name_resolution.specs.Distances.{AreAway, IsReversed, Leads}
-use Rattle.name_resolution.specs.Ordering.{IsInside}
+use Rattle.graphs.specs.Cycles.{Follows, IsWay}
+use Rattle.graphs.specs.Distances.{AreAway, IsReversed, Leads}
+use Rattle.graphs.specs.Ordering.{IsInside}
 use Rattle.name_resolution.specs.Reached.{is_reached}
 
 -- what was answered without a stop

@@ -2,7 +2,7 @@
 use Rattle.std.proofs.Common.{◌≡◌, ℕ, ◌+◌, ◌<◌, ◌≤◌, Bool, true, false, List, length, get_or, drop, sym, ap, ◌∙◌, Option, None, Some, cond}
 use Rattle.std.specs.List.{position_from}
 use Rattle.std.proofs.lemmas.List.{drop_all}
-use Rattle.name_resolution.proofs.Rows.{drop-more}
+use Rattle.graphs.proofs.Rows.{drop-more}
 
 module _ {X : Type 0} (test : X → Bool) (xs : List X) (r : Option ℕ) where
   -- what is sought from the place on is what is sought

@@ -8,8 +8,8 @@ use Rattle.bal_base.specs.declared.text.Name.{Name}
 use Rattle.checks.specs.Checks.{Check, Gives, Refuses, ◌▷◌, gives, refuses}
 use Rattle.name_resolution.specs.declared.outlines.Outline.{Outline}
 use Rattle.name_resolution.specs.declared.named.Graph.{Graph}
-use Rattle.name_resolution.specs.Cycles.{IsFirstCycle, IsOnCycle}
-use Rattle.name_resolution.specs.Distances.{IsReversed}
+use Rattle.graphs.specs.Cycles.{IsFirstCycle, IsOnCycle}
+use Rattle.graphs.specs.Distances.{IsReversed}
 use Rattle.name_resolution.specs.MainForm.{main_name}
 use Rattle.name_resolution.specs.Resolved.{fault_at, first_fault, parts}
 use Rattle.name_resolution.specs.Tables.{IsTableOf}

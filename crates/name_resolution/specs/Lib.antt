@@ -1,14 +1,11 @@
 pub mod Clear
-pub mod Cycles
 pub mod Definitions
-pub mod Distances
 pub mod Excerpts
 pub mod Faults
 pub mod MainExcerpt
 pub mod MainForm
 pub mod Mentions
 pub mod Named
-pub mod Ordering
 pub mod Outlines
 pub mod Reached
 pub mod Resolved

@@ -10,7 +10,7 @@ use Rattle.descriptors.specs.Described.{Atoms}
 use Rattle.name_resolution.specs.Excerpts.{picked}
 use Rattle.name_resolution.specs.Faults.{all_named, definitions_named}
 use Rattle.name_resolution.specs.MainForm.{main_name}
-use Rattle.name_resolution.specs.Ordering.{IsOrder}
+use Rattle.graphs.specs.Ordering.{IsOrder}
 use Rattle.name_resolution.specs.Reached.{AreReached, is_reached}
 use Rattle.name_resolution.specs.Resolved.{parts}
 use Rattle.name_resolution.specs.declared.excerpts.Excerpt.{Excerpt}

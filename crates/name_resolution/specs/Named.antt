@@ -12,7 +12,7 @@ use Rattle.bal_tree.specs.declared.params.Param.{Param}
 use Rattle.descriptors.specs.declared.names.Source.{Source}
 use Rattle.descriptors.specs.Descriptors.{descriptor_of, descriptor_if}
 use Rattle.name_resolution.specs.Clear.{IsClear, IsClearIf}
-use Rattle.name_resolution.specs.Cycles.{Follows}
+use Rattle.graphs.specs.Cycles.{Follows}
 use Rattle.name_resolution.specs.Definitions.{Placed, defines, is_public, name_of}
 use Rattle.name_resolution.specs.Mentions.{home_of}
 use Rattle.name_resolution.specs.Outlines.{import_source, outlines_of}

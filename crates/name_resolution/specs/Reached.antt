@@ -5,7 +5,7 @@ use Rattle.std.specs.Option.{is_some}
 use Rattle.name_resolution.specs.declared.mentions.Mention.{Mention}
 use Rattle.name_resolution.specs.declared.mentions.Mention.TheVariants.{Use, Again, Own}
 use Rattle.name_resolution.specs.declared.outlines.Outline.{Outline}
-use Rattle.name_resolution.specs.Cycles.{IsWay}
+use Rattle.graphs.specs.Cycles.{IsWay}
 use Rattle.name_resolution.specs.Resolved.{if_stands, resolved}
 
 module _ (outlines : List Outline) where

@@ -5,12 +5,11 @@
 //! - [`main_excerpt`]: where there is one, what the function `main` reaches, if that is without fault and stands before it.
 //! - `outlines` and `mentions`: definitions, each with what it mentions of names; `table`: names by module.
 //! - `main_form` over `string_words` and `results`: what is seen of the function `main` where it is written.
-//! - `faults`: what a name stands for, and what is wrong with a mention; `cycles` over `distances`: types that are their
-//!   own parts; `order`: that there are none, by an order; `named`: the definitions one after another.
+//! - `faults`: what a name stands for, and what is wrong with a mention; `named`: the definitions one after another.
 //! - `excerpts` over `reached`: what `main` reaches.
 //!
 //! `specs/Outlines.antt` says what the definitions of a package say of names, `specs/Resolved.antt` what the names of types stand
-//! for, `specs/Cycles.antt` which cycle is the first of the shortest, and `specs/Faults.antt` which fault comes first;
+//! for, and `specs/Faults.antt` which fault comes first;
 //! `specs/MainForm.antt` says what is seen of `main` where it is written.
 //! `specs/Named.antt` says what is so of each definition where there is none. `specs/Reached.antt` says what a definition reaches,
 //! `specs/Excerpts.antt` which packages have some of the definitions of another one, and `specs/MainExcerpt.antt` where `main`
@@ -22,18 +21,15 @@ ghost use Rattle.checks.specs.Checks.{Comes};
 ghost use Rattle.descriptors.specs.Described.{Atoms};
 ghost use Rattle.name_resolution.specs.Faults.{AreNamed, all_named};
 ghost use Rattle.name_resolution.specs.MainExcerpt.{IsMainExcerpt};
-ghost use Rattle.name_resolution.specs.Ordering.{IsOrder};
+ghost use Rattle.graphs.specs.Ordering.{IsOrder};
 ghost use Rattle.name_resolution.specs.Outlines.{outlines_of};
 ghost use Rattle.name_resolution.specs.Resolved.{parts};
 
-mod cycles;
-mod distances;
 mod excerpts;
 mod faults;
 mod main_form;
 mod mentions;
 mod named;
-mod order;
 mod outlines;
 mod reached;
 mod results;

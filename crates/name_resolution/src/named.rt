@@ -4,21 +4,20 @@ ghost use Rattle.std.specs.List.{flat_map};
 ghost use Rattle.std.specs.Option.{option_map};
 ghost use Rattle.checks.specs.Checks.{Comes};
 ghost use Rattle.descriptors.specs.Described.{Atoms};
-ghost use Rattle.name_resolution.specs.Cycles.{IsOnCycle};
-ghost use Rattle.name_resolution.specs.Distances.{IsCycleFound, IsReversed};
+ghost use Rattle.graphs.specs.Cycles.{IsOnCycle};
+ghost use Rattle.graphs.specs.Cycles.{IsCycleFound};
+ghost use Rattle.graphs.specs.Distances.{IsReversed};
 ghost use Rattle.name_resolution.specs.Faults.{AreNamed, IsGraphOf, all_named, cycle_fault as cycle_fault_of, definition_fault, definition_named, definitions_named, name_if, unless};
-ghost use Rattle.name_resolution.specs.Ordering.{IsOrder};
+ghost use Rattle.graphs.specs.Ordering.{IsOrder};
 ghost use Rattle.name_resolution.specs.Resolved.{part as part_of, parts as parts_by_number, parts_of as parts_of_outline};
 ghost use Rattle.name_resolution.specs.Tables.{IsTableOf};
 
-use crate::cycles::first_cycle;
-use crate::distances::reversed;
 use crate::faults::Resolver;
 use crate::mentions::Mention;
-use crate::order::{has_no_cycle, parts_first};
 use crate::outlines::{Kind, Outline};
 use crate::table::NameTable;
 use bal_base::{Fault, FaultCode, Kept, Memory, Name, NameList, Stop};
+use graphs::{first_cycle, has_no_cycle, parts_first, reversed};
 use std::alloc::Global;
 
 /// The names of definitions, and by the definitions' numbers those that are parts of each, and those of which each is a part.

@@ -3,13 +3,12 @@ ghost use Rattle.std.specs.Prelude.{◌≡◌, ◌<◌, ◌++◌, IfOk, OnOk, le
 ghost use Rattle.name_resolution.specs.Reached.{AreReached, is_reached as is_reached_by, used_by, uses as uses_by_number, uses_of as uses_of_outline};
 ghost use Rattle.name_resolution.specs.Tables.{IsTableOf};
 
-use crate::cycles::distance;
-use crate::distances::distances;
 use crate::faults::Resolver;
 use crate::mentions::Mention;
 use crate::outlines::Outline;
 use crate::table::NameTable;
 use bal_base::Memory;
+use graphs::{distance, distances};
 use std::alloc::Global;
 
 /// How many steps lead from one definition to each, where any do: each step to one that stands under a name in a descriptor.

@@ -13,7 +13,7 @@ use Rattle.name_resolution.specs.Definitions.{definitions_of}
 use Rattle.name_resolution.specs.Excerpts.{picked}
 use Rattle.name_resolution.specs.Faults.{AreNamed as HaveNames, all_named}
 use Rattle.name_resolution.specs.MainExcerpt.{FindsFault, IsExcerptFrom, IsMainExcerpt, FindsNothing, chosen_named}
-use Rattle.name_resolution.specs.Ordering.{IsOrder}
+use Rattle.graphs.specs.Ordering.{IsOrder}
 use Rattle.name_resolution.specs.Outlines.{outlines_of}
 use Rattle.name_resolution.specs.Reached.{is_reached}
 use Rattle.name_resolution.specs.Resolved.{parts}

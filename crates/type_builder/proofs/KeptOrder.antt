@@ -20,10 +20,10 @@ use Rattle.descriptors.specs.declared.names.OwnTypes.{OwnTypes}
 use Rattle.descriptors.specs.Descriptors.{descriptor_of}
 use Rattle.descriptors.specs.Drafts.{next_of}
 use Rattle.name_resolution.specs.Clear.{IsClear}
-use Rattle.name_resolution.specs.Cycles.{Follows}
+use Rattle.graphs.specs.Cycles.{Follows}
 use Rattle.name_resolution.specs.Definitions.{Placed, definitions_of, scope_at}
 use Rattle.name_resolution.specs.Named.{IsClearDef, IsKnownPart}
-use Rattle.name_resolution.specs.Ordering.{IsOrder}
+use Rattle.graphs.specs.Ordering.{IsOrder}
 use Rattle.name_resolution.specs.Outlines.{outlines_of}
 use Rattle.name_resolution.specs.Resolved.{parts}
 use Rattle.name_resolution.proofs.Known.{apart-placed, known}

@@ -30,7 +30,7 @@ use Rattle.descriptors.specs.declared.names.Meaning.TheVariants.{TypeName}
 use Rattle.descriptors.specs.declared.names.Names.{Names}
 use Rattle.descriptors.specs.declared.names.OwnTypes.{OwnTypes}
 use Rattle.descriptors.specs.Naming.{as_type, entry_in, home_of, if_defined, if_imported, type_named, its_type}
-use Rattle.name_resolution.specs.Cycles.{Follows}
+use Rattle.graphs.specs.Cycles.{Follows}
 use Rattle.name_resolution.specs.Definitions.{Placed, defines, definitions_of, is_public}
 use Rattle.name_resolution.specs.Named.{gives_type}
 use Rattle.name_resolution.specs.Outlines.{outlines_of}

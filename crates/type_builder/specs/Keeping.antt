@@ -8,7 +8,7 @@ use Rattle.descriptors.specs.declared.names.Entry.{Entry}
 use Rattle.descriptors.specs.declared.names.Meaning.TheVariants.{TypeName}
 use Rattle.descriptors.specs.declared.names.Names.{Names}
 use Rattle.descriptors.specs.declared.names.OwnTypes.{OwnTypes}
-use Rattle.name_resolution.specs.Cycles.{Follows}
+use Rattle.graphs.specs.Cycles.{Follows}
 use Rattle.name_resolution.specs.Outlines.{outlines_of}
 use Rattle.name_resolution.specs.Resolved.{parts}
 use Rattle.name_resolution.specs.Definitions.{Placed, definitions_of}

@@ -7,7 +7,7 @@ ghost use Rattle.std.specs.List.{AllZip};
 ghost use Rattle.bal_tree.specs.declared.package.Package.{Package as Whole};
 ghost use Rattle.name_resolution.specs.Definitions.{definitions_of};
 ghost use Rattle.name_resolution.specs.Excerpts.{IsSameModule};
-ghost use Rattle.name_resolution.specs.Ordering.{IsOrder};
+ghost use Rattle.graphs.specs.Ordering.{IsOrder};
 ghost use Rattle.name_resolution.specs.Outlines.{outlines_of};
 ghost use Rattle.name_resolution.specs.Resolved.{parts};
 ghost use Rattle.type_builder.specs.Building.{defines_all};

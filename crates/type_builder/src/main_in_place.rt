@@ -6,7 +6,7 @@ ghost use Rattle.checks.specs.Checks.{Comes};
 ghost use Rattle.descriptors.specs.Steps.{AreOwnTypes};
 ghost use Rattle.name_resolution.specs.Definitions.{definitions_of};
 ghost use Rattle.name_resolution.specs.Excerpts.{IsExcerpt, IsSameModule};
-ghost use Rattle.name_resolution.specs.Ordering.{IsOrder};
+ghost use Rattle.graphs.specs.Ordering.{IsOrder};
 ghost use Rattle.name_resolution.specs.Outlines.{outlines_of};
 ghost use Rattle.name_resolution.specs.Reached.{is_reached};
 ghost use Rattle.name_resolution.specs.Resolved.{parts};

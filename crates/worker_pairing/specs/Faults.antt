@@ -23,7 +23,7 @@ use Rattle.typed_tree.specs.declared.event.Pair.{Pair}
 use Rattle.typed_tree.specs.declared.event.Plan.{Plan}
 use Rattle.checks.specs.Checks.{Check, Gives, Refuses, gives, gives_some, refuses, either, ◌▷◌}
 use Rattle.checks.specs.Questions.{IsFault, IsTooLarge, is_below}
-use Rattle.name_resolution.specs.Cycles.{IsFirstCycle, IsOnCycle}
+use Rattle.graphs.specs.Cycles.{IsFirstCycle, IsOnCycle}
 use Rattle.worker_pairing.specs.Events.{Crew, IsNumbering, Needs, before, count, is_message, receives_from, sends_to}
 use Rattle.worker_pairing.specs.Marks.{Member, Members, Numbered, Returning, in_text, kinds}
 

@@ -1,6 +1,6 @@
 use Rattle.std.proofs.Common.{◌∙◌, ℕ, ap, map, subst, sym, None, Some}
 use Rattle.checks.proofs.Steps.{ran_out}
-use Rattle.name_resolution.specs.Cycles.{IsOnCycle}
+use Rattle.graphs.specs.Cycles.{IsOnCycle}
 use Rattle.name_resolution.specs.Faults.{cycle_fault, definition_named}
 use Rattle.name_resolution.specs.Resolved.{parts}
 use Rattle.name_resolution.proofs.Naming.{acyclic, cyclic, found-as}

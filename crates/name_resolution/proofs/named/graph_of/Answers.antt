@@ -1,7 +1,7 @@
 use Rattle.std.proofs.Common.{◌∙◌, ℕ, ap, subst, sym, map}
-use Rattle.name_resolution.specs.Cycles.{IsOnCycle}
-use Rattle.name_resolution.specs.Distances.{IsReversed}
-use Rattle.name_resolution.specs.Ordering.{IsInside}
+use Rattle.graphs.specs.Cycles.{IsOnCycle}
+use Rattle.graphs.specs.Distances.{IsReversed}
+use Rattle.graphs.specs.Ordering.{IsInside}
 use Rattle.name_resolution.proofs.Inside.{parts-inside}
 use Rattle.name_resolution.proofs.named.graph_of.Goals as goal
 

@@ -1,5 +1,5 @@
 use Rattle.std.proofs.Common.{◌∙◌, ap, map, subst, sym, IfNone}
-use Rattle.name_resolution.specs.Ordering.{HasCycle, IsInside}
+use Rattle.graphs.specs.Ordering.{HasCycle, IsInside}
 use Rattle.name_resolution.proofs.Inside.{parts-inside}
 use Rattle.name_resolution.proofs.named.in_order.Goals as goal
 

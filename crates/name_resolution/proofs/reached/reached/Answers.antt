@@ -1,10 +1,10 @@
 use Rattle.std.proofs.Common.{◌≡◌, ◌∙◌, ◌<◌, map, length, ap, sym, subst, arith}
 use Rattle.std.proofs.lemmas.List.{length-map}
-use Rattle.name_resolution.specs.Distances.{AreAway, IsReversed}
+use Rattle.graphs.specs.Distances.{AreAway, IsReversed}
 use Rattle.name_resolution.specs.Reached.{AreReached, is_reached, uses, uses_of}
 use Rattle.name_resolution.proofs.Inside.{uses-inside}
 use Rattle.name_resolution.proofs.Reaching.{are-reached, if-ok}
-use Rattle.name_resolution.proofs.TurnedRound.{has-reversed, turned-back}
+use Rattle.graphs.proofs.TurnedRound.{has-reversed, turned-back}
 use Rattle.name_resolution.proofs.reached.reached.Goals as goal
 
 pub distances-requires : goal.distances-requires

@@ -1,7 +1,7 @@
 use Rattle.std.proofs.Common.{◌∙◌, length, ap, sym, subst}
 use Rattle.checks.proofs.Steps.{ran_out}
 use Rattle.name_resolution.proofs.Excerpting.{same-module}
-use Rattle.name_resolution.specs.Ordering.{IsOrder}
+use Rattle.graphs.specs.Ordering.{IsOrder}
 use Rattle.name_resolution.specs.Outlines.{outlines_of}
 use Rattle.name_resolution.specs.Resolved.{parts}
 use Rattle.type_builder.proofs.Built.{comes-handed}

@@ -1,5 +1,5 @@
 use Rattle.std.proofs.Common.{◌∙◌, length, sym, ap, subst, Ok, Err}
-use Rattle.name_resolution.specs.Ordering.{IsOrder}
+use Rattle.graphs.specs.Ordering.{IsOrder}
 use Rattle.name_resolution.specs.Outlines.{outlines_of}
 use Rattle.name_resolution.specs.Resolved.{parts}
 use Rattle.type_builder.specs.Listing.{IsListing}

@@ -1,0 +1,4 @@
+pub mod Cycles
+pub mod Distances
+pub mod inner
+pub mod Ordering

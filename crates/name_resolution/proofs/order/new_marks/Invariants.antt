@@ -1,6 +1,0 @@
-use Rattle.std.proofs.Common.{◌≡◌, replicate}
-use Rattle.name_resolution.specs.declared.order.Mark.TheVariants.{New}
-use Rattle.name_resolution.proofs.order.new_marks.Given as goal
-
-abbrev pub invariant-loop : goal.invariant-loop
-invariant-loop l = l.marks.items ≡ replicate l.counter New
