@@ -1,6 +1,6 @@
 -- The state before the first pick is good: a heap with the words of a run, if main takes them, and strand 0 at its first unit.
-use Rattle.std.proofs.Common.{◌≡◌, ◌+◌, ◌∙◌, ℕ, zero, suc, true, false, List, [], ◌∷◌, ◌++◌, Option, Some, None, inl, inr, length, map, refl, sym, ap, subst, arith}
-use Rattle.std.proofs.lemmas.List.{append-nil, length-append}
+use Rattle.std.proofs.Common.{◌≡◌, ◌+◌, ◌∙◌, ℕ, zero, suc, true, false, List, [], ◌∷◌, ◌++◌, Option, Some, None, inl, inr, length, map, refl, sym, ap, subst, arith, ◌<◌, ◌^◌}
+use Rattle.std.proofs.lemmas.List.{append-nil, length-append, length-map}
 use Rattle.std.proofs.lemmas.List.Elements.{All-append, All-contains, All-head, All-map, All-tail}
 use Rattle.std.specs.Prelude.{◌⊎◌, ◌↔◌, ◌==◌, All, Contains, IsFalse, IsSomeAnd, IsTrue, get_or, if◌then◌else◌, option_map, option_to_list, slice_get}
 use Rattle.std.specs.Ptr.{null_ptr}
@@ -24,10 +24,10 @@ use Rattle.value_model.specs.Stands.{BelongsIf, MembersBelong}
 use Rattle.value_model.specs.Valid.{AreValidMembers, IsValidValue}
 use Rattle.run_model.specs.Common.{Common, IsActive, IsBlocked, Need, Strand}
 use Rattle.run_model.specs.Strands.{has_ended, met}
-use Rattle.run_model.specs.Rows.{new_structure}
+use Rattle.run_model.specs.Rows.{new_structure, size_of}
 use Rattle.machine_model.specs.Keeping.{IsIdle}
 use Rattle.machine_model.specs.Machine.{Frame, Launch, State, words_of}
-use Rattle.machine_model.specs.Runs.{Picking, begins_with, first_common, first_world, main_arguments}
+use Rattle.machine_model.specs.Runs.{Picking, begins_with, first_common, first_world, main_arguments, AreWords}
 use Rattle.machine_model.proofs.Once.{some-same}
 use Rattle.stack_code.specs.declared.code.Code.{Code}
 use Rattle.stack_code.specs.declared.code.Unit.{Unit as CodeUnit}
@@ -79,9 +79,10 @@ module _ (code : Code) (c : Common) (input : List ℕ) (texts : List Text) where
             functions = all-none _;
             valid = record { members = all-none _; messages = all-none _; captured = all-none _ };
             closed = record { members = all-none _; details = all-none _; causes = all-none _; captured = all-none _ };
+            short = all-none _;
           }
 
-  module _ (words : ℕ) (known : IsInherent code words) (rest : Option Ty) (is : slice_get code.atoms words ≡ Some (ListAtom [] rest)) (strings : IsSomeAnd rest (λ t. (x : Shape) → IsValid x → (In code.atoms x t.sem ↔ IsString x))) (ok : All IsText texts) where
+  module _ (words : ℕ) (known : IsInherent code words) (rest : Option Ty) (is : slice_get code.atoms words ≡ Some (ListAtom [] rest)) (strings : IsSomeAnd rest (λ t. (x : Shape) → IsValid x → (In code.atoms x t.sem ↔ IsString x))) (ok : AreWords texts) where
     abbrev list : Structure
     list = new_structure (Some words) true (Items (map Str texts))
 
@@ -112,7 +113,7 @@ module _ (code : Code) (c : Common) (input : List ℕ) (texts : List Text) where
         by (Some r) h = (constant-fits code d all-closed (StrConstant t) text (Some r.sem) (λ x valid e. (h x valid).1 (subst IsString (sym e) tt))).0.2
 
     list-belongs : MembersBelong (code_types code) d.world.heap list.members (ListAtom [] rest)
-    list-belongs = (omega arith, λ i v e. each texts ok i v e)
+    list-belongs = (omega arith, λ i v e. each texts ok.0 i v e)
       where
         each : (ts : List Text) → All IsText ts → (i : ℕ) (v : Value) → slice_get (map Str ts) i ≡ Some v → BelongsIf (code_types code) d.world.heap v rest
         each [] texts i v e = absurd (let q : ⊥ = cc in q)
@@ -127,10 +128,11 @@ module _ (code : Code) (c : Common) (input : List ℕ) (texts : List Text) where
             record {
               mutable = all-one (IsWithinAtom code d) list (λ m. (known, (empty-list, (λ f. absurd (let q : ⊥ = cc in q), tt), refl, empty-in), at-some _ (slice_get code.atoms words) (ListAtom [] rest) is list-belongs));
               immutable = ((λ n s e f. absurd (only n s e f)), (λ n l. absurd (omega (arith, l))));
-              members = all-one (λ s. All (IsMade code d) (values_of s.members)) list (All-map (IsMade code d) Str texts (λ k t l. (tt, ok k t l, tt)));
+              members = all-one (λ s. All (IsMade code d) (values_of s.members)) list (All-map (IsMade code d) Str texts (λ k t l. (tt, ok.0 k t l, tt)));
               functions = all-none _;
-              valid = record { members = all-one (λ s. AreValidMembers s.members) list (All-map IsValidValue Str texts ok); messages = all-none _; captured = all-none _ };
+              valid = record { members = all-one (λ s. AreValidMembers s.members) list (All-map IsValidValue Str texts ok.0); messages = all-none _; captured = all-none _ };
               closed = all-closed;
+              short = all-one (λ s. size_of s.members < 2 ^ 63) list (subst (λ n. n < 2 ^ 63) (sym (length-map texts Str)) ok.1);
             }
           where
             only : (n : ℕ) (s : Structure) → slice_get (list ∷ []) n ≡ Some s → IsFalse s.mutable → ⊥

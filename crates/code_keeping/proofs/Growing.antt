@@ -1,5 +1,5 @@
 -- A heap that grows: what is new in it is good, and so is all that is shared.
-use Rattle.std.proofs.Common.{◌≡◌, ◌<◌, ◌≤◌, ◌+◌, ◌∙◌, ℕ, zero, suc, Bool, true, false, List, [], ◌∷◌, ◌++◌, Option, Some, None, inl, inr, length, map, refl, sym, ap, subst, arith}
+use Rattle.std.proofs.Common.{◌≡◌, ◌<◌, ◌≤◌, ◌+◌, ◌∙◌, ℕ, zero, suc, Bool, true, false, List, [], ◌∷◌, ◌++◌, Option, Some, None, inl, inr, length, map, refl, sym, ap, subst, arith, ◌^◌}
 use Rattle.std.proofs.lemmas.Bool.{leb-true}
 use Rattle.std.proofs.lemmas.List.Elements.{All-head, All-tail}
 use Rattle.std.proofs.lemmas.Option.{slice_get_within}
@@ -26,7 +26,7 @@ use Rattle.value_model.proofs.Stability.{HasShape-stable, stable}
 use Rattle.run_model.specs.Common.{AllEnded, AnyGiven, Common, Message, Need, Received, Role}
 use Rattle.run_model.specs.Effects.{lifted, with_world}
 use Rattle.run_model.specs.Limits.{most_cells}
-use Rattle.run_model.specs.Rows.{within}
+use Rattle.run_model.specs.Rows.{within, size_of}
 use Rattle.run_model.specs.Strands.{end_in, met}
 use Rattle.machine_model.specs.Runs.{Phase, Running}
 use Rattle.stack_code.specs.declared.code.Code.{Code}
@@ -92,6 +92,7 @@ module _ (code : Code) (c : Common) (w : World) (good : GoodHeap code c) (grows 
     pub frozen : IsFalse s.mutable → (x : Shape) × IsValid x × HasShape new x (Struct n)
     pub made : All (IsMade code d) (values_of s.members)
     pub valid : AreValidMembers s.members
+    pub short : size_of s.members < 2 ^ 63
 
   pub record IsNewError (n : ℕ) (e : ErrorObject) : Type 0 where
     pub message : IsText e.message
@@ -224,6 +225,7 @@ module _ (code : Code) (c : Common) (w : World) (good : GoodHeap code c) (grows 
             captured = all-from (λ f. All IsValidValue f.captured) new.functions (λ n f e. captured-of f (within-old n f (grown.functions n f e)));
           };
           closed = closed;
+          short = all-from (λ s. size_of s.members < 2 ^ 63) new.structures (λ n s e. short-of n s (grown.structures n s e));
         }
       where
         mutable-of : (n : ℕ) (s : Structure) → (slice_get old.structures n ≡ Some s) ⊎ IsNewStructure n s → IsWithinAtom code d s
@@ -237,6 +239,10 @@ module _ (code : Code) (c : Common) (w : World) (good : GoodHeap code c) (grows 
         valid-of : (n : ℕ) (s : Structure) → (slice_get old.structures n ≡ Some s) ⊎ IsNewStructure n s → AreValidMembers s.members
         valid-of n s (inl e) = all-at (λ s. AreValidMembers s.members) old.structures n s good.valid.members e
         valid-of n s (inr is) = is.valid
+
+        short-of : (n : ℕ) (s : Structure) → (slice_get old.structures n ≡ Some s) ⊎ IsNewStructure n s → size_of s.members < 2 ^ 63
+        short-of n s (inl e) = all-at (λ s. size_of s.members < 2 ^ 63) old.structures n s good.short e
+        short-of n s (inr is) = is.short
 
         message-of : (n : ℕ) (e : ErrorObject) → (slice_get old.errors n ≡ Some e) ⊎ IsNewError n e → IsText e.message
         message-of n e (inl is) = all-at (λ e. IsText e.message) old.errors n e good.valid.messages is

@@ -1,5 +1,5 @@
 -- An error of a panic is made: all that is shared stays good, and nothing else changes.
-use Rattle.std.proofs.Common.{◌≡◌, ◌<◌, ◌+◌, ℕ, zero, suc, Bool, true, false, List, [], ◌∷◌, ◌++◌, Option, Some, None, inl, inr, length, map, refl, sym, ap, subst, arith}
+use Rattle.std.proofs.Common.{◌≡◌, ◌<◌, ◌+◌, ℕ, zero, suc, Bool, true, false, List, [], ◌∷◌, ◌++◌, Option, Some, None, inl, inr, length, map, refl, sym, ap, subst, arith, ◌^◌}
 use Rattle.std.proofs.lemmas.List.{append-nil, length-append}
 use Rattle.std.proofs.lemmas.List.Elements.{All-append, All-head, All-tail}
 use Rattle.std.proofs.lemmas.Option.{slice_get_within}
@@ -27,7 +27,7 @@ use Rattle.value_model.proofs.Stability.{HasShape-stable, stable}
 use Rattle.run_model.specs.Common.{AllEnded, AnyGiven, Common, Message, Need, Received, Role}
 use Rattle.run_model.specs.Effects.{lifted, with_world}
 use Rattle.run_model.specs.Limits.{most_cells}
-use Rattle.run_model.specs.Rows.{makes_error, new_structure, next_error, panics}
+use Rattle.run_model.specs.Rows.{makes_error, new_structure, next_error, panics, size_of}
 use Rattle.run_model.specs.Strands.{end_in}
 use Rattle.machine_model.specs.Runs.{Running}
 use Rattle.stack_code.specs.declared.code.Code.{Code}
@@ -214,6 +214,7 @@ module _ (code : Code) (c : Common) (message : Text) (valid : IsText message) (g
           captured = good.valid.captured;
         };
         closed = closed good.closed;
+        short = All-append (λ s. size_of s.members < 2 ^ 63) h.structures (detail ∷ []) good.short (all-one (λ s. size_of s.members < 2 ^ 63) detail (omega arith));
       }
 
   pub error-made : IsMadeError code d (Error (length h.errors))

@@ -193,6 +193,7 @@ module _ (code : Code) (c : Common) where
         functions = all-to (IsWithinUnit code c) (IsWithinUnit code z) (λ f k. (k.0, some-to (λ u. AllFit code c f.captured u.captured) (λ u. AllFit code z f.captured u.captured) (slice_get code.units f.unit) (λ u m. all-later code None c z l f.captured u.captured m) k.1)) c.world.heap.functions h.functions;
         valid = h.valid;
         closed = h.closed;
+        short = h.short;
       }
 
   many : length z.strands ≡ length c.strands

@@ -2,9 +2,8 @@
 -- machines keep holds of code.
 use Rattle.std.proofs.Common.{◌≡◌, ◌≢◌, ◌∙◌, ◌+◌, ℕ, zero, suc, true, false, List, [], ◌∷◌, ◌++◌, Option, Some, None, inl, inr, refl, sym, ap, subst}
 use Rattle.std.proofs.lemmas.Option.{unwrap_or-slice_get}
-use Rattle.std.specs.Prelude.{IsSomeAnd, IsTrue, ◌⊎◌, All, get_or, is_some, slice_get, unwrap_or}
+use Rattle.std.specs.Prelude.{IsSomeAnd, IsTrue, ◌⊎◌, get_or, is_some, slice_get, unwrap_or}
 use Rattle.bal_base.specs.declared.text.Text.{Text}
-use Rattle.bal_base.specs.Valid.{IsText}
 use Rattle.operations.specs.declared.operation.Operation.{Operation}
 use Rattle.operations.specs.declared.operation.Operation.TheVariants as op
 use Rattle.operations.specs.Structures.{AwaitsAny}
@@ -16,7 +15,7 @@ use Rattle.run_model.specs.Local.{Local, acts, captured_from, captures, futures_
 use Rattle.run_model.specs.Strands.{end_in, has_ended, no_strand, strand_at}
 use Rattle.machine_model.specs.Keeping.{FramesFit, IsIdle}
 use Rattle.machine_model.specs.Machine.{Does, Frame, State, asks, captured_slots}
-use Rattle.machine_model.specs.Runs.{IsReached, Phase, Picking, Running}
+use Rattle.machine_model.specs.Runs.{AreWords, IsReached, Phase, Picking, Running}
 use Rattle.machine_model.specs.Strands.{StartsOnce, WaitsForSome, frames_in}
 use Rattle.machine_model.proofs.HoldOfStrands.{hold-of-strands}
 use Rattle.machine_model.proofs.Keeping.{kept-holds}
@@ -165,7 +164,7 @@ typed-at code c f t fits o ec =
 pub strands-of-code-hold : (natives : Answers) → StrandsOfCodeHold natives
 strands-of-code-hold natives code fillers t kept = hold-of-strands natives (codes fillers code) starts waits
   where
-    top-fits : (words : List Text) (input : List ℕ) (ticks : ℕ) (s : State Standing) (f : Frame Standing) (fs : List (Frame Standing)) → All IsText words → IsReached natives (codes fillers code) words input ticks Running s → s.frames ≡ f ∷ fs → TopFits code s.common f
+    top-fits : (words : List Text) (input : List ℕ) (ticks : ℕ) (s : State Standing) (f : Frame Standing) (fs : List (Frame Standing)) → AreWords words → IsReached natives (codes fillers code) words input ticks Running s → s.frames ≡ f ∷ fs → TopFits code s.common f
     top-fits words input ticks s f fs texts reached frames =
         let state = kept-holds natives (codes fillers code) (code_invariant code) kept words input ticks Running s texts reached in
         (subst (λ l. FramesFit (code_invariant code) s.common s.common.running l) frames state.frames.0).0

@@ -1,7 +1,6 @@
 -- What steps of well-typed code keep, as laws.
-use Rattle.std.specs.Prelude.{◌≡◌, ◌⊎◌, ◌<◌, ◌+◌, ℕ, Bool, List, [], ◌∷◌, Option, Some, All, IsTrue, length, slice_get, ⊤}
+use Rattle.std.specs.Prelude.{◌≡◌, ◌⊎◌, ◌<◌, ◌+◌, ℕ, Bool, List, [], ◌∷◌, Option, Some, IsTrue, length, slice_get, ⊤}
 use Rattle.bal_base.specs.declared.text.Text.{Text}
-use Rattle.bal_base.specs.Valid.{IsText}
 use Rattle.type_model.specs.declared.basic.SemType.{SemType}
 use Rattle.operations.specs.declared.operation.Constant.{Constant}
 use Rattle.operations.specs.declared.operation.Operation.{Operation}
@@ -23,7 +22,7 @@ use Rattle.run_model.specs.Strands.{channel_at, settled, with_channel, worker_en
 use Rattle.machine_model.specs.Following.{EndsFrame}
 use Rattle.machine_model.specs.Keeping.{AreApart, AskFits, Caught, IsKept}
 use Rattle.machine_model.specs.Machine.{Ask, Does, Frame, On, State, Stuck, goes_to}
-use Rattle.machine_model.specs.Runs.{IsReached, Phase, Picking, Running, start}
+use Rattle.machine_model.specs.Runs.{AreWords, IsReached, Phase, Picking, Running, start}
 use Rattle.machine_model.specs.Strands.{StrandsHold}
 use Rattle.stack_code.specs.declared.code.Code.{Code}
 use Rattle.stack_code.specs.declared.code.Unit.{Unit as CodeUnit}
@@ -47,7 +46,7 @@ use Rattle.code_keeping.specs.Rows.{Comes, NamesWell, RowComes, RowKeeps}
 abbrev pub StartsWell : Type 0
 StartsWell =
     (code : Code) (fillers : ℕ → List Filler) (words : List Text) (input : List ℕ) (ticks : ℕ) (s : State Standing) →
-    WellTyped code → All IsText words → start (codes fillers code) words input ticks ≡ Some s → Good code Picking s
+    WellTyped code → AreWords words → start (codes fillers code) words input ticks ≡ Some s → Good code Picking s
 
 -- ---- what a frame does by itself
 
@@ -265,12 +264,12 @@ SettlingKeeps =
 abbrev pub StrandsOfCodeHold : Answers → Type 0
 StrandsOfCodeHold natives =
     (code : Code) (fillers : ℕ → List Filler) → WellTyped code → IsKept natives (codes fillers code) (code_invariant code) →
-    (words : List Text) (input : List ℕ) (ticks : ℕ) (phase : Phase) (s : State Standing) → All IsText words →
+    (words : List Text) (input : List ℕ) (ticks : ℕ) (phase : Phase) (s : State Standing) → AreWords words →
     IsReached natives (codes fillers code) words input ticks phase s → StrandsHold natives (codes fillers code) phase s
 
 -- and so each state that is reached is good
 abbrev pub ReachedAreGood : Answers → Type 0
 ReachedAreGood natives =
     (code : Code) (fillers : ℕ → List Filler) → WellTyped code → IsKept natives (codes fillers code) (code_invariant code) →
-    (words : List Text) (input : List ℕ) (ticks : ℕ) (phase : Phase) (s : State Standing) → All IsText words →
+    (words : List Text) (input : List ℕ) (ticks : ℕ) (phase : Phase) (s : State Standing) → AreWords words →
     IsReached natives (codes fillers code) words input ticks phase s → Good code phase s

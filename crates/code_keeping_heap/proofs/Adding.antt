@@ -110,6 +110,7 @@ module _ (code : Code) (c : Common) (good : GoodCommon code c Running) (atom : â
           frozen = Î» f. let (x, valid, stands, inside) = fine.frozen small (of-not immutable f) in (x, valid, stands);
           made = all-to (IsMade code c) (IsMade code d) (made-there code c world-then good.nearly.heap grows) (values_of members) fine.made;
           valid = fine.valid;
+          short = short small;
         }
 
     grown : IsGrown code c world-then good.nearly.heap grows

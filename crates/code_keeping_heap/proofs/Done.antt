@@ -28,9 +28,9 @@ constructors-are-done natives fillers = (
 )
 
 pub reads-are-done : (natives : Answers) → ReadsAreDone natives
-reads-are-done natives fillers code c t short = (
-  row-done-at natives fillers code c t op.GetItem refl (λ e. e) (takes-all 2 op.GetItem (λ captured l. refl) (λ code place os r typed. two-long os _ typed)) (λ u station names. get-item fillers natives code t c short (surroundings code u station)),
-  row-done-at natives fillers code c t op.GetKey refl (λ e. e) (takes-all 2 op.GetKey (λ captured l. refl) (λ code place os r typed. two-long os _ typed)) (λ u station names. get-key fillers natives code t c short (surroundings code u station)),
-  (λ name. row-done-at natives fillers code c t (op.GetField name) refl (λ e. e) (takes-all 1 (op.GetField name) (λ captured l. refl) (λ code place os r typed. one-long os _ typed)) (λ u station names. get-field fillers natives code t c short (surroundings code u station) name)),
-  (λ name. row-done-at natives fillers code c t (op.GetOptional name) refl (λ e. e) (takes-all 1 (op.GetOptional name) (λ captured l. refl) (λ code place os r typed. one-long os _ typed)) (λ u station names. get-optional fillers natives code t c short (surroundings code u station) name)),
+reads-are-done natives fillers = (
+  (λ code c t. row-done-at natives fillers code c t op.GetItem refl (λ e. e) (takes-all 2 op.GetItem (λ captured l. refl) (λ code place os r typed. two-long os _ typed)) (λ u station names. get-item fillers natives code t c (surroundings code u station))),
+  (λ code c t. row-done-at natives fillers code c t op.GetKey refl (λ e. e) (takes-all 2 op.GetKey (λ captured l. refl) (λ code place os r typed. two-long os _ typed)) (λ u station names. get-key fillers natives code t c (surroundings code u station))),
+  (λ name code c t. row-done-at natives fillers code c t (op.GetField name) refl (λ e. e) (takes-all 1 (op.GetField name) (λ captured l. refl) (λ code place os r typed. one-long os _ typed)) (λ u station names. get-field fillers natives code t c (surroundings code u station) name)),
+  (λ name code c t. row-done-at natives fillers code c t (op.GetOptional name) refl (λ e. e) (takes-all 1 (op.GetOptional name) (λ captured l. refl) (λ code place os r typed. one-long os _ typed)) (λ u station names. get-optional fillers natives code t c (surroundings code u station) name)),
 )

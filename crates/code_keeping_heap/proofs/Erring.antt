@@ -136,6 +136,7 @@ module _ (code : Code) (t : WellTyped code) (c : Common) (good : GoodCommon code
           frozen = λ f. (shape, shape-valid, shape-stands);
           made = by es made;
           valid = λ k x l. (texts k x l, (made k x l).1);
+          short = few;
         }
       where
         by : (es : List (Text × Value)) → All (λ e. IsMade code c e.1) es → All (IsMade code d) (map (λ e. e.1) es)

@@ -37,10 +37,9 @@ use Rattle.code_keeping.proofs.Lists.{all-at}
 use Rattle.code_keeping.proofs.OfKind.{of-kind}
 use Rattle.code_keeping.proofs.Operands.{a-string, mappings, one-fit, strings, two-fit}
 use Rattle.code_keeping.proofs.Staying.{same}
-use Rattle.code_keeping_heap.specs.Laws.{AreShort}
 use Rattle.code_keeping_heap.proofs.Mapped.{a-mapping, entries-made, entry-all, in-mapping, key-there}
 
-module _ (code : Code) (t : WellTyped code) (c : Common) (good : GoodCommon code c Running) (short : AreShort c.world.heap) (result : Option SemType) where
+module _ (code : Code) (t : WellTyped code) (c : Common) (good : GoodCommon code c Running) (result : Option SemType) where
   -- what comes of a mapping in the heap
   pub at-mapping : (n : ℕ) (s : Structure) (es : List (Text × Value)) → slice_get c.world.heap.structures n ≡ Some s → s.members ≡ Entries es → (P : Structure → List (Text × Value) → Came → Type 0) → Does code c good result (P s es) →
       Does code c good result (λ came. MappingAt c.world n (λ s es. P s es came))
@@ -52,7 +51,7 @@ module _ (code : Code) (t : WellTyped code) (c : Common) (good : GoodCommon code
 
   module _ (n : ℕ) (s : Structure) (es : List (Text × Value)) (e : slice_get c.world.heap.structures n ≡ Some s) (is : s.members ≡ Entries es) (a : SemType) (fits : Fits code c (Struct n) a) where
     few : length es < 2 ^ 63
-    few = subst (λ m. size_of m < 2 ^ 63) is (all-at (λ s. size_of s.members < 2 ^ 63) c.world.heap.structures n s short e)
+    few = subst (λ m. size_of m < 2 ^ 63) is (all-at (λ s. size_of s.members < 2 ^ 63) c.world.heap.structures n s good.nearly.heap.short e)
 
     abbrev In-a : Text → Shape → Type 0
     In-a key x = (w : Shape) × IsValid w × In code.atoms w a × StandsIn (Field key) w x × StandsIn AnyField w x
@@ -118,7 +117,7 @@ members-kind name _ h = absurd h
 abbrev IsMapOrNil : Kind → Type 0
 IsMapOrNil k = (k ≡ Mappings) ⊎ (k ≡ Nils)
 
-module _ (fillers : ℕ → List Filler) (natives : Answers) (code : Code) (t : WellTyped code) (c : Common) (short : AreShort c.world.heap) (place : Surroundings) where
+module _ (fillers : ℕ → List Filler) (natives : Answers) (code : Code) (t : WellTyped code) (c : Common) (place : Surroundings) where
   pub get-key : RowHolds code fillers natives c place op.GetKey
   get-key operands result vs asker good typed fit =
       two-fit code c (λ us. AllCome code c result (Performs (code_facts fillers code) natives op.GetKey us asker c)) operands vs _ typed fit
@@ -127,14 +126,14 @@ module _ (fillers : ℕ → List Filler) (natives : Answers) (code : Code) (t : 
       (λ n s es e is fn.
       a-string c.world.heap (λ z. Fits code c z b → AllCome code c result (Performs (code_facts fillers code) natives op.GetKey (Struct n ∷ z ∷ []) asker c)) w (of-kind code t c good.nearly.heap (λ k. k ≡ Strings) w b g (λ x h. strings x (second x h)))
       (λ key gk. on-world code c good result (λ w. ReadsKey w n key)
-      (at-mapping code t c good short result n s es e is (λ s es came. came ≡ gives c.world (or_nil (entry_at es key))) (does-else code c good result (gives c.world (or_nil (entry_at es key))) (key-typed code t c good short result n s es e is a fn b key gk has)))) g) f)
+      (at-mapping code t c good result n s es e is (λ s es came. came ≡ gives c.world (or_nil (entry_at es key))) (does-else code c good result (gives c.world (or_nil (entry_at es key))) (key-typed code t c good result n s es e is a fn b key gk has)))) g) f)
 
   pub get-field : (name : Text) → RowHolds code fillers natives c place (op.GetField name)
   get-field name operands result vs asker good typed fit =
       one-fit code c (λ us. AllCome code c result (Performs (code_facts fillers code) natives (op.GetField name) us asker c)) operands vs _ typed fit
       (λ a v (within, has) f.
       a-mapping c.world.heap (λ z. Fits code c z a → AllCome code c result (Performs (code_facts fillers code) natives (op.GetField name) (z ∷ []) asker c)) v (of-kind code t c good.nearly.heap (λ k. k ≡ Mappings) v a f (λ x h. members-kind name x (within x h)))
-      (λ n s es e is fn. on-world code c good result (λ w. ReadsField w n name) (does-field code t c good short result n s es e is a fn name within has)) f)
+      (λ n s es e is fn. on-world code c good result (λ w. ReadsField w n name) (does-field code t c good result n s es e is a fn name within has)) f)
 
   -- a mapping or nil
   map-or-nil : (R : Value → Type 0) (v : Value) → IsMapOrNil (value_kind c.world.heap v) → R Nil → ((n : ℕ) (s : Structure) (es : List (Text × Value)) → slice_get c.world.heap.structures n ≡ Some s → s.members ≡ Entries es → R (Struct n)) → R v
@@ -168,6 +167,6 @@ module _ (fillers : ℕ → List Filler) (natives : Answers) (code : Code) (t : 
       one-fit code c (λ us. AllCome code c result (Performs (code_facts fillers code) natives (op.GetOptional name) us asker c)) operands vs _ typed fit
       (λ a v (within, has) f.
       map-or-nil (λ z. Fits code c z a → AllCome code c result (Performs (code_facts fillers code) natives (op.GetOptional name) (z ∷ []) asker c)) v (of-kind code t c good.nearly.heap IsMapOrNil v a f (λ x h. of-both x (within x h)))
-      (λ fn. on-world code c good result (λ w. ReadsOptional w Nil name) (does-else code c good result (gives c.world Nil) (nil-typed code t c good short result (λ x. StandsAt code.atoms a (Field name) x ⊎ IsNil x) (inr refl) has)))
+      (λ fn. on-world code c good result (λ w. ReadsOptional w Nil name) (does-else code c good result (gives c.world Nil) (nil-typed code t c good result (λ x. StandsAt code.atoms a (Field name) x ⊎ IsNil x) (inr refl) has)))
       (λ n s es e is fn. on-world code c good result (λ w. ReadsOptional w (Struct n) name)
-      (at-mapping code t c good short result n s es e is (λ s es came. came ≡ gives c.world (or_nil (entry_at es name))) (does-else code c good result (gives c.world (or_nil (entry_at es name))) (optional-typed code t c good short result n s es e is a fn name has)))) f)
+      (at-mapping code t c good result n s es e is (λ s es came. came ≡ gives c.world (or_nil (entry_at es name))) (does-else code c good result (gives c.world (or_nil (entry_at es name))) (optional-typed code t c good result n s es e is a fn name has)))) f)

@@ -44,7 +44,6 @@ use Rattle.code_keeping.proofs.Lists.{all-at, at-some, of-some, some-there, ther
 use Rattle.code_keeping.proofs.OfKind.{of-kind}
 use Rattle.code_keeping.proofs.Operands.{an-int, integers, lists, two-fit}
 use Rattle.code_keeping.proofs.Staying.{same}
-use Rattle.code_keeping_heap.specs.Laws.{AreShort}
 use Rattle.code_keeping_heap.proofs.Shaping.{IsShown, all-shown, list-in, list-of, list-stands, list-valid, shapes-of, zip-at, zip-long, zip-second, zip-set}
 
 -- ---- a list in the heap
@@ -247,10 +246,10 @@ module _ (code : Code) (t : WellTyped code) (c : Common) (good : GoodHeap code c
 
 -- ---- the row
 
-module _ (code : Code) (t : WellTyped code) (c : Common) (good : GoodCommon code c Running) (short : AreShort c.world.heap) (result : Option SemType) where
+module _ (code : Code) (t : WellTyped code) (c : Common) (good : GoodCommon code c Running) (result : Option SemType) where
   module _ (n : ℕ) (s : Structure) (vs : List Value) (e : slice_get c.world.heap.structures n ≡ Some s) (is : s.members ≡ Items vs) (a b : SemType) (fits : Fits code c (Struct n) a) where
     few : length vs < 2 ^ 63
-    few = subst (λ m. size_of m < 2 ^ 63) is (all-at (λ s. size_of s.members < 2 ^ 63) c.world.heap.structures n s short e)
+    few = subst (λ m. size_of m < 2 ^ 63) is (all-at (λ s. size_of s.members < 2 ^ 63) c.world.heap.structures n s good.nearly.heap.short e)
 
     -- an item that is read is of the result's type: that is decided, so it is enough that it can't be otherwise
     item-in : (k : ℕ) (v : Value) → slice_get vs k ≡ Some v → Fits code c (Int (pos k)) b → (r : SemType) → ((x : Shape) → IsValid x → StandsAtIndex code.atoms a b x → In code.atoms x r) → (x : Shape) → IsValid x → Stands (code_types code) c.world.heap v x → In code.atoms x r
@@ -292,12 +291,12 @@ module _ (code : Code) (t : WellTyped code) (c : Common) (good : GoodCommon code
   at-list n s vs e is P d =
       subst (λ o. Does code c good result (λ came. IsSomeAnd o (λ s. HasItems (λ vs. P s vs came) s.members))) (sym e) (subst (λ m. Does code c good result (λ came. HasItems (λ vs. P s vs came) m)) (sym is) d)
 
-pub get-item : (fillers : ℕ → List Filler) (natives : Answers) (code : Code) → WellTyped code → (c : Common) → AreShort c.world.heap → (place : Surroundings) → RowHolds code fillers natives c place op.GetItem
-get-item fillers natives code t c short place operands result vs asker good typed fit =
+pub get-item : (fillers : ℕ → List Filler) (natives : Answers) (code : Code) → WellTyped code → (c : Common) (place : Surroundings) → RowHolds code fillers natives c place op.GetItem
+get-item fillers natives code t c place operands result vs asker good typed fit =
     two-fit code c (λ us. AllCome code c result (Performs (code_facts fillers code) natives op.GetItem us asker c)) operands vs _ typed fit
     (λ a b v w (first, second, has) f g.
     a-list c.world.heap (λ z. Fits code c z a → AllCome code c result (Performs (code_facts fillers code) natives op.GetItem (z ∷ w ∷ []) asker c)) v (of-kind code t c good.nearly.heap (λ k. k ≡ Lists) v a f (λ x h. lists x (first x h)))
     (λ n s items e is fn.
     an-int c.world.heap (λ z. Fits code c z b → AllCome code c result (Performs (code_facts fillers code) natives op.GetItem (Struct n ∷ z ∷ []) asker c)) w (of-kind code t c good.nearly.heap (λ k. k ≡ Ints) w b g (λ x h. integers x (second x h)))
     (λ i gi. on-world code c good result (λ w. ReadsItem w n i)
-    (at-list code t c good short result n s items e is (λ s vs came. came ≡ found c.world IndexOutOfRange (at_place vs i)) (does-else code c good result (found c.world IndexOutOfRange (at_place items i)) (item-typed code t c good short result n s items e is a b fn i gi has)))) g) f)
+    (at-list code t c good result n s items e is (λ s vs came. came ≡ found c.world IndexOutOfRange (at_place vs i)) (does-else code c good result (found c.world IndexOutOfRange (at_place items i)) (item-typed code t c good result n s items e is a b fn i gi has)))) g) f)

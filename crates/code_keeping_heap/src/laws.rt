@@ -9,7 +9,7 @@ pub fn constructors_are_done<N: Meaning>()
     ensures { ConstructorsAreDone N.answers }
 {}
 
-/// And so where items of lists and members of mappings are read, while each list and mapping has fewer than 2^63 members.
+/// And so where items of lists and members of mappings are read.
 pub fn reads_are_done<N: Meaning>()
     ensures { ReadsAreDone N.answers }
 {}

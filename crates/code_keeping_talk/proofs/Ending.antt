@@ -123,6 +123,7 @@ module _ (code : Code) (c : Common) (end : End) (good : NearlyCommon code c Runn
           functions = all-to (IsWithinUnit code c) (IsWithinUnit code d) (λ f k. (k.0, some-to (λ u. AllFit code c f.captured u.captured) (λ u. AllFit code d f.captured u.captured) (slice_get code.units f.unit) (λ u m. all-later code None c d (later None) f.captured u.captured m) k.1)) c.world.heap.functions h.functions;
           valid = h.valid;
           closed = h.closed;
+          short = h.short;
         }
 
     count-is : ended_count d.strands ≡ ended_count c.strands + 1

@@ -5,6 +5,7 @@ use Rattle.type_model.specs.SameType.{IsSameType}
 use Rattle.type_model.proofs.SameTypes.{In-same}
 use Rattle.operations.specs.declared.operation.Operation.{Operation}
 use Rattle.operations.specs.declared.operation.Operation.TheVariants.{Load, Cast}
+use Rattle.operations.specs.Talk.{talk_of}
 use Rattle.value_model.specs.declared.panics.PanicName.TheVariants.{TypeCastError}
 use Rattle.value_model.specs.declared.value.Value.{Value}
 use Rattle.value_model.specs.Meaning.{Answers}
@@ -15,6 +16,12 @@ use Rattle.run_model.specs.Facts.{Facts, own_types}
 use Rattle.run_model.specs.Rows.{Else, Tells, Unless, gives, panics}
 use Rattle.machine_model.specs.Following.{AreAlike}
 use Rattle.lower_model.specs.Lowered.{IsSameOperation, cast, same, test}
+
+-- and say the same to other workers
+pub same-talk : (op also : Operation) → IsSameOperation op also → talk_of also ≡ talk_of op
+same-talk op _ same = refl
+same-talk _ _ (test e) = refl
+same-talk _ _ (cast e) = refl
 
 module _ (facts : Facts) where
   belong-same : (c : Common) (v : Value) (s t : SemType) → IsSameType s t → Belongs (own_types facts) c.world.heap v s ↔ Belongs (own_types facts) c.world.heap v t

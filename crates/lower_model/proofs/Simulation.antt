@@ -37,7 +37,7 @@ use Rattle.lower_model.specs.Lowered.{Closes, Comes, Has, IsSameOperation, Spot,
 use Rattle.lower_model.proofs.CodeWays.{are-ways}
 use Rattle.lower_model.proofs.Entered.{Entered, entered}
 use Rattle.lower_model.proofs.Guarded.{branch-leaves, eval-leaves, exec-leaves, opens_trap, turn-leaves, waits_too}
-use Rattle.lower_model.proofs.SameOperations.{alike, casting, loading}
+use Rattle.lower_model.proofs.SameOperations.{alike, casting, loading, same-talk}
 use Rattle.lower_model.proofs.Landing.{Ready, belows, catches, ready-follows}
 use Rattle.lower_model.proofs.Lists.{same-tail}
 
@@ -83,9 +83,10 @@ module _ (atoms : List AtomDef) (p : TypedPackage) (fillers : ℕ → List Fille
 
   -- ---- operations
 
-  holds : (op : Operation) (d : Doing) (s : Standing) (l : Local) (ts : List Task) (q : Spot) (loop : Loops) (traps : List OpenedTrap) → Follows code d s → Ready code ts q loop traps → Held M N (Follows code) op d s (doing l ts) (standing q.place traps l)
-  holds op d s l ts q loop traps f r =
+  holds : (op also : Operation) → IsSameOperation op also → (d : Doing) (s : Standing) (l : Local) (ts : List Task) (q : Spot) (loop : Loops) (traps : List OpenedTrap) → Follows code d s → Ready code ts q loop traps → Held M N (Follows code) op also d s (doing l ts) (standing q.place traps l)
+  holds op also is d s l ts q loop traps f r =
       record {
+        talk = same-talk op also is;
         waits = λ goes. f;
         resumes = λ goes vs. ready-follows code (with_stack l (vs ++ l.stack)) ts q loop traps r;
         catches = λ e. catches code ts l e q loop traps r.way r.landings r.below;
@@ -94,7 +95,7 @@ module _ (atoms : List AtomDef) (p : TypedPackage) (fillers : ℕ → List Fille
   one-answers : (d : Doing) (l : Local) (ts : List Task) (m : Spot) (loop : Loops) (traps : List OpenedTrap) (act : Act) → N.look asker.unit (standing m.place traps l) ≡ asks_of (standing (m.place + 1) traps) act → Follows code d (standing m.place traps l) → Ready code ts (after m) loop traps → Answer d (asks_of (λ x. doing x ts) act) (standing m.place traps l)
   one-answers d l ts m loop traps (Now x) e f r = (standing (m.place + 1) traps x, steps e stays, ready-follows code x ts (after m) loop traps r)
   one-answers d l ts m loop traps (Later op vs x) e f r =
-      (standing m.place traps l, standing (m.place + 1) traps x, op, stays, e, alike N.facts natives op op same, holds op d (standing m.place traps l) x ts (after m) loop traps f r)
+      (standing m.place traps l, standing (m.place + 1) traps x, op, stays, e, alike N.facts natives op op same, holds op op same d (standing m.place traps l) x ts (after m) loop traps f r)
   one-answers d l ts m loop traps Never e f r = (standing m.place traps l, stays, e)
 
   -- how an operation that takes one operand begins
@@ -111,7 +112,7 @@ module _ (atoms : List AtomDef) (p : TypedPackage) (fillers : ℕ → List Fille
     stays,
     e,
     alike N.facts natives op also is,
-    holds op d (standing m.place traps l) (with_stack l rest) ts (after m) loop traps f r,
+    holds op also is d (standing m.place traps l) (with_stack l rest) ts (after m) loop traps f r,
   )
 
   one-taken : (op : Operation) (l : Local) → takes op l 1 ≡ one_taken op l l.stack

@@ -1,6 +1,5 @@
 -- That a code is lowered from a package, and that it then does what the package means.
-use Rattle.std.specs.Prelude.{◌≡◌, ◌↔◌, ℕ, List, Contains, All, map, slice_get}
-use Rattle.bal_base.specs.Valid.{IsText}
+use Rattle.std.specs.Prelude.{◌≡◌, ◌↔◌, ℕ, List, Contains, map, slice_get}
 use Rattle.bal_base.specs.declared.text.Text.{Text}
 use Rattle.type_model.specs.declared.atoms.AtomDef.{AtomDef}
 use Rattle.value_model.specs.declared.filler.Filler.{Filler}
@@ -11,6 +10,7 @@ use Rattle.run_model.specs.Levels.{numbers_from}
 use Rattle.machine_model.specs.Following.{Both}
 use Rattle.machine_model.specs.Laws.{HaveSameOutcomes}
 use Rattle.machine_model.specs.Outcomes.{Outcome}
+use Rattle.machine_model.specs.Runs.{AreWords}
 use Rattle.eval_model.specs.Allowed.{KnowsFillersOf, TreesAllow}
 use Rattle.eval_model.specs.Inherent.{IsInherentIn}
 use Rattle.eval_model.specs.Narrowed.{NarrowsWell}
@@ -43,5 +43,5 @@ abbrev pub SameIsAllowed : Answers → Type 0
 SameIsAllowed natives =
     (atoms : List AtomDef) (p : TypedPackage) (code : Code) → IsLowered atoms p code → HasInherentOf p code →
     ((fillers : ℕ → List Filler) → KnowsFillersOf atoms p fillers → NarrowsWell natives atoms fillers p) →
-    (words : List Text) (input order : List ℕ) (ticks : ℕ) (o : Outcome) → All IsText words →
+    (words : List Text) (input order : List ℕ) (ticks : ℕ) (o : Outcome) → AreWords words →
     ((n : ℕ) × TreesAllow natives atoms p words input order ticks n o) ↔ ((n : ℕ) × CodeAllows natives code words input order ticks n o)

@@ -78,7 +78,7 @@ module _ {A B : Type 0} (natives : Answers) (M : Machine A) (N : Machine B) (Fol
 
   -- ---- what an effect leaves
 
-  effect-along : (c : Common) (depth : ℕ) (f : Frame A) (op : Operation) (d m : B) (k : A) (effect : Effect) → (GoesOn effect → ¬ (EndsFrame op)) → Held M N Follows op f.control d k m → EffectFits natives N I c depth (beside f d) m effect → EffectFlows natives M N Follows Fine I Flows FlowsBehind c depth f k effect → EffectFits natives M J c depth f k effect
+  effect-along : (c : Common) (depth : ℕ) (f : Frame A) (op : Operation) {other : Operation} (d m : B) (k : A) (effect : Effect) → (GoesOn effect → ¬ (EndsFrame op)) → Held M N Follows op other f.control d k m → EffectFits natives N I c depth (beside f d) m effect → EffectFlows natives M N Follows Fine I Flows FlowsBehind c depth f k effect → EffectFits natives M J c depth f k effect
   effect-along c depth f op d m k (Gives vs e) goes held (good, strands, later, fits) flow =
       let on : Goes e c.running depth (goes_to f (M.resume k vs)) = record { other = N.resume m vs; follows = held.resumes (goes tt) vs; fits = fits } in
       (good, strands, later, (on, flow (later None tt) on))

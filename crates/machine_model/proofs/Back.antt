@@ -1,8 +1,7 @@
 -- Each run of the machine whose frames follow is one of the first, whose frames come to what they ask.
 use Rattle.std.proofs.Common.{◌≡◌, ℕ, zero, suc, ◌<◌, ◌≤◌, List, [], ◌∷◌, Some, refl, sym, subst, ap, inl, inr, arith}
-use Rattle.std.specs.Prelude.{All, slice_get}
+use Rattle.std.specs.Prelude.{slice_get}
 use Rattle.bal_base.specs.declared.fault.LimitKind.{LimitKind}
-use Rattle.bal_base.specs.Valid.{IsText}
 use Rattle.bal_base.specs.declared.text.Text.{Text}
 use Rattle.operations.specs.declared.operation.Operation.{Operation}
 use Rattle.value_model.specs.declared.value.Value.{Value}
@@ -10,7 +9,7 @@ use Rattle.value_model.specs.Meaning.{Answers}
 use Rattle.run_model.specs.Common.{Common}
 use Rattle.run_model.specs.Performs.{Performs}
 use Rattle.machine_model.specs.Machine.{Machine, On, Does, Stuck, Frame, State, Next, Moved, Blocked, Ended, NeedsTick, Limit, goes_to, asker, carried, Takes, TakesTop, Step}
-use Rattle.machine_model.specs.Runs.{Phase, Running, Picking, Stop, Over, TicksSpent, PastLimit, Runs, moves, blocks, ends, needs_tick, passes, picks, over, picked}
+use Rattle.machine_model.specs.Runs.{AreWords, Phase, Running, Picking, Stop, Over, TicksSpent, PastLimit, Runs, moves, blocks, ends, needs_tick, passes, picks, over, picked}
 use Rattle.machine_model.specs.Steps.{state_at}
 use Rattle.machine_model.specs.Following.{AreAlike, Quiet, here, step, Held, ComesTo, FramesFollow, AreFine, Settles, asks, stuck, on}
 use Rattle.machine_model.specs.Matching.{AskAlike, SameCall, BelowMatch, FramesMatch, OthersMatch, StateMatch}
@@ -36,7 +35,7 @@ module _ {C : Type 0} (natives : Answers) (M : Machine C) where
   empty-run n t order stop end e r = no-run n t order stop end (λ next h. subst (λ l. TakesTop natives M t l next) e h) r
 
 module _ {A B : Type 0} (natives : Answers) (M : Machine A) (N : Machine B) (Follows : A → B → Type 0) (Fine : Common → A → Type 0) (sim : FramesFollow natives M N Follows Fine)
-    (fine : AreFine natives M Fine) (words : List Text) (input : List ℕ) (ticks : ℕ) (texts : All IsText words) where
+    (fine : AreFine natives M Fine) (words : List Text) (input : List ℕ) (ticks : ℕ) (texts : AreWords words) where
   abbrev pub IsCame : Phase → State A → Type 0
   IsCame phase s = Came natives M words input ticks phase s
 
@@ -99,7 +98,7 @@ module _ {A B : Type 0} (natives : Answers) (M : Machine A) (N : Machine B) (Fol
   with-limit s _ limit h w = absurd w
 
   -- the frame of the second machine asks for an operation: its step is a step of the first one
-  pub back-asked : (c : Common) (f : Frame A) (g : Frame B) (fs : List (Frame A)) (gs : List (Frame B)) (os : List (List (Frame A))) (ps : List (List (Frame B))) (x k : A) (y m : B) (op other : Operation) (vs : List Value) → SameCall f g → OthersMatch M N Follows os ps → BelowMatch M N Follows fs gs → M.look f.unit x ≡ Does op vs k → N.look g.unit y ≡ Does other vs m → AreAlike N.facts natives op other → Held M N Follows op x y k m → (next : Next B) → Step natives N (state_at c g y gs ps) next → (first : Next A) × Step natives M (state_at c f x fs os) first × NextMatch M N Follows first next
+  pub back-asked : (c : Common) (f : Frame A) (g : Frame B) (fs : List (Frame A)) (gs : List (Frame B)) (os : List (List (Frame A))) (ps : List (List (Frame B))) (x k : A) (y m : B) (op other : Operation) (vs : List Value) → SameCall f g → OthersMatch M N Follows os ps → BelowMatch M N Follows fs gs → M.look f.unit x ≡ Does op vs k → N.look g.unit y ≡ Does other vs m → AreAlike N.facts natives op other → Held M N Follows op other x y k m → (next : Next B) → Step natives N (state_at c g y gs ps) next → (first : Next A) × Step natives M (state_at c f x fs os) first × NextMatch M N Follows first next
   back-asked c f g fs gs os ps x k y m op other vs call om below e d alike held next h =
       let s = state_at c f x fs os in
       let t = state_at c g y gs ps in

@@ -1,13 +1,12 @@
 -- Each run of a machine is one of another whose frames follow.
 use Rattle.std.proofs.Common.{◌≡◌, ℕ, suc, List, [], ◌∷◌, ◌++◌, Some, refl, sym, subst, ap, inl, inr, ◌∙◌}
-use Rattle.std.specs.Prelude.{All, slice_get}
+use Rattle.std.specs.Prelude.{slice_get}
 use Rattle.bal_base.specs.declared.fault.LimitKind.{LimitKind}
-use Rattle.bal_base.specs.Valid.{IsText}
 use Rattle.bal_base.specs.declared.text.Text.{Text}
 use Rattle.value_model.specs.Meaning.{Answers}
 use Rattle.run_model.specs.Common.{Common}
 use Rattle.machine_model.specs.Machine.{Machine, Frame, State, Moved, Blocked, Ended, NeedsTick, Limit, Step}
-use Rattle.machine_model.specs.Runs.{Phase, Running, Picking, Stop, Over, TicksSpent, PastLimit, Runs, moves, blocks, ends, needs_tick, passes, picks, over, picked, taken_up, IsReached, after_move, after_block, after_end, after_pick}
+use Rattle.machine_model.specs.Runs.{AreWords, Phase, Running, Picking, Stop, Over, TicksSpent, PastLimit, Runs, moves, blocks, ends, needs_tick, passes, picks, over, picked, taken_up, IsReached, after_move, after_block, after_end, after_pick}
 use Rattle.machine_model.specs.Following.{FramesFollow, AreFine}
 use Rattle.machine_model.specs.Matching.{StateMatch}
 use Rattle.machine_model.proofs.Lifts.{picked-match}
@@ -34,7 +33,7 @@ same-picked natives M N Follows s t place n (same, fm, om) =
     let m = picked-match M N Follows s.others t.others n om in (ap (λ c. taken_up c place n) same, m.0, m.1)
 
 module _ {A B : Type 0} (natives : Answers) (M : Machine A) (N : Machine B) (Follows : A → B → Type 0) (Fine : Common → A → Type 0) (sim : FramesFollow natives M N Follows Fine)
-    (fine : AreFine natives M Fine) (words : List Text) (input : List ℕ) (ticks : ℕ) (texts : All IsText words) where
+    (fine : AreFine natives M Fine) (words : List Text) (input : List ℕ) (ticks : ℕ) (texts : AreWords words) where
   fine-top : (s : State A) → Came natives M words input ticks Running s → FineTop natives M N Follows Fine sim s.common s.frames
   fine-top s h = by s.frames refl
     where

@@ -1,9 +1,8 @@
 -- What holds of the strands of every machine, in each state that is reached.
 use Rattle.std.proofs.Common.{◌≡◌, ◌≢◌, ◌+◌, ◌++◌, ◌∙◌, ℕ, zero, suc, false, List, [], ◌∷◌, Option, Some, None, IsSomeAnd, length, refl, sym, subst, ap, inl, inr, ◌⊎◌, arith}
-use Rattle.std.specs.Prelude.{⊤, All, get_or, if◌then◌else◌, map, option_map, slice_get}
+use Rattle.std.specs.Prelude.{⊤, get_or, if◌then◌else◌, map, option_map, slice_get}
 use Rattle.std.proofs.lemmas.List.{length-map}
 use Rattle.std.proofs.lemmas.Option.{get_or_from_slice_get, slice_get-get_or, slice_get-map}
-use Rattle.bal_base.specs.Valid.{IsText}
 use Rattle.bal_base.specs.declared.text.Text.{Text}
 use Rattle.operations.specs.declared.operation.Operation.{Operation}
 use Rattle.operations.specs.declared.operation.Operation.TheVariants.{Workers, WaitAny}
@@ -14,7 +13,7 @@ use Rattle.run_model.specs.Effects.{Effect, Gives, Fails, Waits, Enters, Leaves,
 use Rattle.run_model.specs.Strands.{end_in, met, no_activation, settled, wakes, with_status, woken, woken_from}
 use Rattle.machine_model.specs.Keeping.{RunsOn}
 use Rattle.machine_model.specs.Machine.{Machine, Ask, On, Does, Stuck, Frame, State, Next, Moved, Blocked, Ended, asker, carried, Takes, TakesTop, Step}
-use Rattle.machine_model.specs.Runs.{Phase, Running, Picking, Reaches, IsReached, after_block, after_end, after_move, after_pick, begins_with, first_common, start, starts, units_to_run}
+use Rattle.machine_model.specs.Runs.{AreWords, Phase, Running, Picking, Reaches, IsReached, after_block, after_end, after_move, after_pick, begins_with, first_common, start, starts, units_to_run}
 use Rattle.machine_model.specs.Strands.{ActivationHolds, AreOn, HoldOfStrands, LowestIs, Rise, StartsOnce, StillWaits, StrandHolds, StrandsHold, TopWaits, WaitsForSome, due, due_in, frames_in, roles_of, times}
 use Rattle.machine_model.proofs.Alike.{board, crew_of, seen}
 use Rattle.machine_model.proofs.Boards.{AreOnIt, IsOnIt, RunsActive, RunsAt, Seen, crew_at, status_in}
@@ -129,7 +128,7 @@ module _ {C : Type 0} (natives : Answers) (M : Machine C) where
 
   -- ---- all states that are reached
 
-  module _ (once : StartsOnce natives M) (some : WaitsForSome natives M) (words : List Text) (input : List ℕ) (ticks : ℕ) (texts : All IsText words) where
+  module _ (once : StartsOnce natives M) (some : WaitsForSome natives M) (words : List Text) (input : List ℕ) (ticks : ℕ) (texts : AreWords words) where
     asks-well : (s : State C) → IsReached natives M words input ticks Running s → (f : Frame C) (fs : List (Frame C)) → s.frames ≡ f ∷ fs → AsksWell f (M.look f.unit f.control)
     asks-well s r f fs is = by (M.look f.unit f.control) refl
       where

@@ -1,8 +1,7 @@
 -- What holds of single frames and of what they share, kept by each step, holds of each state that a machine reaches.
 use Rattle.std.proofs.Common.{◌≡◌, ◌≢◌, ◌<◌, ℕ, zero, suc, ◌+◌, List, [], ◌∷◌, ◌++◌, Option, Some, None, length, refl, sym, subst, ap, inl, inr, ◌⊎◌, ◌∙◌, arith}
-use Rattle.std.specs.Prelude.{⊤, All, get_or, option_map, slice_get, slice_set}
+use Rattle.std.specs.Prelude.{⊤, get_or, option_map, slice_get, slice_set}
 use Rattle.std.proofs.lemmas.List.{length-set, length-map, length-append}
-use Rattle.bal_base.specs.Valid.{IsText}
 use Rattle.bal_base.specs.declared.text.Text.{Text}
 use Rattle.value_model.specs.declared.value.Value.{Value}
 use Rattle.value_model.specs.Meaning.{Answers}
@@ -10,7 +9,7 @@ use Rattle.run_model.specs.Common.{Common, Role, End, Returned, Panicked}
 use Rattle.run_model.specs.Strands.{activation_at, settled, strand_blocked, strand_ended, worker_ended, workers_ended, woken}
 use Rattle.run_model.specs.Effects.{Effect, Gives, Fails, Waits, Enters, Leaves, Spawns, NoTick, Beyond, Spawned}
 use Rattle.machine_model.specs.Machine.{Machine, Ask, On, Does, Stuck, Frame, State, Next, Moved, Blocked, Ended, NeedsTick, Limit, goes_to, put, stopped, next_units, frames_from, roles_to, unwound, roles_left, left_with, goes_on, given, with_begun, all_begun, carried, Takes, TakesTop, Step}
-use Rattle.machine_model.specs.Runs.{Phase, Running, Picking, picked, taken_up, Reaches, starts, after_move, after_block, after_end, after_pick}
+use Rattle.machine_model.specs.Runs.{AreWords, Phase, Running, Picking, picked, taken_up, Reaches, starts, after_move, after_block, after_end, after_pick}
 use Rattle.machine_model.specs.Keeping.{Invariant, RunsOn, IsFresh, AreApart, ApartFrom, KeepsStrands, Caught, BelowFit, FramesFit, OthersFit, StateFits, LaterBut, AllBegin, EffectFits, AskFits, EndFits, IsKept}
 use Rattle.machine_model.specs.Laws.{KeptHolds}
 use Rattle.machine_model.proofs.Once.{some-same}
@@ -369,7 +368,7 @@ module _ {C : Type 0} (natives : Answers) (M : Machine C) (I : Invariant C) wher
         all-later [] k d l h = tt
         all-later (x ∷ xs) k d l h = ((λ i. frames-there s.common d k x (λ q on. l q) (h.0 tt)), all-later xs (suc k) d l h.1)
 
-    pub reached-fits : {words : List Text} {input : List ℕ} {ticks : ℕ} {phase : Phase} {n : ℕ} {order : List ℕ} {s : State C} → All IsText words → Reaches natives M words input ticks phase n order s → StateFits I phase s
+    pub reached-fits : {words : List Text} {input : List ℕ} {ticks : ℕ} {phase : Phase} {n : ℕ} {order : List ℕ} {s : State C} → AreWords words → Reaches natives M words input ticks phase n order s → StateFits I phase s
     reached-fits {words = words} {input = input} {ticks = ticks} {s = s} texts (starts e) = kept.starts words input ticks s texts e
     reached-fits texts (after_move {s = s} {t = t} r h) = step-fits s (Moved t) (reached-fits texts r) h
     reached-fits texts (after_block {s = s} {t = t} r h) = step-fits s (Blocked t) (reached-fits texts r) h

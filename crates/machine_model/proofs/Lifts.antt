@@ -186,7 +186,7 @@ module _ {A B : Type 0} (M : Machine A) (N : Machine B) (Follows : A → B → T
     given-match v [] (g ∷ gs) h = absurd h
     given-match v (f ∷ fs) [] h = absurd h
 
-    pub carried-match : (s : State A) (t : State B) (f : Frame A) (g : Frame B) (op : Operation) (k : A) (m : B) (fs : List (Frame A)) (gs : List (Frame B)) (effect : Effect) → RestMatch s t → SameCall f g → (GoesOn effect → ¬ (EndsFrame op)) → Held M N Follows op f.control g.control k m → Below fs gs → ComeMatch (carried M s f k fs effect) (carried N t g m gs effect)
+    pub carried-match : (s : State A) (t : State B) (f : Frame A) (g : Frame B) (op : Operation) {other : Operation} (k : A) (m : B) (fs : List (Frame A)) (gs : List (Frame B)) (effect : Effect) → RestMatch s t → SameCall f g → (GoesOn effect → ¬ (EndsFrame op)) → Held M N Follows op other f.control g.control k m → Below fs gs → ComeMatch (carried M s f k fs effect) (carried N t g m gs effect)
     carried-match s t f g op k m fs gs (Gives vs c) match call goes w below = (refl, (call, w.resumes (goes tt) vs, below), match.1)
     carried-match s t f g op k m fs gs (Fails e c) match call goes w below =
         goes-on-match s t _ _ (Panicked e) (unwound M e (goes_to f k ∷ fs)) (unwound N e (goes_to g m ∷ gs)) match

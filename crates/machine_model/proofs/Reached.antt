@@ -1,14 +1,13 @@
 -- Each state that the machine whose frames follow reaches goes along with one that the first machine reaches.
 use Rattle.std.proofs.Common.{◌≡◌, ℕ, List, [], ◌∷◌, Some, refl, sym, subst, inl, inr}
-use Rattle.std.specs.Prelude.{⊤, All, slice_get}
-use Rattle.bal_base.specs.Valid.{IsText}
+use Rattle.std.specs.Prelude.{⊤, slice_get}
 use Rattle.bal_base.specs.declared.text.Text.{Text}
 use Rattle.value_model.specs.Meaning.{Answers}
 use Rattle.run_model.specs.Common.{Common}
 use Rattle.machine_model.specs.Following.{AreFine, FramesFollow, Quiet, Settles, here, pass, step}
 use Rattle.machine_model.specs.Machine.{Blocked, Does, Ended, Frame, Limit, Machine, Moved, NeedsTick, Next, State, Step, Stuck, Takes, TakesTop, asker, goes_to}
 use Rattle.machine_model.specs.Matching.{Alongside, AskAlike, BelowMatch, FramesMatch, OthersMatch, ReachedFollow, SameCall, StateMatch, TopsAlong}
-use Rattle.machine_model.specs.Runs.{IsReached, Phase, Picking, Reaches, Running, after_block, after_end, after_move, after_pick, picked, start, starts}
+use Rattle.machine_model.specs.Runs.{AreWords, IsReached, Phase, Picking, Reaches, Running, after_block, after_end, after_move, after_pick, picked, start, starts}
 use Rattle.machine_model.specs.Steps.{state_at}
 use Rattle.machine_model.proofs.Back.{back-asked, meet}
 use Rattle.machine_model.proofs.Forth.{came-blocked, came-ended, came-moved, came-picked, same-picked}
@@ -17,7 +16,7 @@ use Rattle.machine_model.proofs.Quietly.{same-next, same-pass}
 use Rattle.machine_model.proofs.SameOutcomes.{starts-match}
 
 module _ {A B : Type 0} (natives : Answers) (M : Machine A) (N : Machine B) (Follows : A → B → Type 0) (Fine : Common → A → Type 0) (sim : FramesFollow natives M N Follows Fine)
-    (fine : AreFine natives M Fine) (settle : (unit : ℕ) (a : A) → Settles M unit a) (words : List Text) (input : List ℕ) (ticks : ℕ) (texts : All IsText words) where
+    (fine : AreFine natives M Fine) (settle : (unit : ℕ) (a : A) → Settles M unit a) (words : List Text) (input : List ℕ) (ticks : ℕ) (texts : AreWords words) where
   abbrev IsCame : Phase → State A → Type 0
   IsCame phase s = IsReached natives M words input ticks phase s
 

@@ -1,9 +1,9 @@
 -- That each frame of one machine is followed by one of another, so that both ask for the same.
-use Rattle.std.specs.Prelude.{◌≡◌, ◌↔◌, ℕ, List, ◌∷◌, Option, Some, None, All, ⊤}
-use Rattle.bal_base.specs.Valid.{IsText}
+use Rattle.std.specs.Prelude.{◌≡◌, ◌↔◌, ℕ, List, ◌∷◌, Option, Some, None, ⊤}
 use Rattle.bal_base.specs.declared.text.Text.{Text}
 use Rattle.operations.specs.declared.operation.Operation.{Operation}
 use Rattle.operations.specs.declared.operation.Operation.TheVariants.{Return, Panic}
+use Rattle.operations.specs.Talk.{talk_of}
 use Rattle.value_model.specs.declared.value.Value.{Value}
 use Rattle.value_model.specs.Meaning.{Answers}
 use Rattle.run_model.specs.Common.{Common, Asker}
@@ -11,7 +11,7 @@ use Rattle.run_model.specs.Facts.{Facts}
 use Rattle.run_model.specs.Effects.{Effect, Gives}
 use Rattle.run_model.specs.Performs.{Performs}
 use Rattle.machine_model.specs.Machine.{Machine, Ask, On, Does, Stuck, Frame, State}
-use Rattle.machine_model.specs.Runs.{Running, IsReached}
+use Rattle.machine_model.specs.Runs.{AreWords, Running, IsReached}
 
 -- the operation ends its frame, so that nothing is awaited
 abbrev pub EndsFrame : Operation → Type 0
@@ -54,8 +54,10 @@ module _ {A B : Type 0} (M : Machine A) (N : Machine B) (Follows : A → B → T
     pub resumes : (vs : List Value) → Follows (M.resume a vs) (N.resume b vs)
     pub catches : (e : Value) → Both Follows (M.catch a e) (N.catch b e)
 
-  -- and so where both asked for this operation: a and b ask again where it can't be done yet, k and m await its result
-  pub record Held (op : Operation) (a : A) (b : B) (k : A) (m : B) : Type 0 where
+  -- and so where the first asked for the operation and the second for the other one, which says the same to other workers: a and b
+  -- ask again where it can't be done yet, k and m await its result
+  pub record Held (op other : Operation) (a : A) (b : B) (k : A) (m : B) : Type 0 where
+    pub talk : talk_of other ≡ talk_of op
     pub waits : (¬ (EndsFrame op)) → Follows a b
     pub resumes : (¬ (EndsFrame op)) → (vs : List Value) → Follows (M.resume k vs) (N.resume m vs)
     pub catches : (e : Value) → Both Follows (M.catch k e) (N.catch m e)
@@ -65,13 +67,13 @@ module _ {A B : Type 0} (M : Machine A) (N : Machine B) (Follows : A → B → T
   ComesTo natives asker c a (On x) b = (d : B) × Quiet natives N asker c b d × Follows x d
   ComesTo natives asker c a (Does op vs k) b =
       (d : B) × (m : B) × (other : Operation) × Quiet natives N asker c b d × (N.look asker.unit d ≡ Does other vs m)
-      × AreAlike N.facts natives op other × Held op a d k m
+      × AreAlike N.facts natives op other × Held op other a d k m
   ComesTo natives asker c a Stuck b = (d : B) × Quiet natives N asker c b d × (N.look asker.unit d ≡ Stuck)
 
 -- what holds of the running frame of each state that is reached on words that are texts, as far as the second machine needs it
 abbrev pub AreFine : {A : Type 0} → Answers → Machine A → (Common → A → Type 0) → Type 0
 AreFine {A} natives M Fine =
-    (words : List Text) (input : List ℕ) (ticks : ℕ) (s : State A) (f : Frame A) (fs : List (Frame A)) → All IsText words →
+    (words : List Text) (input : List ℕ) (ticks : ℕ) (s : State A) (f : Frame A) (fs : List (Frame A)) → AreWords words →
     IsReached natives M words input ticks Running s → s.frames ≡ f ∷ fs → Fine s.common f.control
 
 -- each frame of the first machine of which this holds is followed by one of the second

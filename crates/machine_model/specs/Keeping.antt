@@ -1,6 +1,5 @@
 -- What holds of single frames and of what they share, kept by each step, holds of each state that a machine reaches.
-use Rattle.std.specs.Prelude.{◌≡◌, ◌≢◌, ◌⊎◌, ◌<◌, ◌+◌, ℕ, suc, List, [], ◌∷◌, Option, Some, None, All, length, slice_get, ⊤}
-use Rattle.bal_base.specs.Valid.{IsText}
+use Rattle.std.specs.Prelude.{◌≡◌, ◌≢◌, ◌⊎◌, ◌<◌, ◌+◌, ℕ, suc, List, [], ◌∷◌, Option, Some, None, length, slice_get, ⊤}
 use Rattle.bal_base.specs.declared.text.Text.{Text}
 use Rattle.value_model.specs.declared.value.Value.{Value}
 use Rattle.value_model.specs.Meaning.{Answers}
@@ -9,7 +8,7 @@ use Rattle.run_model.specs.Strands.{activation_at, settled, strand_blocked, stra
 use Rattle.run_model.specs.Effects.{Effect, Gives, Fails, Waits, Enters, Leaves, Spawns, NoTick, Beyond, Spawned}
 use Rattle.run_model.specs.Performs.{Performs}
 use Rattle.machine_model.specs.Machine.{Machine, Ask, On, Does, Stuck, Frame, State, goes_to, next_units}
-use Rattle.machine_model.specs.Runs.{Phase, Running, Picking, start, taken_up}
+use Rattle.machine_model.specs.Runs.{AreWords, Phase, Running, Picking, start, taken_up}
 
 -- ---- what is to hold
 
@@ -181,4 +180,4 @@ module _ {C : Type 0} (natives : Answers) (M : Machine C) (I : Invariant C) wher
     pub picks : (c : Common) (place n : ℕ) → I.good Picking c → slice_get c.ready place ≡ Some n →
         I.good Running (taken_up c place n) × LaterForAll c (taken_up c place n) × (n < length c.strands)
     -- and so it begins
-    pub starts : (words : List Text) (input : List ℕ) (ticks : ℕ) (s : State C) → All IsText words → start M words input ticks ≡ Some s → StateFits I Picking s
+    pub starts : (words : List Text) (input : List ℕ) (ticks : ℕ) (s : State C) → AreWords words → start M words input ticks ≡ Some s → StateFits I Picking s

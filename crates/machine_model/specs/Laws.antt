@@ -1,12 +1,11 @@
 -- The laws of machines.
-use Rattle.std.specs.Prelude.{◌≡◌, ◌↔◌, ℕ, List, All}
-use Rattle.bal_base.specs.Valid.{IsText}
+use Rattle.std.specs.Prelude.{◌≡◌, ◌↔◌, ℕ, List}
 use Rattle.bal_base.specs.declared.text.Text.{Text}
 use Rattle.value_model.specs.Meaning.{Answers}
 use Rattle.run_model.specs.Common.{Common}
 use Rattle.run_model.specs.Laws.{AnswerOnce}
 use Rattle.machine_model.specs.Machine.{Machine, Frame, State, Next, Step}
-use Rattle.machine_model.specs.Runs.{Phase, Stop, Runs, IsReached}
+use Rattle.machine_model.specs.Runs.{AreWords, Phase, Stop, Runs, IsReached}
 use Rattle.machine_model.specs.Outcomes.{Outcome, IsAllowed}
 use Rattle.machine_model.specs.Keeping.{Invariant, IsKept, StateFits}
 use Rattle.machine_model.specs.Along.{FlowsKept, along}
@@ -26,7 +25,7 @@ RunsOnce natives {C} M =
 -- for all words that are texts, inputs, orders and ticks one machine has an outcome exactly where the other has it
 abbrev pub HaveSameOutcomes : {A B : Type 0} → Answers → Machine A → Machine B → Type 0
 HaveSameOutcomes natives M N =
-    (words : List Text) (input order : List ℕ) (ticks : ℕ) (o : Outcome) → All IsText words →
+    (words : List Text) (input order : List ℕ) (ticks : ℕ) (o : Outcome) → AreWords words →
     ((n : ℕ) × IsAllowed natives M words input order ticks n o) ↔ ((n : ℕ) × IsAllowed natives N words input order ticks n o)
 
 -- machines whose frames answer alike have the same outcomes, where each frame of the first comes to what it asks
@@ -38,7 +37,7 @@ FollowersDoTheSame {A} natives M N Follows Fine =
 -- what is kept holds of each state that the machine reaches on words that are texts
 abbrev pub KeptHolds : {C : Type 0} → Answers → Machine C → Invariant C → Type 0
 KeptHolds {C} natives M I =
-    IsKept natives M I → (words : List Text) (input : List ℕ) (ticks : ℕ) (phase : Phase) (s : State C) → All IsText words →
+    IsKept natives M I → (words : List Text) (input : List ℕ) (ticks : ℕ) (phase : Phase) (s : State C) → AreWords words →
     IsReached natives M words input ticks phase s → StateFits I phase s
 
 -- where frames follow, what the second machine keeps, and facts besides that are kept along with it, the first machine keeps

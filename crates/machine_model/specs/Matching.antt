@@ -1,7 +1,6 @@
 -- That states of one machine are followed by states of another, frame by frame: the same is shared, and the same strands have
 -- as many frames, of the same units and workers.
-use Rattle.std.specs.Prelude.{◌≡◌, ◌⊎◌, ℕ, List, [], ◌∷◌, All, ⊤}
-use Rattle.bal_base.specs.Valid.{IsText}
+use Rattle.std.specs.Prelude.{◌≡◌, ◌⊎◌, ℕ, List, [], ◌∷◌, ⊤}
 use Rattle.bal_base.specs.declared.text.Text.{Text}
 use Rattle.operations.specs.declared.operation.Operation.{Operation}
 use Rattle.value_model.specs.declared.value.Value.{Value}
@@ -9,7 +8,7 @@ use Rattle.value_model.specs.Meaning.{Answers}
 use Rattle.run_model.specs.Common.{Common}
 use Rattle.machine_model.specs.Following.{AreAlike, AreFine, Await, FramesFollow, Held, Quiet, Settles}
 use Rattle.machine_model.specs.Machine.{Does, Frame, Machine, State, Stuck, asker}
-use Rattle.machine_model.specs.Runs.{IsReached, Phase, Picking, Running}
+use Rattle.machine_model.specs.Runs.{AreWords, IsReached, Phase, Picking, Running}
 
 abbrev pub SameCall : {A B : Type 0} → Frame A → Frame B → Type 0
 SameCall f g = (f.unit ≡ g.unit) × (f.role ≡ g.role)
@@ -40,7 +39,7 @@ module _ {A B : Type 0} (M : Machine A) (N : Machine B) (Follows : A → B → T
   -- both ask for what comes to the same on the same operands, or both can do nothing
   abbrev pub AskAlike : Answers → ℕ → A → B → Type 0
   AskAlike natives unit x y =
-      ((op : Operation) × (vs : List Value) × (k : A) × (m : B) × (other : Operation) × (M.look unit x ≡ Does op vs k) × (N.look unit y ≡ Does other vs m) × AreAlike N.facts natives op other × Held M N Follows op x y k m)
+      ((op : Operation) × (vs : List Value) × (k : A) × (m : B) × (other : Operation) × (M.look unit x ≡ Does op vs k) × (N.look unit y ≡ Does other vs m) × AreAlike N.facts natives op other × Held M N Follows op other x y k m)
       ⊎ ((M.look unit x ≡ Stuck) × (N.look unit y ≡ Stuck))
 
   -- the running frame of the second comes quietly to where it asks for the same as that of the first
@@ -60,5 +59,5 @@ module _ {A B : Type 0} (M : Machine A) (N : Machine B) (Follows : A → B → T
 abbrev pub ReachedFollow : {A B : Type 0} → Answers → Machine A → Machine B → (A → B → Type 0) → (Common → A → Type 0) → Type 0
 ReachedFollow {A} {B} natives M N Follows Fine =
     FramesFollow natives M N Follows Fine → AreFine natives M Fine → ((unit : ℕ) (a : A) → Settles M unit a) →
-    (words : List Text) (input : List ℕ) (ticks : ℕ) (phase : Phase) (t : State B) → All IsText words → IsReached natives N words input ticks phase t →
+    (words : List Text) (input : List ℕ) (ticks : ℕ) (phase : Phase) (t : State B) → AreWords words → IsReached natives N words input ticks phase t →
     (s : State A) × IsReached natives M words input ticks phase s × Alongside M N Follows natives phase s t

@@ -1,5 +1,6 @@
 -- Whole runs: the running strand steps until it blocks or ends, and then the order's next place names the next one.
-use Rattle.std.specs.Prelude.{◌≡◌, ◌+◌, ◌++◌, ℕ, Bool, false, suc, List, [], ◌∷◌, Option, Some, None, get_or, option_map, remove, replicate, map, slice_get, slice_set}
+use Rattle.std.specs.Prelude.{◌≡◌, ◌<◌, ◌^◌, ◌+◌, ◌++◌, ℕ, Bool, false, suc, List, [], ◌∷◌, Option, Some, None, All, get_or, length, option_map, remove, replicate, map, slice_get, slice_set}
+use Rattle.bal_base.specs.Valid.{IsText}
 use Rattle.bal_base.specs.declared.fault.LimitKind.{LimitKind}
 use Rattle.bal_base.specs.declared.text.Text.{Text}
 use Rattle.operations.specs.declared.operation.Operation.{Operation}
@@ -13,6 +14,10 @@ use Rattle.run_model.specs.Common.{Common, IsActive}
 use Rattle.machine_model.specs.Machine.{Machine, Ask, On, Does, Stuck, Launch, Frame, State, Moved, Blocked, Ended, NeedsTick, Limit, begun, Step}
 
 -- ---- the start
+
+-- what a run may be started with: fewer than 2^63 texts
+abbrev pub AreWords : List Text → Type 0
+AreWords words = All IsText words × length words < 2 ^ 63
 
 -- the list of main's arguments is made before the first step
 abbrev pub first_world : Option ℕ → List Text → List ℕ → World

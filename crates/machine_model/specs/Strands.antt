@@ -1,7 +1,6 @@
 -- What holds of the strands of every machine in each state that it reaches: who has frames, who is ready, who is blocked and
 -- for what, and where each worker runs. It speaks of statuses and roles, and of what frames do only where a strand is blocked.
-use Rattle.std.specs.Prelude.{◌≡◌, ◌≢◌, ◌⊎◌, ◌<◌, ◌≤◌, ◌+◌, ◌==◌, ℕ, false, List, [], ◌∷◌, Option, Some, None, IsSomeAnd, All, get_or, if◌then◌else◌, length, map, option_map, slice_get, ⊤}
-use Rattle.bal_base.specs.Valid.{IsText}
+use Rattle.std.specs.Prelude.{◌≡◌, ◌≢◌, ◌⊎◌, ◌<◌, ◌≤◌, ◌+◌, ◌==◌, ℕ, false, List, [], ◌∷◌, Option, Some, None, IsSomeAnd, get_or, if◌then◌else◌, length, map, option_map, slice_get, ⊤}
 use Rattle.bal_base.specs.declared.text.Text.{Text}
 use Rattle.operations.specs.declared.operation.Operation.TheVariants.{Workers, WaitAny}
 use Rattle.value_model.specs.declared.value.Value.{Value}
@@ -11,7 +10,7 @@ use Rattle.run_model.specs.Effects.{Waits}
 use Rattle.run_model.specs.Performs.{Performs}
 use Rattle.run_model.specs.Strands.{activation_at, channel_at, end_in, met, settled}
 use Rattle.machine_model.specs.Machine.{Machine, Ask, On, Does, Stuck, Frame, State, asker}
-use Rattle.machine_model.specs.Runs.{Phase, Running, Picking, IsReached}
+use Rattle.machine_model.specs.Runs.{AreWords, Phase, Running, Picking, IsReached}
 use Rattle.machine_model.specs.Keeping.{RunsOn}
 
 -- ---- workers
@@ -154,16 +153,16 @@ module _ {C : Type 0} (natives : Answers) (M : Machine C) where
   -- named workers are started by a frame that is no worker yet
   abbrev pub StartsOnce : Type 0
   StartsOnce =
-      (words : List Text) (input : List ℕ) (ticks : ℕ) (s : State C) (f : Frame C) (fs : List (Frame C)) (vs : List Value) (k : C) → All IsText words →
+      (words : List Text) (input : List ℕ) (ticks : ℕ) (s : State C) (f : Frame C) (fs : List (Frame C)) (vs : List Value) (k : C) → AreWords words →
       IsReached natives M words input ticks Running s → s.frames ≡ f ∷ fs → M.look f.unit f.control ≡ Does Workers vs k → f.role ≡ None
 
   -- an alternate wait is for something
   abbrev pub WaitsForSome : Type 0
   WaitsForSome =
-      (words : List Text) (input : List ℕ) (ticks : ℕ) (s : State C) (f : Frame C) (fs : List (Frame C)) (names : List (Option ℕ)) (vs : List Value) (k : C) → All IsText words →
+      (words : List Text) (input : List ℕ) (ticks : ℕ) (s : State C) (f : Frame C) (fs : List (Frame C)) (names : List (Option ℕ)) (vs : List Value) (k : C) → AreWords words →
       IsReached natives M words input ticks Running s → s.frames ≡ f ∷ fs → M.look f.unit f.control ≡ Does (WaitAny names) vs k → names ≢ []
 
   abbrev pub HoldOfStrands : Type 0
   HoldOfStrands =
-      StartsOnce → WaitsForSome → (words : List Text) (input : List ℕ) (ticks : ℕ) (phase : Phase) (s : State C) → All IsText words →
+      StartsOnce → WaitsForSome → (words : List Text) (input : List ℕ) (ticks : ℕ) (phase : Phase) (s : State C) → AreWords words →
       IsReached natives M words input ticks phase s → StrandsHold natives M phase s

@@ -1,5 +1,5 @@
 -- Values that fit types, and what holds of the heap and of the module variables, in each state that well-typed code reaches.
-use Rattle.std.specs.Prelude.{◌≡◌, ◌≢◌, ℕ, List, Option, Some, None, IsSomeAnd, IsTrue, All, map, reverse, slice_get, ⊤}
+use Rattle.std.specs.Prelude.{◌≡◌, ◌≢◌, ◌<◌, ◌^◌, ℕ, List, Option, Some, None, IsSomeAnd, IsTrue, All, map, reverse, slice_get, ⊤}
 use Rattle.std.specs.List.{AllZip}
 use Rattle.bal_base.specs.declared.shape.Shape.{Shape}
 use Rattle.bal_base.specs.Valid.{IsValid}
@@ -12,6 +12,7 @@ use Rattle.value_model.specs.Meaning.{HasShapes}
 use Rattle.value_model.specs.Stands.{OwnTypes, Belongs, IsUnmarked, MembersBelong}
 use Rattle.value_model.specs.Valid.{IsValidHeap, IsValidValue}
 use Rattle.run_model.specs.Common.{Common}
+use Rattle.run_model.specs.Rows.{size_of}
 use Rattle.run_model.specs.Strands.{is_error}
 use Rattle.stack_code.specs.declared.code.Code.{Code}
 use Rattle.stack_code.specs.Tables.{IsCallable, IsInherent, UnitAt}
@@ -83,6 +84,8 @@ module _ (code : Code) (c : Common) where
     pub valid : IsValidHeap c.world.heap
     -- all that is named is there
     pub closed : IsClosed c.world.heap
+    -- lists and mappings have no more members than shapes may have
+    pub short : All (λ s. size_of s.members < 2 ^ 63) c.world.heap.structures
 
   -- ---- module variables
 

@@ -2,8 +2,7 @@
 use Rattle.std.proofs.Common.{◌≡◌, ◌≢◌, ◌<◌, ◌≤◌, ◌⊎◌, ◌+◌, ◌++◌, ◌==◌, ◌∙◌, ℕ, zero, suc, true, false, List, [], ◌∷◌, Option, Some, None, IsSomeAnd, length, refl, sym, subst, ap, inl, inr, arith}
 use Rattle.std.proofs.lemmas.Bool.{cases_lt, le-leb}
 use Rattle.std.proofs.lemmas.Option.{none-some, slice_get-get_or}
-use Rattle.std.specs.Prelude.{All, Contains, get_or, if◌then◌else◌, slice_get}
-use Rattle.bal_base.specs.Valid.{IsText}
+use Rattle.std.specs.Prelude.{Contains, get_or, if◌then◌else◌, slice_get}
 use Rattle.bal_base.specs.declared.text.Text.{Text}
 use Rattle.type_model.specs.declared.atoms.AtomDef.{AtomDef}
 use Rattle.operations.specs.declared.operation.Operation.{Operation}
@@ -24,7 +23,7 @@ use Rattle.run_model.specs.Performs.{Performs}
 use Rattle.run_model.specs.Strands.{activation_at, channel_at, no_activation, no_strand, strand_at, worker_end}
 use Rattle.machine_model.specs.Keeping.{ApartFrom, AreApart, BelowFit, FramesFit, Invariant, IsIdle, OthersFit, StateFits}
 use Rattle.machine_model.specs.Machine.{Ask, On, Does, Stuck, Frame, Machine, State, Next, Takes, TakesTop, asks, captured_slots}
-use Rattle.machine_model.specs.Runs.{IsReached, Phase, Picking, Running, Reaches, starts, after_move, after_block, after_end, after_pick, does_in, next_operation}
+use Rattle.machine_model.specs.Runs.{AreWords, IsReached, Phase, Picking, Running, Reaches, starts, after_move, after_block, after_end, after_pick, does_in, next_operation}
 use Rattle.machine_model.specs.Strands.{HasRole, IsUnfinished, StartsOnce, StillWaits, StrandsHold, TopWaits, WaitsForSome, frames_in, frames_of, role_of, roles_of, top_role}
 use Rattle.machine_model.proofs.HoldOfStrands.{hold-of-strands}
 use Rattle.machine_model.proofs.Keeping.{kept-holds}
@@ -214,12 +213,12 @@ module _ (natives : Answers) (K : ℕ → Crew) (atoms : List AtomDef) (fillers 
   abbrev M : Machine Doing
   M = trees atoms fillers p
 
-  pub reached-fit : (words : List Text) (input : List ℕ) (ticks : ℕ) (phase : Phase) (s : State Doing) → All IsText words → IsReached natives M words input ticks phase s → StateFits (tree_keeps K) phase s
+  pub reached-fit : (words : List Text) (input : List ℕ) (ticks : ℕ) (phase : Phase) (s : State Doing) → AreWords words → IsReached natives M words input ticks phase s → StateFits (tree_keeps K) phase s
   reached-fit words input ticks phase s texts (n, order, reached) =
       kept-holds natives (patient M) (tree_keeps K) (trees-keep natives K atoms fillers p begun-well) words input ticks phase s texts (n, order, patient-reaches natives M reached)
 
   -- what the running frame asks for is at the head of its tasks
-  top-head : (words : List Text) (input : List ℕ) (ticks : ℕ) (s : State Doing) (f : Frame Doing) (fs : List (Frame Doing)) (other : Operation) (vs : List Value) (k : Doing) → All IsText words → IsReached natives M words input ticks Running s → s.frames ≡ f ∷ fs → M.look f.unit f.control ≡ Does other vs k →
+  top-head : (words : List Text) (input : List ℕ) (ticks : ℕ) (s : State Doing) (f : Frame Doing) (fs : List (Frame Doing)) (other : Operation) (vs : List Value) (k : Doing) → AreWords words → IsReached natives M words input ticks Running s → s.frames ≡ f ∷ fs → M.look f.unit f.control ≡ Does other vs k →
       FrameFits K s.common.activations s.common.running f.unit f.role f.control.tasks × HeadIs f.control.tasks other
   top-head words input ticks s f fs other vs k texts reached frames looks = (
     (subst (λ l. FramesFit (tree_keeps K) s.common s.common.running l) frames (reached-fit words input ticks Running s texts reached).frames.0).0,
@@ -253,10 +252,10 @@ module _ (natives : Answers) (K : ℕ → Crew) (atoms : List AtomDef) (fillers 
           omega (arith, w)
       by (inr (slot, same)) = cc
 
-  pub trees-hold : (words : List Text) (input : List ℕ) (ticks : ℕ) (phase : Phase) (s : State Doing) → All IsText words → IsReached natives M words input ticks phase s → StrandsHold natives M phase s
+  pub trees-hold : (words : List Text) (input : List ℕ) (ticks : ℕ) (phase : Phase) (s : State Doing) → AreWords words → IsReached natives M words input ticks phase s → StrandsHold natives M phase s
   trees-hold = hold-of-strands natives M starts-once waits-for-some
 
-  module _ (words : List Text) (input : List ℕ) (ticks : ℕ) (phase : Phase) (s : State Doing) (texts : All IsText words) (reached : IsReached natives M words input ticks phase s) (a : ℕ) where
+  module _ (words : List Text) (input : List ℕ) (ticks : ℕ) (phase : Phase) (s : State Doing) (texts : AreWords words) (reached : IsReached natives M words input ticks phase s) (a : ℕ) where
     abbrev c : Common
     c = s.common
 

@@ -1,12 +1,11 @@
 -- Workers that wait for one another, in states of any machine.
 use Rattle.std.specs.Prelude.{◌≡◌, ℕ, true, List, [], ◌∷◌, Some, IsSomeAnd, All, Any, Contains, slice_get}
 use Rattle.bal_base.specs.declared.text.Text.{Text}
-use Rattle.bal_base.specs.Valid.{IsText}
 use Rattle.value_model.specs.Meaning.{Answers}
 use Rattle.run_model.specs.Common.{Need, IsBlocked}
 use Rattle.run_model.specs.Strands.{activation_at, has_ended, strand_at}
 use Rattle.machine_model.specs.Machine.{Machine, State}
-use Rattle.machine_model.specs.Runs.{Picking, Phase, IsReached, next_operation}
+use Rattle.machine_model.specs.Runs.{AreWords, Picking, Phase, IsReached, next_operation}
 use Rattle.machine_model.specs.Strands.{IsUnfinished, frames_of, role_of, top_role}
 use Rattle.operations.specs.Talk.{Talk, Sends, Receives, Flushes, StartsWorkers, AwaitsWorkers, NoTalk, talk_of}
 
@@ -42,11 +41,11 @@ HasNoRing M s a = (ws : List ℕ) → All (λ w. IsUnfinished s.common a w × An
 -- at no time
 abbrev pub NeverRings : Answers → {C : Type 0} → Machine C → Type 0
 NeverRings natives {C} M =
-    (words : List Text) (input : List ℕ) (ticks : ℕ) (phase : Phase) (s : State C) → All IsText words →
+    (words : List Text) (input : List ℕ) (ticks : ℕ) (phase : Phase) (s : State C) → AreWords words →
     IsReached natives M words input ticks phase s → (a : ℕ) → HasNoRing M s a
 
 -- whenever no strand is ready to be picked, main has ended
 abbrev pub NeverStalls : Answers → {C : Type 0} → Machine C → Type 0
 NeverStalls natives {C} M =
-    (words : List Text) (input : List ℕ) (ticks : ℕ) (s : State C) → All IsText words →
+    (words : List Text) (input : List ℕ) (ticks : ℕ) (s : State C) → AreWords words →
     IsReached natives M words input ticks Picking s → s.common.ready ≡ [] → has_ended s.common 0 ≡ true
