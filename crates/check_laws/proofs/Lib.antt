@@ -1,0 +1,13 @@
+mod ActionTrees
+mod Actions
+mod Calls
+mod Constructors
+mod EachNeed
+mod Law
+mod Leading
+mod Lines
+mod Setting
+mod Stacks
+mod Trees
+mod Values
+mod Words

@@ -1,0 +1,4 @@
+pub mod Effects
+pub mod Heights
+pub mod Laws
+pub mod Positions

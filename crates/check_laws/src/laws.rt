@@ -1,0 +1,12 @@
+//! Laws of positions. These calls do nothing: their clauses are laws.
+ghost use Rattle.check_laws.specs.Laws.{KeptPositions};
+
+use type_model::Types;
+
+/// Where the needs of an expression, of a part of one or of an action are met, in the order of its line, one typed expression more
+/// stands at the end of those that were found, and what is wanted and what else is open is what it was; and each need of it, where all
+/// before it are met, finds on what was there as many parts, wanted types and other open things as it takes. So it is in each package,
+/// whatever is expected, where there is a unit at hand, and a type is wanted where that counts.
+pub fn positions_are_kept<T: Types>()
+    ensures { KeptPositions T.passes }
+{}
