@@ -5,8 +5,8 @@ ghost use Rattle.graphs.specs.Cycles.{IsCycleFound};
 ghost use Rattle.graphs.specs.Distances.{IsReversed};
 ghost use Rattle.graphs.specs.inner.Searching.{IsNearestOf, IsSooner};
 
-use crate::search::distances;
 use crate::followers::followers;
+use crate::search::distances;
 use bal_base::Memory;
 use std::alloc::Global;
 
