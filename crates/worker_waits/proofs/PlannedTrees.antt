@@ -431,7 +431,7 @@ module _ (passes : List AtomDef → Asked → TypeLimit → Type 0) (p : TypedPa
         by None is at = calm-peers w i e at
         by (Some u) is at = by-body u is u.body refl at
 
-    begun-well : Begun K M
+    pub begun-well : Begun K M
     begun-well =
         record {
           calls = calls;

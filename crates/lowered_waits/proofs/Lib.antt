@@ -1,0 +1,3 @@
+mod Beside
+mod Lowered
+mod Stopped
