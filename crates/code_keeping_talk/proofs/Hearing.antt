@@ -72,7 +72,7 @@ module _ (code : Code) (fillers : ℕ → List Filler) (natives : Answers) (t : 
   Effects effect = EffectFits natives (codes fillers code) (code_invariant code) c depth f (standing (p + 1) f.control.traps l) effect
 
   -- it is a worker, since it names another one
-  its-role : (w : ℕ) → peers_in (talk_of o) ≡ w ∷ [] → (r : Role) × (f.role ≡ Some r)
+  pub its-role : (w : ℕ) → peers_in (talk_of o) ≡ w ∷ [] → (r : Role) × (f.role ≡ Some r)
   its-role w e = by f.role refl (tally_at code p) fits.0.1 some
     where
       some : tally_at code p ≢ None
