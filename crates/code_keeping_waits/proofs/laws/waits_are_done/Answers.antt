@@ -1,0 +1,9 @@
+use Rattle.code_keeping_waits.proofs.Any.{alternate-waits-are-done}
+use Rattle.code_keeping_waits.proofs.One.{single-waits-are-done}
+use Rattle.code_keeping_waits.proofs.laws.waits_are_done.Goals as goal
+
+pub returns-clause-single : goal.returns-clause-single
+returns-clause-single g c = single-waits-are-done g.N.Meaning.answers
+
+pub returns-clause-alternate : goal.returns-clause-alternate
+returns-clause-alternate g c = alternate-waits-are-done g.N.Meaning.answers
