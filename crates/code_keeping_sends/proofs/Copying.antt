@@ -20,18 +20,18 @@ use Rattle.type_model.specs.Places.{is_same_text, item_type, key_type}
 use Rattle.value_model.specs.declared.value.Value.{Value}
 use Rattle.value_model.specs.declared.value.Value.TheVariants.{Nil, Bool as Truth, Int, Str, Struct, Error, Function, Future}
 use Rattle.value_model.specs.Heap.{Entries, Grows, Heap, IsThere, Items, Members, Stays, Structure, entry_at, values_of}
-use Rattle.value_model.specs.Stands.{Belongs, BelongsIf, IsUnmarked, MembersBelong, Stands, StructureStands}
+use Rattle.value_model.specs.Stands.{Belongs, BelongsIf, IsUnmarked, MembersBelong, StructureStands}
 use Rattle.value_model.specs.Valid.{AreValidMembers, IsValidValue}
 use Rattle.value_model.specs.World.{World}
 use Rattle.run_model.specs.Common.{Common}
-use Rattle.run_model.specs.Copies.{copied_members, copied_number, copied_structure, copied_structures, copied_value, copy_of, mutable_members, mutable_number, mutable_numbers, reached_from, with_copies}
+use Rattle.run_model.specs.Copies.{copied_members, copied_structure, copied_structures, copied_value, copy_of, mutable_members, mutable_number, mutable_numbers, reached_from, with_copies}
 use Rattle.run_model.specs.Effects.{with_world}
 use Rattle.run_model.specs.Levels.{distinct, levels}
 use Rattle.run_model.specs.Rows.{size_of}
 use Rattle.machine_model.proofs.Once.{some-same}
 use Rattle.stack_code.specs.declared.code.Code.{Code}
 use Rattle.stack_code.specs.Tables.{IsInherent}
-use Rattle.stack_code.specs.Values.{Fits, GoodHeap, IsMade, IsOfStrand, IsWithinAtom, code_types}
+use Rattle.stack_code.specs.Values.{Fits, GoodHeap, IsMade, IsWithinAtom, code_types}
 use Rattle.code_keeping.proofs.Growing.{IsGrown, IsNewStructure, belongs-there, front-or-behind, get-behind, get-front, later, made-there}
 use Rattle.code_keeping.proofs.Lists.{all-at, at-some, of-some, some-there, some-to, there}
 use Rattle.code_keeping.proofs.Serving.{all-to}
@@ -334,8 +334,12 @@ module _ (code : Code) (c : Common) (good : GoodHeap code c) (root : Value) wher
       record {
         mutable = λ m. some-to (λ a. IsInherent code a × ((x : Shape) × IsValid x × IsUnmarked x × In code.atoms x (Atom a)) × IsSomeAnd (slice_get code.atoms a) (MembersBelong (code_types code) heap s.members))
             (λ a. IsInherent code a × ((x : Shape) × IsValid x × IsUnmarked x × In code.atoms x (Atom a)) × IsSomeAnd (slice_get code.atoms a) (MembersBelong (code_types code) world-then.heap (copied_members first ns s.members))) s.atom
-            (λ a (known, shape, belong). (known, shape, some-to (MembersBelong (code_types code) heap s.members) (MembersBelong (code_types code) world-then.heap (copied_members first ns s.members)) (slice_get code.atoms a)
-            (λ x m. members-belong s.members x members-there m) belong))
+            (λ a (known, shape, belong). (
+              known,
+              shape,
+              some-to (MembersBelong (code_types code) heap s.members) (MembersBelong (code_types code) world-then.heap (copied_members first ns s.members)) (slice_get code.atoms a)
+                  (λ x m. members-belong s.members x members-there m) belong,
+            ))
             (all-at (IsWithinAtom code c) heap.structures n s good.mutable e is);
         frozen = λ f. absurd (let q : ⊥ = cc in q);
         made = members-made s.members (all-at (λ s. All (IsMade code c) (values_of s.members)) heap.structures n s good.members e);

@@ -1,5 +1,4 @@
 -- What a frame asks for with a send fits, and something comes.
-use Rattle.std.proofs.Common.{ℕ}
 use Rattle.value_model.specs.Meaning.{Answers}
 use Rattle.code_keeping.proofs.Places.{at-place}
 use Rattle.code_keeping_sends.specs.Laws.{SendsAreDone}

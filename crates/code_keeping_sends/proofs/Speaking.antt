@@ -8,7 +8,7 @@ use Rattle.operations.specs.declared.operation.Constant.TheVariants.{Nil as NilC
 use Rattle.operations.specs.declared.operation.Operation.{Operation}
 use Rattle.operations.specs.declared.operation.Operation.TheVariants as op
 use Rattle.operations.specs.Kinds.{IsNil}
-use Rattle.operations.specs.Rows.{One as OneOperand, Surroundings}
+use Rattle.operations.specs.Rows.{One as OneOperand}
 use Rattle.operations.specs.Talk.{Sends, talk_of}
 use Rattle.operations.specs.Typing.{OpTyped}
 use Rattle.value_model.specs.declared.filler.Filler.{Filler}
@@ -27,7 +27,7 @@ use Rattle.run_model.specs.Performs.{AsWorker, Performs}
 use Rattle.run_model.specs.Strands.{activation_at, channel_at, settled, with_channel, woken}
 use Rattle.machine_model.specs.Following.{EndsFrame}
 use Rattle.machine_model.specs.Keeping.{AskFits, EffectFits}
-use Rattle.machine_model.specs.Machine.{Ask, Frame, asks, captured_slots, goes_to}
+use Rattle.machine_model.specs.Machine.{Ask, Frame, asks, captured_slots}
 use Rattle.machine_model.specs.Runs.{Running}
 use Rattle.stack_code.specs.declared.code.Code.{Code}
 use Rattle.stack_code.specs.CodeMachine.{Standing, code_facts, codes, obeys, standing}
@@ -35,8 +35,8 @@ use Rattle.stack_code.specs.Commands.{Do, command_at}
 use Rattle.stack_code.specs.Flow.{DoesTyped, tally_behind, tally_then}
 use Rattle.stack_code.specs.Frames.{IsOfItsUnit, TallyIs, TopFits, end_in_call}
 use Rattle.stack_code.specs.Good.{GoodCommon, IsLater, NearlyCommon, code_invariant}
-use Rattle.stack_code.specs.Messages.{IsLast, peers_in}
-use Rattle.stack_code.specs.Places.{IsStation, crew, stack_at, surroundings, tally_at}
+use Rattle.stack_code.specs.Messages.{peers_in}
+use Rattle.stack_code.specs.Places.{IsStation, crew, surroundings, tally_at}
 use Rattle.stack_code.specs.Values.{AllFit, Fits}
 use Rattle.stack_code.specs.WellTyped.{WellTyped}
 use Rattle.code_keeping.specs.Laws.{AskComes, StandsAt, TalkedWell}
@@ -51,7 +51,7 @@ use Rattle.code_keeping.proofs.Sending.{sends-keep}
 use Rattle.code_keeping.proofs.Settling.{settling-keeps}
 use Rattle.code_keeping.proofs.Staying.{tally-later, unit-later}
 use Rattle.code_keeping.proofs.Taking.{IsTaken, take-operands}
-use Rattle.code_keeping.proofs.Talking.{IsTalking, changed, now-is, talking, was}
+use Rattle.code_keeping.proofs.Talking.{IsTalking, now-is, talking, was}
 use Rattle.code_keeping_talk.proofs.Following.{later-follows}
 use Rattle.code_keeping_talk.proofs.Hearing.{its-role}
 use Rattle.code_keeping_talk.proofs.Lasting.{what-held-holds}

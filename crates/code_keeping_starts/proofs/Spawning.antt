@@ -1,22 +1,22 @@
 -- A strand is made that is no worker's: all that is shared stays good, and what held holds.
-use Rattle.std.proofs.Common.{◌≡◌, ◌≢◌, ◌<◌, ◌+◌, ◌∙◌, ℕ, zero, suc, Bool, true, false, List, [], ◌∷◌, ◌++◌, Option, Some, None, inl, inr, length, refl, sym, ap, subst, arith}
+use Rattle.std.proofs.Common.{◌≡◌, ◌≢◌, ◌<◌, ◌+◌, ◌∙◌, ℕ, zero, suc, Bool, false, List, [], ◌∷◌, ◌++◌, Option, Some, None, inl, inr, length, refl, sym, ap, subst, arith}
 use Rattle.std.proofs.Math.ListN.{get_or-append}
 use Rattle.std.proofs.lemmas.List.{length-append}
 use Rattle.std.proofs.lemmas.List.Elements.{All-append, All-cons, All-head, All-nil, All-tail, Contains-append_cases, Contains-append_left, Contains-append_right}
 use Rattle.std.proofs.lemmas.List.Quantifiers.{all_pairs_push}
 use Rattle.std.proofs.lemmas.Option.{slice_get_within}
-use Rattle.std.specs.Prelude.{◌⊎◌, ◌&&◌, ◌||◌, All, Contains, IsSomeAnd, IsTrue, get_or, if◌then◌else◌, is_some, not, slice_get}
+use Rattle.std.specs.Prelude.{◌⊎◌, ◌&&◌, ◌||◌, All, Contains, IsTrue, get_or, if◌then◌else◌, is_some, not, slice_get}
 use Rattle.std.specs.List.{list_all, list_any}
 use Rattle.value_model.specs.Heap.{values_of}
 use Rattle.run_model.specs.Common.{AllEnded, AnyGiven, Common, IsActive, IsBlocked, Message, Need, Received, Role, Strand}
-use Rattle.run_model.specs.Strands.{end_in, end_of, ended_count, has_ended, has_success, is_success, met, no_strand, strand_at, strand_made}
+use Rattle.run_model.specs.Strands.{end_in, ended_count, has_ended, has_success, is_success, met, no_strand, strand_at, strand_made}
 use Rattle.machine_model.specs.Runs.{Running}
 use Rattle.stack_code.specs.declared.code.Code.{Code}
 use Rattle.stack_code.specs.Good.{GoodCommon, GoodReady, IsKnown, IsLater, IsSameStrand, NeedIsThere, StrandAt, StrandFits, WorkerStays}
 use Rattle.stack_code.specs.Values.{AllFit, GoodHeap, IsMade, IsWithinUnit}
 use Rattle.code_keeping.proofs.Growing.{IsIn, front-or-behind, get-front, get-last}
 use Rattle.code_keeping.proofs.Later.{activation-later, end-later, strand-later, to-run-later, variables-later}
-use Rattle.code_keeping.proofs.Lists.{all-at, at-some, some-there, some-to}
+use Rattle.code_keeping.proofs.Lists.{at-some, some-there, some-to}
 use Rattle.code_keeping.proofs.Serving.{all-to}
 use Rattle.code_keeping.proofs.Staying.{all-later, later-so, made-later, same-calls}
 

@@ -1,9 +1,9 @@
 -- What a frame asks for at a start: a strand more begins the unit with its arguments, and its future is given.
-use Rattle.std.proofs.Common.{◌≡◌, ◌≢◌, ◌∙◌, ◌<◌, ◌+◌, ℕ, Bool, true, false, List, [], ◌∷◌, ◌++◌, Option, Some, None, inl, map, length, reverse, refl, sym, ap, subst, arith}
+use Rattle.std.proofs.Common.{◌≡◌, ◌≢◌, ◌∙◌, ◌+◌, ℕ, Bool, true, false, List, [], ◌∷◌, ◌++◌, Some, None, inl, length, reverse, refl, sym, ap, subst, arith}
 use Rattle.std.proofs.lemmas.List.{append-nil}
-use Rattle.std.specs.Prelude.{IsSomeAnd, if◌then◌else◌, nat_lt, option_map, option_to_list, slice_get}
+use Rattle.std.specs.Prelude.{if◌then◌else◌, nat_lt, option_map, option_to_list, slice_get}
 use Rattle.bal_base.specs.declared.fault.LimitKind.TheVariants.{Strands}
-use Rattle.type_model.specs.declared.basic.SemType.{SemType, Atom}
+use Rattle.type_model.specs.declared.basic.SemType.{Atom}
 use Rattle.type_model.specs.Membership.{In}
 use Rattle.operations.specs.declared.operation.Operation.{Operation}
 use Rattle.operations.specs.declared.operation.Operation.TheVariants as op
@@ -13,13 +13,13 @@ use Rattle.value_model.specs.declared.value.Value.{Value}
 use Rattle.value_model.specs.declared.value.Value.TheVariants.{Future}
 use Rattle.value_model.specs.Meaning.{Answers}
 use Rattle.run_model.specs.CallRows.{starts}
-use Rattle.run_model.specs.Common.{Common, Role, Strand}
-use Rattle.run_model.specs.Effects.{Beyond, Effect, Spawned, Spawns}
+use Rattle.run_model.specs.Common.{Common, Strand}
+use Rattle.run_model.specs.Effects.{Beyond, Effect, Spawns}
 use Rattle.run_model.specs.Limits.{most_strands}
 use Rattle.run_model.specs.Local.{Local, takes, with_stack}
 use Rattle.run_model.specs.Strands.{strand_made}
 use Rattle.machine_model.specs.Keeping.{AskFits, EffectFits}
-use Rattle.machine_model.specs.Machine.{Ask, Frame, asks, captured_slots, goes_to}
+use Rattle.machine_model.specs.Machine.{Ask, Frame, asks, captured_slots}
 use Rattle.machine_model.specs.Runs.{Running}
 use Rattle.machine_model.proofs.Once.{some-same}
 use Rattle.stack_code.specs.declared.code.Code.{Code}
@@ -29,7 +29,7 @@ use Rattle.stack_code.specs.Commands.{Do, command_at}
 use Rattle.stack_code.specs.Flow.{DoesTyped}
 use Rattle.stack_code.specs.Frames.{TallyIs, TopFits}
 use Rattle.stack_code.specs.Good.{GoodCommon, code_invariant}
-use Rattle.stack_code.specs.Places.{IsIn, IsStation, IsWorkerUnit, Station, tally_at}
+use Rattle.stack_code.specs.Places.{IsStation, IsWorkerUnit, Station, tally_at}
 use Rattle.stack_code.specs.Tables.{IsCallable}
 use Rattle.stack_code.specs.Values.{AllFit, Fits, code_types}
 use Rattle.stack_code.specs.WellTyped.{WellTyped}
@@ -44,7 +44,7 @@ use Rattle.code_keeping.proofs.Shapes.{get-map}
 use Rattle.code_keeping.proofs.Staying.{above, all-later}
 use Rattle.code_keeping.proofs.Taking.{take-operands}
 use Rattle.code_keeping_starts.specs.Laws.{StartsAreDone}
-use Rattle.code_keeping_starts.proofs.Spawning.{d, good-so, later, many, new, new-there, number}
+use Rattle.code_keeping_starts.proofs.Spawning.{d, good-so, later, many, new, new-there}
 
 -- the first frame of a strand that is made for a unit that is no worker's, with arguments that fit
 module _ (code : Code) (t : WellTyped code) (c : Common) (unit : ℕ) (g : CodeUnit) (eg : slice_get code.units unit ≡ Some g) (no-worker : ¬ (IsWorkerUnit code unit)) where

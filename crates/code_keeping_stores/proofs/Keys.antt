@@ -1,5 +1,5 @@
 -- A member of a mapping is stored.
-use Rattle.std.proofs.Common.{◌≡◌, ◌∙◌, ℕ, List, [], ◌∷◌, Option, Some, None, inl, inr, refl, sym, ap, subst}
+use Rattle.std.proofs.Common.{◌≡◌, ◌∙◌, ℕ, List, [], ◌∷◌, Option, Some, inl, inr, refl, sym, ap, subst}
 use Rattle.std.proofs.lemmas.List.Elements.{All-cons, All-head, All-nil, All-tail}
 use Rattle.std.specs.Prelude.{◌⊎◌, All, IsSomeAnd, IsTrue, map, option_and_then, slice_get}
 use Rattle.bal_base.specs.Valid.{IsText}
@@ -15,17 +15,16 @@ use Rattle.operations.specs.Rows.{NoResult, Surroundings}
 use Rattle.value_model.specs.declared.filler.Filler.{Filler}
 use Rattle.value_model.specs.declared.panics.PanicName.TheVariants.{InherentTypeViolation}
 use Rattle.value_model.specs.declared.value.Value.{Value}
-use Rattle.value_model.specs.declared.value.Value.TheVariants.{Str, Struct}
+use Rattle.value_model.specs.declared.value.Value.TheVariants.{Struct}
 use Rattle.value_model.specs.Heap.{AreAlike, Entries, Members, Structure, entry_at, values_of}
 use Rattle.value_model.specs.Meaning.{Answers}
-use Rattle.value_model.specs.Stands.{Belongs, BelongsIf, MembersBelong, OwnTypes}
+use Rattle.value_model.specs.Stands.{Belongs, BelongsIf, MembersBelong}
 use Rattle.value_model.specs.Valid.{AreValidMembers, IsValidValue}
-use Rattle.value_model.specs.World.{Came}
 use Rattle.run_model.specs.Common.{Common}
 use Rattle.run_model.specs.Effects.{lifted}
 use Rattle.run_model.specs.Facts.{own_types}
 use Rattle.run_model.specs.Performs.{Performs}
-use Rattle.run_model.specs.Rows.{Else, gives_nothing, panics, within}
+use Rattle.run_model.specs.Rows.{gives_nothing, panics, within}
 use Rattle.run_model.specs.Stores.{StoresKey, atom_of, set_entry, stored, type_at_key}
 use Rattle.run_model.specs.StructureRows.{SetsKey}
 use Rattle.machine_model.specs.Runs.{Running}
