@@ -1,0 +1,3 @@
+pub mod Seen
+pub mod Falls
+pub mod Errors
