@@ -12,13 +12,15 @@ ghost use Rattle.empty_arrow.specs.Parts.{HasPart, part_of};
 
 use crate::parts::part;
 use crate::questions::{outside, within, within_parts};
-use bal_base::{Memory, Shape};
+use bal_base::Memory;
 use std::alloc::Global;
 use type_diagrams::{Diagrams, Finding, Member, Path, Turn, look_up};
 use type_model::{BasicSet, SemType, TypeEnv};
+use witness::Witness;
 
 /// A shape of an error path, that there is none, or the question about the detail: for marked mappings in
-/// all wanted details and in no unwanted one. No error is marked.
+/// all wanted details and in no unwanted one. No error is marked. The shape has the detail that the table keeps,
+/// and no copy of it.
 pub fn err_shape<M: Member>(
     alloc: Global,
     env: &TypeEnv,
@@ -34,10 +36,8 @@ pub fn err_shape<M: Member>(
     if path.is_marked() {
         return Ok(Turn::Empty);
     }
-    match look_up(alloc, m, question)? {
-        Finding::Part(detail) => Ok(Turn::Shape(Shape::Error {
-            detail: Box::new(alloc, detail)?,
-        })),
+    match look_up(m, question)? {
+        Finding::Part(detail) => Ok(Turn::Shape(Witness::error(alloc, detail)?)),
         Finding::Held => Ok(Turn::Empty),
         Finding::Unknown => Ok(Turn::Ask(question)),
     }

@@ -20,6 +20,7 @@ use bal_base::{Graph, Memory, Shape, Stop};
 use std::alloc::Global;
 use type_diagrams::{Context, Diagrams, MOST_ARROWS, Member, Path, Turn};
 use type_model::{BasicSet, SemType, TypeEnv, TypeLimit};
+use witness::Witness;
 
 /// A shape of a function path, that there is none, or a question about arguments or results of a pair. Each
 /// unwanted arrow is avoided by a pair of its own; but where no wanted arrow has isolated functions alone,
@@ -103,10 +104,11 @@ fn graph<M: Member>(
         };
         cases.push(case)?;
     }
-    Ok(Turn::Shape(Shape::Function {
+    let function = Shape::Function {
         isolated,
         graph: Graph::of(cases),
-    }))
+    };
+    Ok(Turn::Shape(Witness::whole(context.alloc, function)?))
 }
 
 /// A pair that all wanted arrows allow, and the unwanted one doesn't.

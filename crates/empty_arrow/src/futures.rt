@@ -13,9 +13,11 @@ use bal_base::{Memory, Shape, Shapes};
 use std::alloc::Global;
 use type_diagrams::{Context, Diagrams, Finding, Member, Path, Turn, look_up};
 use type_model::TypeEnv;
+use witness::Witness;
 
 /// A shape of a future path, that there is none, or a question about a result: for each unwanted atom, a
-/// result in all wanted atoms' results that isn't in this one's. No future is marked.
+/// result in all wanted atoms' results that isn't in this one's. No future is marked. The shape has copies of the
+/// results that the table keeps, so this takes time and memory by their size written out.
 pub fn fut_shape<M: Member>(
     alloc: Global,
     env: &TypeEnv,
@@ -55,14 +57,15 @@ fn results<M: Member>(
     let mut found = Vec::new(context.alloc);
     for atom in unwanted {
         let question = outside(context.env, dia, all, part(defs, *atom))?;
-        let result = match look_up(context.alloc, context.m, question)? {
+        let result = match look_up(context.m, question)? {
             Finding::Part(result) => result,
             Finding::Held => return Ok(Turn::Empty),
             Finding::Unknown => return Ok(Turn::Ask(question)),
         };
-        found.push(result)?;
+        found.push(result.copied(context.alloc)?)?;
     }
-    Ok(Turn::Shape(Shape::Future {
+    let future = Shape::Future {
         results: Shapes::of(found),
-    }))
+    };
+    Ok(Turn::Shape(Witness::whole(context.alloc, future)?))
 }

@@ -98,7 +98,7 @@ fn settled<M: Member>(dia: &Diagrams, sought: Sought, m: &M) -> Option<Found>
     }
 }
 
-/// A pair of kept shapes.
+/// A pair of copies of kept shapes.
 fn kept_pair<M: Member>(
     context: &Context<'_, M>,
     dia: &Diagrams,
@@ -110,18 +110,18 @@ fn kept_pair<M: Member>(
     requires sound { All (IsSound context.now.env.now dia.now) (M.kept context.now.m.now) }
     ensures { IfOk result (TellsPair context.now.env.now dia.now (M.kept context.now.m.now) (condition dia.now sought.args) (condition dia.now sought.result) sought.may_fail []) }
 {
-    let args = match look_up(context.alloc, context.m, sought.args)? {
-        Finding::Part(part) => items(part),
+    let args = match look_up(context.m, sought.args)? {
+        Finding::Part(part) => items(part.copied(context.alloc)?),
         Finding::Held => return Ok(Found::Empty),
         Finding::Unknown => return Ok(Found::Ask(sought.args)),
     };
     if sought.may_fail {
         return Ok(Found::Pair(Case { args, result: None }));
     }
-    match look_up(context.alloc, context.m, sought.result)? {
+    match look_up(context.m, sought.result)? {
         Finding::Part(part) => Ok(Found::Pair(Case {
             args,
-            result: Some(part),
+            result: Some(part.copied(context.alloc)?),
         })),
         Finding::Held => Ok(Found::Empty),
         Finding::Unknown => Ok(Found::Ask(sought.result)),

@@ -11,7 +11,7 @@ use Rattle.type_diagrams.specs.Kept.{IsHeldEmpty}
 use Rattle.type_diagrams.specs.Tables.{Table, condition}
 use Rattle.type_diagrams.specs.Turns.{IsSound}
 use Rattle.type_diagrams.proofs.Meeting.{Meets-nothing, Meets-same, Meets-without}
-use Rattle.type_diagrams.proofs.Tellings.{told-IsShapeOf}
+use Rattle.type_diagrams.proofs.Tellings.{found-IsShapeOf}
 use Rattle.empty_product.specs.declared.slots.Slot.{Slot}
 use Rattle.empty_product.specs.declared.slots.Slot.TheVariants.{Optional, Present}
 use Rattle.empty_product.specs.Slots.{Place, MayHave, HasNone, MustHave, Asking, IsAt, AvoidsAt, IsAbsentAs, IsInHeld, IsNarrower, IsVoidAt, TellsPart, condition_at, place_of}
@@ -142,7 +142,7 @@ slot-condition t slot q from is same = ⊎_elim
 -- ---- what is found of a question
 
 pub found : (env : List AtomDef) (t : Table) (kept : List (ℕ × Option Shape)) (q : ℕ) → ¬ IsNothing (condition t q) → All (IsSound env t) kept → (finding : Finding) → IsFinding kept q finding → TellsPart env t kept q finding
-found env t kept q some sound (FoundPart y) h = told-IsShapeOf env t kept q sound h.0 y h.1 h.2
+found env t kept q some sound (FoundPart x) h = found-IsShapeOf env t kept q sound x h
 found env t kept q some sound FoundHeld h = λ x s. record { question = q; held = h; inside = s }
 found env t kept q some sound FoundUnknown h = (h, some)
 

@@ -8,14 +8,15 @@ ghost use Rattle.empty_product.specs.Products.{AreSlots, AreUnwanted, Avoids, Is
 ghost use Rattle.empty_product.specs.Slots.{IsDemand, IsSlot, asking_of, place_of};
 
 use crate::slots::{Demand, Narrowed, Slot, Unwanted, find_part, is_outside, narrow_slot};
-use bal_base::{Memory, Shape};
+use bal_base::Memory;
 use type_diagrams::{Context, Diagrams, Finding, Member};
+use witness::Witness;
 
 /// What is found of a product.
 #[derive(Drop)]
 pub(crate) enum Filling {
     /// A part for each place, or none.
-    Parts(Vec<Option<Shape>>),
+    Parts(Vec<Option<Witness>>),
     /// For each filling, one of its parts is in a question that the table holds to be empty.
     Empty,
     /// A question about a part that the table doesn't know.
@@ -132,7 +133,7 @@ fn filled<M: Member>(
 /// What the table has for a slot.
 #[derive(Drop)]
 enum Kept {
-    Part(Option<Shape>),
+    Part(Option<Witness>),
     Void,
     Unknown(u32),
 }

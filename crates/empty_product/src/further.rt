@@ -7,8 +7,9 @@ ghost use Rattle.type_diagrams.specs.Whole.{Extends};
 ghost use Rattle.empty_product.specs.Further.{TellsFurther, rest_askings_of};
 
 use crate::slots::find_part;
-use bal_base::{Memory, Shape};
+use bal_base::Memory;
 use type_diagrams::{Context, Diagrams, Finding, Member};
+use witness::Witness;
 
 /// What an unwanted atom asks of all further parts.
 #[derive(Clone, Copy)]
@@ -28,7 +29,7 @@ pub(crate) enum Further {
 /// Further parts, one for each atom that is avoided by one, and the atoms that no further part avoids.
 #[derive(Drop)]
 pub(crate) struct FurtherParts {
-    pub(crate) parts: Vec<Shape>,
+    pub(crate) parts: Vec<Witness>,
     pub(crate) staying: Vec<u32>,
 }
 

@@ -21,10 +21,11 @@ use crate::list_atoms::{
 };
 use crate::literals::Literals;
 use crate::slots::{Demand, Known, Slot, Unwanted, find_part, standing};
-use bal_base::{Memory, Shape, Shapes};
+use bal_base::Memory;
 use std::alloc::Global;
 use type_diagrams::{Context, Diagrams, Finding, Member, Path, Turn};
 use type_model::{AtomDef, TypeEnv};
+use witness::Witness;
 
 /// A shape of a list path, that there is none, or a question about an item: for each length up to the longest
 /// fixed prefix, and then for all longer lists. A path that doesn't say whether its lists are marked is
@@ -91,8 +92,8 @@ fn turn_of(alloc: Global, mark: bool, filling: Filling) -> Result<Turn, Memory>
 {
     match filling {
         Filling::Parts(parts) => {
-            let items = Shapes::of(all_items(alloc, parts)?);
-            Ok(Turn::Shape(Shape::List { mark, items }))
+            let items = all_items(alloc, parts)?;
+            Ok(Turn::Shape(Witness::list(alloc, mark, items)?))
         }
         Filling::Empty => Ok(Turn::Empty),
         Filling::Ask(question) => Ok(Turn::Ask(question)),
@@ -100,7 +101,7 @@ fn turn_of(alloc: Global, mark: bool, filling: Filling) -> Result<Turn, Memory>
 }
 
 /// The parts, of which each place has one.
-fn all_items(alloc: Global, parts: Vec<Option<Shape>>) -> Result<Vec<Shape>, Memory>
+fn all_items(alloc: Global, parts: Vec<Option<Witness>>) -> Result<Vec<Witness>, Memory>
     requires { IsFilled (Parts parts) }
     ensures { IfOk result (λ items. parts.items ≡ map Some items.items) }
 {
@@ -380,7 +381,7 @@ fn longer_lists<M: Member>(
     dia: &mut Diagrams,
     bases: &[u32],
     atoms: &[u32],
-    first: Shape,
+    first: Witness,
 ) -> Result<Filling, Memory>
     requires atoms { All (IsListAtom context.now.env.now) atoms.now }
     requires atoms_before { All (FixesBefore context.now.env.now (length bases.now - 1)) atoms.now }
@@ -435,9 +436,9 @@ pub(crate) fn rest_demands(
 
 /// The items with one more of the rest behind them, and further ones.
 fn with_further(
-    parts: Vec<Option<Shape>>,
-    first: Shape,
-    further: Vec<Shape>,
+    parts: Vec<Option<Witness>>,
+    first: Witness,
+    further: Vec<Witness>,
 ) -> Result<Filling, Memory>
     ensures { IfOk result (λ filling. IsFilledWith (parts.items ++ map Some (first ∷ further.items)) filling) }
 {

@@ -22,10 +22,11 @@ use crate::further::{Further, FurtherParts, further_parts};
 use crate::literals::Literals;
 use crate::mapping_atoms::{add_key, key_behind, mappings_in_play};
 use crate::mappings::{all_demands, base, keys_of, rest_demands, slots};
-use bal_base::{Memory, Shape, Text};
+use bal_base::{Memory, Text};
 use std::alloc::Global;
 use type_diagrams::{Context, Diagrams, Member, Path, Projection};
 use type_model::TypeEnv;
+use witness::Witness;
 
 /// What stands at a key of a mapping path's shapes, or at any.
 pub fn map_parts<M: Member>(
@@ -163,7 +164,7 @@ fn parts_at_key<M: Member>(
 }
 
 /// The keys, and one behind them for each further part: a mapping can have so many members.
-fn keys_behind(alloc: Global, keys: &[Text], further: &[Shape]) -> Result<Vec<Text>, Memory>
+fn keys_behind(alloc: Global, keys: &[Text], further: &[Witness]) -> Result<Vec<Text>, Memory>
     requires { AreInOrder keys.now }
     ensures { IfOk result (λ all. IsRoom keys.now (length further.now) all.items) }
 {

@@ -17,10 +17,11 @@ use crate::mapping_atoms::{
     named_keys,
 };
 use crate::slots::{Demand, Slot, Unwanted};
-use bal_base::{Fields, Memory, Shape, Text};
+use bal_base::{Memory, Text};
 use std::alloc::Global;
 use type_diagrams::{Context, Diagrams, Member, Path, Turn};
 use type_model::TypeEnv;
+use witness::Witness;
 
 /// A shape of a mapping path, that there is none, or a question about a member, at a key that an atom of the
 /// path names or at all others. A path that doesn't say whether its mappings are marked is settled by its
@@ -112,7 +113,7 @@ fn filled<M: Member>(
     dia: &mut Diagrams,
     literals: &Literals<'_>,
     keys: Vec<Text>,
-    further: Vec<Shape>,
+    further: Vec<Witness>,
 ) -> Result<Turn, Memory>
     requires wanted { All (IsMappingAtom context.now.env.now) literals.now.wanted.now }
     requires staying { All (IsMappingAtom context.now.env.now) literals.now.unwanted.now }
@@ -276,9 +277,9 @@ fn mapping(
     alloc: Global,
     mark: bool,
     keys: Vec<Text>,
-    parts: Vec<Option<Shape>>,
-    further: Vec<Shape>,
-) -> Result<Shape, Memory>
+    parts: Vec<Option<Witness>>,
+    further: Vec<Witness>,
+) -> Result<Witness, Memory>
     requires ordered { AreInOrder keys.items }
     requires long { length parts.items ≡ length keys.items }
     ensures { IfOk result (IsMappingOf mark keys.items parts.items further.items) }
@@ -290,16 +291,16 @@ fn mapping(
         keys.push(key)?;
         parts.push(Some(part))?;
     }
-    let fields = Fields::of(members(alloc, keys, parts)?);
-    Ok(Shape::Mapping { mark, fields })
+    let fields = members(alloc, keys, parts)?;
+    Witness::mapping(alloc, mark, fields)
 }
 
 /// The members at the keys that have a part.
 fn members(
     alloc: Global,
     keys: Vec<Text>,
-    parts: Vec<Option<Shape>>,
-) -> Result<Vec<(Text, Shape)>, Memory>
+    parts: Vec<Option<Witness>>,
+) -> Result<Vec<(Text, Witness)>, Memory>
     ensures { IfOk result (λ members. members.items ≡ members_at keys.items parts.items) }
 {
     let mut members = Vec::new(alloc);
@@ -311,9 +312,9 @@ fn members(
 
 /// Puts the part behind the members, if there is one.
 fn add_member(
-    members: &mut Vec<(Text, Shape)>,
+    members: &mut Vec<(Text, Witness)>,
     key: Text,
-    part: Option<Shape>,
+    part: Option<Witness>,
 ) -> Result<(), Memory>
     ensures { OnOk result (members.new.items ≡ members.old.items ++ cons_option (option_map (λ x. (key, x)) part) []) }
 {

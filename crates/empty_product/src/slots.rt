@@ -61,7 +61,7 @@ pub(crate) fn standing<M: Member>(dia: &Diagrams, question: u32, m: &M) -> Known
     }
 }
 
-/// A shape of a question that the table has, with a copy of it; that none is in it, or that it is held to be
+/// A shape of a question that the table has, shared with the table; that none is in it, or that it is held to be
 /// empty; or that the table doesn't know it.
 pub(crate) fn find_part<M: Member>(
     context: &Context<'_, M>,
@@ -74,7 +74,7 @@ pub(crate) fn find_part<M: Member>(
     if dia.is_nothing(question) {
         return Ok(Finding::Held);
     }
-    look_up(context.alloc, context.m, question)
+    look_up(context.m, question)
 }
 
 /// A slot where a demand is avoided.

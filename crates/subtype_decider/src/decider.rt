@@ -98,8 +98,9 @@ impl Decider {
         self.env.add(defs)
     }
 
-    /// Whether every shape of `s` is in `t`, or a shape of `s` that isn't. `TypeLimit` comes only where the
-    /// questions to which this leads pass the limit. Whatever it answers, what was found out stays.
+    /// Whether every shape of `s` is in `t`, or a shape of `s` that isn't, which is a copy of the one that is kept.
+    /// `TypeLimit` comes only where the questions to which this leads pass the limit. Whatever it answers, what was
+    /// found out stays.
     pub fn sub(
         &mut self,
         alloc: Global,

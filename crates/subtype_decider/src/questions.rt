@@ -27,6 +27,7 @@ use std::alloc::Global;
 use std::mem;
 use type_diagrams::{Diagrams, MOST_QUESTIONS, Member, Turn};
 use type_model::{SemType, TypeEnv, TypeLimit};
+use witness::Witness;
 
 /// Questions about types: the diagrams, what is known of them, and on which a call works.
 #[derive(Drop)]
@@ -85,7 +86,7 @@ impl Questions {
     }
 
     /// A shape of a question that the table knows, or `None` where it has none. Takes no memory.
-    pub fn shape(&self, question: u32) -> Option<&Shape>
+    pub fn shape(&self, question: u32) -> Option<&Witness>
         requires { Knows self.now.table question }
         ensures { (env : List AtomDef) → IsAtRest env self.now → FindsShapeOf env (condition self.now.diagrams question) (option_copied result) }
     {
@@ -96,7 +97,8 @@ impl Questions {
     }
 
     /// A shape of the diagram, or `None` where it has none. The table keeps all that it knew. The limits are
-    /// those of `decide`.
+    /// those of `decide`. What is given is a copy of the kept shape, and takes time and memory by its size written
+    /// out, where a part counts as often as it stands in it; `shape` tells the same without a copy.
     pub fn find<S: Settles>(
         &mut self,
         alloc: Global,
@@ -115,7 +117,7 @@ impl Questions {
     {
         self.decide(alloc, settles, env, question)?;
         match self.shape(question) {
-            Some(shape) => Ok(Some(shape.copy(alloc)?)),
+            Some(shape) => Ok(Some(shape.copied(alloc)?)),
             None => Ok(None),
         }
     }
@@ -279,7 +281,8 @@ impl Questions {
         }
         match shape {
             Some(shape) => {
-                self.table.add(question, Some(shape))?;
+                let witness = Witness::whole(call.alloc, shape)?;
+                self.table.add(question, Some(witness))?;
                 Ok(())
             }
             None => {
@@ -334,7 +337,7 @@ impl Questions {
 
     /// Keeps a shape of the question that was worked on. All others that the call holds to be empty are to be
     /// judged again.
-    fn refute(&mut self, shape: Shape) -> Result<(), Memory>
+    fn refute(&mut self, shape: Witness) -> Result<(), Memory>
         requires some { 0 < length self.old.pending.items }
         requires known { All (λ h. Knows self.old.table h.question) self.old.pending.items }
         ensures diagrams { self.new.diagrams ≡ self.old.diagrams }

@@ -5,20 +5,21 @@ ghost use Rattle.subtype_decider.specs.Working.{IsWithoutAll, KeepsShape};
 ghost use Rattle.type_diagrams.specs.Kept.{IsUnknown};
 
 use crate::held::Held;
-use bal_base::{Memory, Shape};
+use bal_base::Memory;
 use indexmap::IndexSet;
 use std::alloc::Global;
 use std::marker::Model;
 use type_diagrams::Member;
+use witness::Witness;
 
-/// What is kept of a question, which is the number of a diagram: a shape of it, or that it has none.
-/// Entries are compared by their questions alone.
+/// What is kept of a question, which is the number of a diagram: a shape of it, or that it has none. A shape
+/// shares its parts with those of other questions. Entries are compared by their questions alone.
 #[derive(Drop)]
 #[derive_where(PartialEq, Eq, Hash)]
 pub struct Entry {
     pub question: u32,
     #[derive_where(skip(EqHashOrd))]
-    pub shape: Option<Shape>,
+    pub shape: Option<Witness>,
 }
 
 /// Entries, no two of which have the same question. Contracts see them as pairs. While a call works, an
@@ -70,7 +71,7 @@ impl Table {
     }
 
     /// One more entry.
-    pub(crate) fn add(&mut self, question: u32, shape: Option<Shape>) -> Result<(), Memory>
+    pub(crate) fn add(&mut self, question: u32, shape: Option<Witness>) -> Result<(), Memory>
         requires { IsUnknown self.old question }
         ensures added { OnOk result (self.new ≡ self.old ++ (question, shape) ∷ []) }
         ensures refused { OnErr result (self.new ≡ self.old) }
@@ -91,7 +92,7 @@ impl Table {
     }
 
     /// Keeps a shape of a question that is known.
-    pub(crate) fn find(&mut self, question: u32, shape: Shape)
+    pub(crate) fn find(&mut self, question: u32, shape: Witness)
         requires { Knows self.old question }
         ensures found { IsFound self.old self.new question shape }
         ensures apart { AreApart self.new }
@@ -138,7 +139,7 @@ impl Member for Table {
 
     ghost kept = { λ t. t };
 
-    fn seen(&self, question: u32) -> Option<Option<&Shape>> {
+    fn seen(&self, question: u32) -> Option<Option<&Witness>> {
         let entry = self.entries.get(&Entry {
             question,
             shape: None,

@@ -34,7 +34,17 @@ module _ (env : List AtomDef) (old new : Table) (kept : List (ℕ × Option Shap
     lower = lower;
   }
 
+  -- the shape that is kept for a question is one of it
+  pub shared-IsShapeOf : All (IsSound env old) kept → Keeps old new → (x : Shape) → Contains kept (q, Some x) → IsShapeOf env c x
+  shared-IsShapeOf sound keeps x has =
+      let known = All-contains (IsSound env old) kept (q, Some x) sound has in
+      let here = subst (λ d. IsShapeOf env d x) (sym (keeps.conditions q known.0)) known.1 in
+      (here.0, (Meets-same env (condition new q) c x here.0 gives.condition).0 here.1)
+
 -- the same, where the table has not grown
+pub found-IsShapeOf : (env : List AtomDef) (table : Table) (kept : List (ℕ × Option Shape)) (q : ℕ) → All (IsSound env table) kept → (x : Shape) → Contains kept (q, Some x) → IsShapeOf env (condition table q) x
+found-IsShapeOf env table kept q sound x has = (All-contains (IsSound env table) kept (q, Some x) sound has).1
+
 pub told-IsShapeOf : (env : List AtomDef) (table : Table) (kept : List (ℕ × Option Shape)) (q : ℕ) → All (IsSound env table) kept → (x y : Shape) → Contains kept (q, Some x) → IsSame x y → IsShapeOf env (condition table q) y
 told-IsShapeOf env table kept q sound x y has same =
     let known = All-contains (IsSound env table) kept (q, Some x) sound has in

@@ -3,7 +3,7 @@
 use std::alloc::Global;
 use type_model::TypeEnv;
 
-/// Where the call keeps copies of shapes, the atoms, and the table of questions that it asks.
+/// Where the call keeps shapes, the atoms, and the table of questions that it asks.
 #[derive(Drop)]
 pub struct Context<'a, M> {
     pub alloc: Global,

@@ -9,7 +9,7 @@
 //!   [`TRUE`]: the numbers of the decisions that take no step.
 //! - [`Path`]: a way through a decision to true.
 //! - [`Member`] and [`Turn`]: what a table tells of questions, and what is said of a path against it;
-//!   [`Finding`] and [`look_up`]: what it tells, with a copy of the shape; [`MOST_QUESTIONS`] and
+//!   [`Finding`] and [`look_up`]: what it tells, with the shape that is kept; [`MOST_QUESTIONS`] and
 //!   [`MOST_ARROWS`]: the limits of a call.
 //! - [`Projection`]: what is said of the parts of a path's shapes; [`Context`]: what a call that settles a path is
 //!   given.

@@ -3,7 +3,7 @@ ghost use Rattle.std.specs.Option.{option_copied};
 ghost use Rattle.std.specs.Prelude.{option_map};
 ghost use Rattle.type_diagrams.specs.Kept.{Tells};
 
-use bal_base::Shape;
+use witness::Witness;
 
 /// How many questions a call may lead to.
 pub const MOST_QUESTIONS: usize = 65_536;
@@ -15,7 +15,7 @@ pub const MOST_ARROWS: usize = 12;
 #[derive(Drop)]
 pub enum Turn {
     /// A shape of the path.
-    Shape(Shape),
+    Shape(Witness),
     /// For each shape of the path, some question that the table holds to be empty has a lower shape.
     Empty,
     /// A member question of the path that the table doesn't know.
@@ -33,6 +33,6 @@ pub trait Member {
 
     /// What the table keeps for the question: a shape of it, that it is held to be empty, or nothing.
     /// Takes no memory.
-    fn seen(&self, question: u32) -> Option<Option<&Shape>>
+    fn seen(&self, question: u32) -> Option<Option<&Witness>>
         ensures { Tells (kept self.now) question (option_map option_copied result) };
 }

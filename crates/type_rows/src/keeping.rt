@@ -53,7 +53,8 @@ fn keeps_shape(alloc: Global, decider: &Decider, shape: &Shape) -> Result<bool, 
 fn is_written(alloc: Global, entry: &Entry, told: &str) -> Result<bool, Memory> {
     match &entry.shape {
         Some(kept) => {
-            let kept = shape_text(alloc, kept)?;
+            let shape = kept.copied(alloc)?;
+            let kept = shape_text(alloc, &shape)?;
             Ok(kept.as_str() == told)
         }
         None => Ok(false),

@@ -1,14 +1,16 @@
 use Rattle.std.proofs.Common.{◌∷◌, [], ◌++◌, map, sym, ◌∙◌, subst}
 use Rattle.std.proofs.lemmas.List.Elements.{All-weaker}
 use Rattle.type_diagrams.specs.declared.kind.Kind.TheVariants.{Error as Errors}
+use Rattle.bal_base.specs.Valid.{IsValid}
 use Rattle.type_diagrams.specs.Conditions.{AreOne, asks, IsShapeOf}
 use Rattle.type_diagrams.specs.Members.{atoms_in, detail_of}
+use Rattle.type_diagrams.specs.Paths.{IsOnPath}
 use Rattle.type_diagrams.specs.Questions.{mappings, readonly}
 use Rattle.type_diagrams.specs.Tables.{condition}
 use Rattle.empty_arrow.specs.Parts.{HasPart, part_of}
 use Rattle.type_diagrams.specs.Finding.{IsFinding}
 use Rattle.type_diagrams.proofs.Elements.{map-where}
-use Rattle.type_diagrams.proofs.Tellings.{kept-IsShapeOf, held-HasLower}
+use Rattle.type_diagrams.proofs.Tellings.{shared-IsShapeOf, held-HasLower}
 use Rattle.empty_arrow.proofs.Details.{no_marked_error, error-on_path, path-detail, detail-lower, detail_in, detail_asked}
 use Rattle.empty_arrow.proofs.PartLaws.{error-HasPart, error-part_of}
 use Rattle.type_diagrams.proofs.PathShapes.{IsAtomOf, atoms-are}
@@ -28,18 +30,20 @@ pub returns-then-is_marked-clause-turns : goal.returns-then-is_marked-clause-tur
 returns-then-is_marked-clause-turns g c =
     λ x on. absurd (no_marked_error c.args.env.now c.in_ok-question.ensures.few c.args.path.now (sym c.is_marked.ensures ∙ c.if-is_marked.true) x on.1)
 
-pub returns-in_ok-new-in-Part-clause-turns : goal.returns-in_ok-new-in-Part-clause-turns
-returns-in_ok-new-in-Part-clause-turns g c =
+pub returns-in_ok-error-in-Part-clause-turns : goal.returns-in_ok-error-in-Part-clause-turns
+returns-in_ok-error-in-Part-clause-turns g c =
     let env = c.args.env.now in
     let kept = g.M.Member.kept c.args.m.now in
     let q = c.in_ok-question.question in
     let told = subst (IsFinding kept q) c.in-Part.is c.in_ok-detail.ensures in
-    let is = kept-IsShapeOf env c.args.dia.now c.detail_question.new.dia kept (detail_asked env (atoms_in c.args.path.now.pos) (atoms_in c.args.path.now.neg)) q c.in_ok-question.ensures.made c.requires.sound c.detail_question.ensures.extends.keeps told.0 c.in-Part.detail told.1 told.2 in
-    error-on_path env c.in_ok-question.ensures.few c.args.path.now
+    let is = shared-IsShapeOf env c.args.dia.now c.detail_question.new.dia kept (detail_asked env (atoms_in c.args.path.now.pos) (atoms_in c.args.path.now.neg)) q c.in_ok-question.ensures.made c.requires.sound c.detail_question.ensures.extends.keeps c.in-Part.detail told in
+    let made = c.in_ok-error-in-Part.ensures in
+    subst (λ x. IsValid x × IsOnPath env Errors c.args.path.now x) (sym made.2)
+    (error-on_path env c.in_ok-question.ensures.few c.args.path.now
     (atoms-are env Errors c.args.path.now.pos c.requires.literals.holding)
     (atoms-are env Errors c.args.path.now.neg c.requires.literals.failing)
-    c.in_ok-new-in-Part.field-0 (sym c.is_marked.ensures ∙ c.if-is_marked.false)
-    (subst (IsShapeOf env (detail_asked env (atoms_in c.args.path.now.pos) (atoms_in c.args.path.now.neg))) (sym c.in_ok-new-in-Part.ensures.ok) is)
+    made.0 (sym c.is_marked.ensures ∙ c.if-is_marked.false)
+    (subst (IsShapeOf env (detail_asked env (atoms_in c.args.path.now.pos) (atoms_in c.args.path.now.neg))) (sym made.1) is))
 
 pub returns-in-Held-clause-turns : goal.returns-in-Held-clause-turns
 returns-in-Held-clause-turns g c = λ x on.

@@ -75,4 +75,4 @@ returns-clause-tells g c =
     let env = c.args.context.now.env.now in
     let done = subst (λ us. AreCases env c.args.wanted.now us c.loop-atom.cases.items) (take_all c.loop-atom.atom-index c.args.unwanted.now (omega arith)) c.loop-atom.invariant.1 in
     let alone = c.any_isolated-isolated.ensures ∙ (λ j. list_any (is_isolated (c.defs-defs.ensures.value j)) c.args.wanted.now) in
-    (c.of.result, ap (λ b. Function b c.of.result) alone, subst (AreCases env c.args.wanted.now c.args.unwanted.now) (sym c.of.ensures) done)
+    (c.of.result, c.in_ok-whole.ensures ∙ ap (λ b. Function b c.of.result) alone, subst (AreCases env c.args.wanted.now c.args.unwanted.now) (sym c.of.ensures) done)

@@ -1,4 +1,4 @@
-use Rattle.std.proofs.Common.{◌+◌, take, get_or, subst, sym, arith, refl}
+use Rattle.std.proofs.Common.{◌+◌, take, get_or, subst, sym, arith}
 use Rattle.std.proofs.lemmas.List.{take_all}
 use Rattle.type_diagrams.specs.Conditions.{without}
 use Rattle.type_diagrams.specs.Tables.{condition}
@@ -41,6 +41,9 @@ returns-in-Unknown-clause-tells g c =
           (omega arith) c.part.ensures.asks c.requires.diagram c.loop-atom.invariant.0.keeps c.in_ok-question.ensures.made,
     )
 
+pub returns-in_err-copied-clause-extends : goal.returns-in_err-copied-clause-extends
+returns-in_err-copied-clause-extends g c = then_all _ _ _ _ c.loop-atom.invariant.0 c.outside.ensures.extends
+
 pub returns-in_err-push-clause-extends : goal.returns-in_err-push-clause-extends
 returns-in_err-push-clause-extends g c = then_all _ _ _ _ c.loop-atom.invariant.0 c.outside.ensures.extends
 
@@ -55,10 +58,10 @@ loop-atom-preserved g c =
     let told = subst (IsFinding kept q) c.in-Part.is c.in_ok-result.ensures in
     let extends = then_all _ c.args.dia.now c.loop-atom.dia c.outside.new.dia c.loop-atom.invariant.0 c.outside.ensures.extends in
     let gives = avoidance-Gives env c.defs-defs.result.now c.defs-defs.ensures.value c.args.dia.now c.loop-atom.dia c.outside.new.dia c.args.all q atom c.part.result.now c.part.ensures.asks c.requires.diagram c.loop-atom.invariant.0.keeps c.in_ok-question.ensures.made in
-    let is = kept-IsShapeOf env c.args.dia.now c.outside.new.dia kept (without all (part_of env atom)) q gives c.requires.sound extends.keeps told.0 c.in-Part.result told.1 told.2 in (
+    let is = kept-IsShapeOf env c.args.dia.now c.outside.new.dia kept (without all (part_of env atom)) q gives c.requires.sound extends.keeps c.in-Part.result c.in_ok-copied.field-0 told c.in_ok-copied.ensures in (
       extends,
       subst (AreResults env all (take (i + 1) c.args.unwanted.now)) (sym c.in_ok-push.ensures.items)
-          (one_more_result env all c.args.unwanted.now i c.loop-atom.found.items c.in-Part.result (omega arith) c.loop-atom.invariant.1 is),
+          (one_more_result env all c.args.unwanted.now i c.loop-atom.found.items c.in_ok-copied.field-0 (omega arith) c.loop-atom.invariant.1 is),
     )
 
 pub returns-clause-tells : goal.returns-clause-tells
@@ -66,4 +69,4 @@ returns-clause-tells g c =
     let env = c.args.context.now.env.now in
     let all = condition c.args.dia.now c.args.all in
     let done : AreResults env all c.args.unwanted.now c.loop-atom.found.items = subst (λ us. AreResults env all us c.loop-atom.found.items) (take_all c.loop-atom.atom-index c.args.unwanted.now (omega arith)) c.loop-atom.invariant.1 in
-    (c.of.result, refl, subst (AreResults env all c.args.unwanted.now) (sym c.of.ensures) done)
+    (c.of.result, c.in_ok-whole.ensures, subst (AreResults env all c.args.unwanted.now) (sym c.of.ensures) done)

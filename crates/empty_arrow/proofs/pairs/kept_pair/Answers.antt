@@ -21,20 +21,20 @@ returns-then-sought g c =
     let env = c.args.context.now.env.now in
     let kept = g.M.Member.kept c.args.context.now.m.now in
     let told = subst (IsFinding kept c.args.sought.args) c.in-Part.is c.in_ok-part.ensures in
-    let is = told-IsShapeOf env c.args.dia.now kept c.args.sought.args c.requires.sound told.0 c.in-Part.part told.1 told.2 in
+    let is = told-IsShapeOf env c.args.dia.now kept c.args.sought.args c.requires.sound c.in-Part.part c.in_ok-copied-in-Part.field-0 told c.in_ok-copied-in-Part.ensures in
     pair-of env (condition c.args.dia.now c.args.sought.args) (condition c.args.dia.now c.args.sought.result) c.args.sought.may_fail c.items-args.result
     (subst (IsShapeOf env (condition c.args.dia.now c.args.sought.args)) c.items-args.ensures is) None c.if-sought.true tt
 
-pub returns-in-Part-2 : goal.returns-in-Part-2
-returns-in-Part-2 g c =
+pub returns-in_ok-copied-in-Part-2 : goal.returns-in_ok-copied-in-Part-2
+returns-in_ok-copied-in-Part-2 g c =
     let env = c.args.context.now.env.now in
     let kept = g.M.Member.kept c.args.context.now.m.now in
     let told = subst (IsFinding kept c.args.sought.args) c.in-Part.is c.in_ok-part.ensures in
-    let is = told-IsShapeOf env c.args.dia.now kept c.args.sought.args c.requires.sound told.0 c.in-Part.part told.1 told.2 in
+    let is = told-IsShapeOf env c.args.dia.now kept c.args.sought.args c.requires.sound c.in-Part.part c.in_ok-copied-in-Part.field-0 told c.in_ok-copied-in-Part.ensures in
     let answer = subst (IsFinding kept c.args.sought.result) c.in-Part-2.is c.in_ok-part-2.ensures in
-    let known = told-IsShapeOf env c.args.dia.now kept c.args.sought.result c.requires.sound answer.0 c.in-Part-2.part answer.1 answer.2 in
+    let known = told-IsShapeOf env c.args.dia.now kept c.args.sought.result c.requires.sound c.in-Part-2.part c.in_ok-copied-in-Part-2.field-0 answer c.in_ok-copied-in-Part-2.ensures in
     pair-of env (condition c.args.dia.now c.args.sought.args) (condition c.args.dia.now c.args.sought.result) c.args.sought.may_fail c.items-args.result
-    (subst (IsShapeOf env (condition c.args.dia.now c.args.sought.args)) c.items-args.ensures is) (Some c.in-Part-2.part) known.1 known.0
+    (subst (IsShapeOf env (condition c.args.dia.now c.args.sought.args)) c.items-args.ensures is) (Some c.in_ok-copied-in-Part-2.field-0) known.1 known.0
 
 pub returns-in-Held-2 : goal.returns-in-Held-2
 returns-in-Held-2 g c =

@@ -1,4 +1,5 @@
 use Rattle.std.proofs.Common.{◌≡◌, ℕ, ◌<◌, ◌≤◌, ◌+◌, Bool, true, false, MatchBool, ◌++◌, ◌∷◌, [], List, Some, None, length, sym, subst, ap, length-append, arith}
+use Rattle.type_diagrams.specs.Conditions.{IsShapeOf}
 use Rattle.type_diagrams.specs.Tables.{condition}
 use Rattle.type_diagrams.specs.Found.{FindsSimple}
 use Rattle.type_diagrams.specs.Reach.{most_questions}
@@ -25,9 +26,10 @@ returns-in_ok-add-in-Some-clause-entered g c =
     let start = c.args.call.now.start in
     let q = c.args.self.now in
     let w = c.requires.working in
-    let x = c.in-Some.shape in
+    let x = c.in_ok-witness-in-Some.witness in
     let room = few start (length q.table) c.is_full.result c.if-is_full.false c.is_full.ensures in
-    let shape = simple-IsShapeOf env (condition q.diagrams c.args.question) x (subst (FindsSimple (condition q.diagrams c.args.question).simple) c.in-Some.is c.in_ok-shape.ensures.found) in
+    let plain = simple-IsShapeOf env (condition q.diagrams c.args.question) c.in-Some.shape (subst (FindsSimple (condition q.diagrams c.args.question).simple) c.in-Some.is c.in_ok-shape.ensures.found) in
+    let shape = subst (IsShapeOf env (condition q.diagrams c.args.question)) (sym c.in_ok-witness-in-Some.ensures) plain in
     let added = c.in_ok-add-in-Some.ensures.added in
     record {
       working = subst (λ (l : Entries). Works env asked start q.diagrams l q.pending.items q.judged.items) (sym added)
