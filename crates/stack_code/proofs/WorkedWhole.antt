@@ -1,6 +1,9 @@
 -- The worked code is well typed, field by field and place by place.
-use Rattle.std.proofs.Common.{◌≡◌, ◌≢◌, ◌<◌, ◌≤◌, ◌∙◌, ℕ, zero, suc, pos, List, [], ◌∷◌, ◌++◌, Some, None, inl, inr, length, refl, sym, ap, subst, arith}
-use Rattle.std.specs.Prelude.{All, Any, ◌⊎◌, IsSomeAnd, get_or, option_to_list, slice_get, slice_index_or}
+use Rattle.std.proofs.Common.{◌≡◌, ◌≢◌, ◌<◌, ◌≤◌, ◌∙◌, ℕ, zero, suc, pos, List, [], ◌∷◌, ◌++◌, Some, None, inl, inr, length, refl, sym, ap, subst, arith, ◌^◌, Bool, true, false}
+use Rattle.std.specs.Prelude.{All, Any, ◌⊎◌, IsSomeAnd, get_or, option_to_list, slice_get, slice_index_or, ◌&&◌, nat_lt}
+use Rattle.std.proofs.lemmas.Bool.{ltb-true}
+use Rattle.std.proofs.lemmas.List.Elements.{All-cons, All-nil}
+use Rattle.std.specs.List.{list_all}
 use Rattle.bal_base.specs.declared.shape.Shape.{Shape, Nil as NilShape, Bool as BoolShape, Int, Str, List', Mapping', Error', Function, Future'}
 use Rattle.bal_base.specs.Valid.{IsValid}
 use Rattle.type_model.specs.declared.basic.SemType.{SemType}
@@ -14,12 +17,13 @@ use Rattle.operations.specs.declared.operation.Operation.TheVariants as op
 use Rattle.operations.specs.Uses.{atoms_made, units_called, units_used, units_valued, use_of}
 use Rattle.machine_model.proofs.Once.{some-same}
 use Rattle.stack_code.specs.declared.code.Spawn.{Spawn}
+use Rattle.stack_code.specs.declared.code.StackMap.{StackMap}
 use Rattle.stack_code.specs.declared.code.Unit.{Unit as CodeUnit}
 use Rattle.stack_code.specs.Commands.{Do, command_at}
 use Rattle.stack_code.specs.Flow.{IsBoundedAt, IsTypedAt}
 use Rattle.stack_code.specs.Messages.{DoesAt, HasAll, IsOf, IsReceive, IsSend, MessageFits, NamesAwaited, NamesPeers, ReceivesAt, ReceivesWell, ReturnsWell, SendsAt, SendsWell}
 use Rattle.stack_code.specs.Places.{IsIn, IsStation, IsWorkerUnit, Station, Tally, crew, map_at, tally_at}
-use Rattle.stack_code.specs.Tables.{CapturesWell, EachUnit, HasFields, HasNumbers, HasOwnAtoms, HasRest, HasSlots, IsCallable, IsConstant, IsInherent, IsInitialiser, IsWorkerWell, UnitAt, UsesWell}
+use Rattle.stack_code.specs.Tables.{CapturesWell, EachUnit, HasFields, HasNumbers, HasOwnAtoms, HasRest, HasSlots, HasTextNames, IsCallable, IsConstant, IsInherent, IsInitialiser, IsWorkerWell, UnitAt, UsesWell}
 use Rattle.stack_code.specs.WellTyped.{WellTyped}
 use Rattle.stack_code.specs.Worked.{nil, seven, unit_from, worked}
 use Rattle.stack_code.proofs.WorkedHolds.{at, is-worker, none-differs, nothing-there, second, station-of-worker}
@@ -123,12 +127,22 @@ same-types s x h = h.1
 
 -- ---- fields
 
+-- a test of all maps of a list
+all-few : (ms : List StackMap) → list_all (λ m. nat_lt (length m.stack) (2 ^ 63)) ms ≡ true → All (λ m. length m.stack < 2 ^ 63) ms
+all-few [] e = All-nil _
+all-few (m ∷ ms) e = let (a, b) = both (nat_lt (length m.stack) (2 ^ 63)) (list_all (λ m. nat_lt (length m.stack) (2 ^ 63)) ms) e in All-cons (λ (m : StackMap). length m.stack < 2 ^ 63) m ms (ltb-true (length m.stack) (2 ^ 63) a) (all-few ms b)
+  where
+    both : (a b : Bool) → (a && b) ≡ true → (a ≡ true) × (b ≡ true)
+    both true b e = (refl, e)
+    both false b e = absurd (let q : ⊥ = cc in q)
+
 fields : HasFields worked
 fields =
     record {
       types = record {
         definitions = all-three (DefBelow 3) _ _ _ (nothing-there _, tt) (omega arith, tt) tt;
         fields = all-three HasDistinctFields _ _ _ tt tt tt;
+        names = all-three (HasTextNames worked) _ _ _ tt tt tt;
         tested = nothing-there _;
         variables = nothing-there _;
         units = each-unit (λ n u. All (IsDefined worked.atoms) u.params × All (IsDefined worked.atoms) u.captured × All (IsDefined worked.atoms) u.slots × IsDefined worked.atoms u.result)
@@ -137,6 +151,7 @@ fields =
       constants = all-two (IsConstant worked) (IntConstant (pos 7)) Nil (omega arith, omega arith) tt;
       places = (refl, omega arith, (refl, omega arith, refl));
       maps = refl;
+      stacks = all-few worked.maps refl;
       slots = each-unit (λ n u. HasSlots worked u) tt tt;
       rests = each-unit (λ n u. HasRest worked u u.rest × All (IsInherent worked) (option_to_list u.rest)) (tt, nothing-there _) (tt, nothing-there _);
       atoms = each-unit (HasOwnAtoms worked)

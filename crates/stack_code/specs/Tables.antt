@@ -1,8 +1,8 @@
 -- What holds of the fields of a code beside its instructions and maps.
-use Rattle.std.specs.Prelude.{◌≡◌, ◌≢◌, ◌↔◌, ◌⊎◌, ◌<◌, ◌++◌, ◌-◌, ◌+◌, ℕ, List, [], ◌∷◌, Option, Some, None, IsSomeAnd, IsTrue, ◌==◌, All, Any, Contains, filter, length, map, option_to_list, slice_get, sum_by, take, ⊤}
+use Rattle.std.specs.Prelude.{◌≡◌, ◌≢◌, ◌↔◌, ◌⊎◌, ◌<◌, ◌++◌, ◌-◌, ◌+◌, ◌^◌, ℕ, List, [], ◌∷◌, Option, Some, None, IsSomeAnd, IsTrue, ◌==◌, All, Any, Contains, filter, length, map, option_to_list, slice_get, sum_by, take, ⊤}
 use Rattle.std.specs.List.{AllZip}
 use Rattle.bal_base.specs.declared.shape.Shape.{Shape}
-use Rattle.bal_base.specs.Valid.{IsValid}
+use Rattle.bal_base.specs.Valid.{IsText, IsValid}
 use Rattle.type_model.specs.declared.basic.SemType.{SemType, Atom}
 use Rattle.type_model.specs.declared.basic.Ty.{Ty}
 use Rattle.type_model.specs.declared.atoms.AtomDef.{AtomDef}
@@ -170,10 +170,19 @@ module _ (code : Code) where
   abbrev pub AreDefined : List SemType → Type 0
   AreDefined types = All (IsDefined code.atoms) types
 
+  -- names of fields are texts, as keys of mappings are
+  abbrev pub HasTextNames : AtomDef → Type 0
+  HasTextNames (MappingAtom fields rest) = All (λ f. IsText f.name) fields
+  HasTextNames (ListAtom fixed rest) = ⊤
+  HasTextNames (Arrow args outcome alone) = ⊤
+  HasTextNames (ErrorAtom detail) = ⊤
+  HasTextNames (FutureAtom outcome) = ⊤
+
   -- every atom that is named is defined, and fields have names of their own
   pub record HasTypes : Type 0 where
     pub definitions : IsClosed code.atoms
     pub fields : All HasDistinctFields code.atoms
+    pub names : All HasTextNames code.atoms
     pub tested : AreDefined code.tested
     pub variables : AreDefined code.variables
     pub units : EachUnit (λ n u. AreDefined u.params × AreDefined u.captured × AreDefined u.slots × IsDefined code.atoms u.result)
@@ -202,6 +211,8 @@ module _ (code : Code) where
     pub constants : All IsConstant code.constants
     pub places : FollowFrom 0 code.units (length code.instrs)
     pub maps : length code.maps ≡ length code.instrs
+    -- no place has more operands than a list of arguments may have
+    pub stacks : All (λ m. length m.stack < 2 ^ 63) code.maps
     pub slots : EachUnit (λ n u. HasSlots u)
     pub rests : EachUnit (λ n u. HasRest u u.rest × All IsInherent (option_to_list u.rest))
     pub atoms : EachUnit HasOwnAtoms
