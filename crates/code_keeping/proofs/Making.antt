@@ -87,13 +87,13 @@ longer xs y = length-append xs (y ∷ [])
 
 -- ---- an immutable mapping without entries, and an error with it as its detail
 
-abbrev no-fields : Shape
+abbrev pub no-fields : Shape
 no-fields = Mapping' true (record { ptr = null_ptr; len = 0; cap = 0; alloc = record { memory = _ }; items = []; ok = (refl, omega arith); small = omega arith }) end_of-Field
 
-no-fields-valid : IsValid no-fields
+pub no-fields-valid : IsValid no-fields
 no-fields-valid = ((λ k d l. absurd (omega (arith, l))), (λ k d l. absurd (omega (arith, l))), (λ t k d l. absurd (omega (arith, l))), tt)
 
-abbrev plain-error : Shape
+abbrev pub plain-error : Shape
 plain-error = Error' (record { ptr = null_ptr; alloc = record { memory = _ }; value = tt }) no-fields
 
 -- ---- the heap with one error more

@@ -1,5 +1,5 @@
 -- A structure is made behind those that are there: a list or a mapping of an atom.
-use Rattle.std.proofs.Common.{◌≡◌, ◌<◌, ◌≤◌, ◌+◌, ◌^◌, ℕ, zero, suc, Bool, true, false, List, [], ◌∷◌, ◌++◌, Option, Some, None, inl, inr, length, refl, sym, subst, arith}
+use Rattle.std.proofs.Common.{◌≡◌, ◌<◌, ◌≤◌, ◌+◌, ◌^◌, ℕ, zero, suc, Bool, true, false, List, [], ◌∷◌, ◌++◌, Option, Some, None, inl, inr, length, refl, sym, ap, subst, arith}
 use Rattle.std.proofs.lemmas.List.{append-nil, length-append}
 use Rattle.std.specs.Prelude.{◌⊎◌, All, IsFalse, IsTrue, not, slice_get, sum_by}
 use Rattle.std.specs.List.{fold}
@@ -23,6 +23,7 @@ use Rattle.run_model.specs.Effects.{lifted, with_world}
 use Rattle.run_model.specs.Limits.{most_cells}
 use Rattle.run_model.specs.Rows.{gives_structure, makes, new_structure, size_of}
 use Rattle.machine_model.specs.Runs.{Running}
+use Rattle.machine_model.proofs.Once.{some-same}
 use Rattle.stack_code.specs.declared.code.Code.{Code}
 use Rattle.stack_code.specs.Good.{GoodCommon}
 use Rattle.stack_code.specs.Tables.{IsInherent}
@@ -38,6 +39,17 @@ use Rattle.code_keeping_heap.proofs.Making.{one-there}
 pub greatest-last : (ss : List Structure) (s : Structure) (before : ℕ) → s.greatest ≤ fold (λ a x. a + (x.greatest + 1)) before (ss ++ s ∷ [])
 greatest-last [] s before = omega arith
 greatest-last (x ∷ ss) s before = greatest-last ss s (before + (x.greatest + 1))
+
+fold-least : (ss : List Structure) (before : ℕ) → before ≤ fold (λ a x. a + (x.greatest + 1)) before ss
+fold-least [] before = omega arith
+fold-least (x ∷ ss) before = let l = fold-least ss (before + (x.greatest + 1)) in omega (arith, l)
+
+-- and so does each other one
+pub greatest-at : (ss : List Structure) (k : ℕ) (s : Structure) (before : ℕ) → slice_get ss k ≡ Some s → s.greatest ≤ fold (λ a x. a + (x.greatest + 1)) before ss
+greatest-at [] k s before e = absurd (let q : ⊥ = cc in q)
+greatest-at (x ∷ ss) zero s before e =
+    subst (λ z. z.greatest ≤ fold (λ a y. a + (y.greatest + 1)) (before + (x.greatest + 1)) ss) (some-same x s e) (let l = fold-least ss (before + (x.greatest + 1)) in omega (arith, l))
+greatest-at (x ∷ ss) (suc k) s before e = greatest-at ss k s (before + (x.greatest + 1)) e
 
 pub grows-by-one : (h : Heap) (s : Structure) → Grows h (record { structures = h.structures ++ s ∷ []; errors = h.errors; functions = h.functions })
 grows-by-one h s =

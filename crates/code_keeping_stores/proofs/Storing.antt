@@ -30,19 +30,7 @@ use Rattle.code_keeping.proofs.Changing.{get-set-other, get-set-same, length-set
 use Rattle.code_keeping.proofs.Growing.{IsGrown, IsNewStructure, front-or-behind, gave-typed, get-front, within-gave, within-so}
 use Rattle.code_keeping.proofs.Lists.{all-at, at-some, some-there}
 use Rattle.code_keeping.proofs.Staying.{stays-same}
-
--- ---- cells
-
-fold-least : (ss : List Structure) (before : ℕ) → before ≤ fold (λ a x. a + (x.greatest + 1)) before ss
-fold-least [] before = omega arith
-fold-least (x ∷ ss) before = let l = fold-least ss (before + (x.greatest + 1)) in omega (arith, l)
-
--- a structure takes its own cells
-greatest-at : (ss : List Structure) (k : ℕ) (s : Structure) (before : ℕ) → slice_get ss k ≡ Some s → s.greatest ≤ fold (λ a x. a + (x.greatest + 1)) before ss
-greatest-at [] k s before e = absurd (let q : ⊥ = cc in q)
-greatest-at (x ∷ ss) zero s before e =
-    subst (λ z. z.greatest ≤ fold (λ a y. a + (y.greatest + 1)) (before + (x.greatest + 1)) ss) (some-same x s e) (let l = fold-least ss (before + (x.greatest + 1)) in omega (arith, l))
-greatest-at (x ∷ ss) (suc k) s before e = greatest-at ss k s (before + (x.greatest + 1)) e
+use Rattle.code_keeping_heap.proofs.Adding.{greatest-at}
 
 module _ (code : Code) (c : Common) (all : GoodCommon code c Running) (n : ℕ) (s : Structure) (e : slice_get c.world.heap.structures n ≡ Some s) (mutable : IsTrue s.mutable) (m : Members) (kind : AreAlike s.members m) (more : List Structure) where
   abbrev heap : Heap
