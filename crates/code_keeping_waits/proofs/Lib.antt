@@ -1,4 +1,7 @@
+pub mod All
 pub mod Any
+pub mod Collecting
+pub mod Gathered
 pub mod One
 pub mod Results
 pub mod Several

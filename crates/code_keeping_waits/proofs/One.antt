@@ -1,18 +1,16 @@
 -- What a frame asks for with a wait for one worker or for one future.
-use Rattle.std.proofs.Common.{◌≡◌, ◌≢◌, ◌<◌, ◌∙◌, ℕ, zero, suc, true, List, [], ◌∷◌, Option, Some, None, length, map, refl, sym, ap, subst, arith}
+use Rattle.std.proofs.Common.{◌≡◌, ◌≢◌, ◌∙◌, ℕ, zero, suc, true, List, [], ◌∷◌, Option, Some, None, map, refl, sym, ap, subst, arith}
 use Rattle.std.proofs.lemmas.Option.{slice_get_within}
 use Rattle.std.specs.Prelude.{All, IsSome, IsSomeAnd, option_map, slice_get}
 use Rattle.type_model.specs.declared.basic.SemType.{SemType}
 use Rattle.type_model.specs.Membership.{In}
 use Rattle.operations.specs.declared.operation.Operation.{Operation}
 use Rattle.operations.specs.declared.operation.Operation.TheVariants as op
-use Rattle.operations.specs.Kinds.{IsFuture}
-use Rattle.operations.specs.Rows.{IsWithin, ResultHas}
-use Rattle.operations.specs.Structures.{GivenByFuture, GivenByWorker}
+use Rattle.operations.specs.Rows.{ResultHas}
+use Rattle.operations.specs.Structures.{GivenByWorker}
 use Rattle.operations.specs.Talk.{talk_of}
 use Rattle.value_model.specs.declared.filler.Filler.{Filler}
 use Rattle.value_model.specs.declared.value.Value.{Value}
-use Rattle.value_model.specs.declared.value.Value.TheVariants.{Future}
 use Rattle.value_model.specs.Meaning.{Answers}
 use Rattle.run_model.specs.Common.{Activation, Asker, Common, Role, Strand}
 use Rattle.run_model.specs.Effects.{Effect}
@@ -35,7 +33,7 @@ use Rattle.stack_code.specs.Messages.{awaited_in}
 use Rattle.stack_code.specs.Flow.{DoesTyped}
 use Rattle.stack_code.specs.Places.{IsIn, IsStation, Tally, crew, crew_of, result_in, surroundings, tally_at}
 use Rattle.stack_code.specs.Tables.{CapturesWell}
-use Rattle.stack_code.specs.Values.{AllFit, Fits}
+use Rattle.stack_code.specs.Values.{Fits}
 use Rattle.stack_code.specs.WellTyped.{WellTyped}
 use Rattle.code_keeping.specs.Kinds.{Futures}
 use Rattle.code_keeping.specs.Laws.{AskComes}
@@ -51,7 +49,7 @@ use Rattle.code_keeping_waits.proofs.Waiting.{Looks, RowWaits, WaitTyped, asker,
 
 -- ---- the strand of a worker
 
-from-map : {A B : Type 0} (f : A → B) (xs : List A) (j : ℕ) (y : B) → slice_get (map f xs) j ≡ Some y → (x : A) × (slice_get xs j ≡ Some x) × (f x ≡ y)
+pub from-map : {A B : Type 0} (f : A → B) (xs : List A) (j : ℕ) (y : B) → slice_get (map f xs) j ≡ Some y → (x : A) × (slice_get xs j ≡ Some x) × (f x ≡ y)
 from-map f [] j y e = absurd (let q : ⊥ = cc in q)
 from-map f (x ∷ xs) zero y e = (x, refl, some-same (f x) y e)
 from-map f (x ∷ xs) (suc j) y e = from-map f xs j y e

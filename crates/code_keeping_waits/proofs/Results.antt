@@ -1,6 +1,6 @@
 -- What a future may give stands among the results of its type; and an error is given where it was taken.
-use Rattle.std.proofs.Common.{◌≡◌, ◌<◌, ◌^◌, ◌∙◌, ℕ, List, [], ◌∷◌, Option, Some, None, inl, inr, length, refl, sym, ap, subst, arith}
-use Rattle.std.specs.Prelude.{◌⊎◌, All, Contains, IsSomeAnd, option_map, option_to_list, slice_get}
+use Rattle.std.proofs.Common.{◌≡◌, ◌<◌, ◌^◌, ◌∙◌, ℕ, [], ◌∷◌, Option, Some, None, length, refl, sym, ap, subst, arith}
+use Rattle.std.specs.Prelude.{Contains, option_map, slice_get}
 use Rattle.std.proofs.lemmas.List.Elements.{All-cons, All-nil}
 use Rattle.bal_base.specs.declared.shape.Shape.{Shape, Nil as NilShape, Bool as BoolShape, Int as IntShape, Str as StrShape, List', Mapping', Error', Function as FunctionShape, Future as AFuture, Future', items_hidden-the_row-Shape-0}
 use Rattle.bal_base.specs.Valid.{IsText, IsValid}
@@ -15,7 +15,6 @@ use Rattle.type_model.specs.Parts.{StandsAt}
 use Rattle.type_model.proofs.Unfolding.{Fits-Future}
 use Rattle.operations.specs.Kinds.{IsError}
 use Rattle.operations.specs.Rows.{ResultHas}
-use Rattle.value_model.specs.declared.value.Value.{Value}
 use Rattle.value_model.specs.declared.value.Value.TheVariants.{Error, Future}
 use Rattle.value_model.specs.Heap.{Heap}
 use Rattle.value_model.specs.PanicName.{future_taken}

@@ -1,5 +1,5 @@
 -- The names of a wait stand for strands: each is that of a worker, or of the next of the futures that are operands.
-use Rattle.std.proofs.Common.{◌≡◌, ◌≢◌, ◌+◌, ◌∙◌, ℕ, zero, suc, List, [], ◌∷◌, Option, Some, None, length, refl, sym, ap, subst}
+use Rattle.std.proofs.Common.{◌≡◌, ◌+◌, ◌∙◌, ℕ, suc, List, [], ◌∷◌, Option, Some, None, length, refl, sym, ap, subst}
 use Rattle.std.proofs.lemmas.List.Elements.{All-head, All-tail}
 use Rattle.std.specs.Prelude.{All, IsSome, slice_get}
 use Rattle.bal_base.specs.declared.shape.Shape.{Shape}

@@ -1,33 +1,26 @@
 -- What a wait for one strand comes to: for a future, and for a worker of the activation.
-use Rattle.std.proofs.Common.{◌≡◌, ◌≢◌, ◌<◌, ◌∙◌, ℕ, zero, suc, Bool, true, false, List, [], ◌∷◌, Option, Some, None, inl, inr, length, map, refl, sym, ap, subst, arith}
+use Rattle.std.proofs.Common.{◌≡◌, ◌≢◌, ◌<◌, ◌∙◌, ℕ, Bool, true, false, [], ◌∷◌, Option, Some, None, inl, inr, length, refl, sym, ap, subst}
 use Rattle.std.proofs.lemmas.Option.{slice_get_within}
-use Rattle.std.specs.Prelude.{◌⊎◌, ◌&&◌, All, IsSomeAnd, IsTrue, if◌then◌else◌, is_some, option_map, option_to_list, slice_get}
+use Rattle.std.specs.Prelude.{◌&&◌, All, IsTrue, if◌then◌else◌, is_some, option_to_list, slice_get}
 use Rattle.std.proofs.lemmas.List.Elements.{All-cons, All-nil}
-use Rattle.bal_base.specs.declared.shape.Shape.{Shape}
-use Rattle.bal_base.specs.Valid.{IsValid}
-use Rattle.type_model.specs.declared.answers.Keys.TheVariants.{Results}
 use Rattle.type_model.specs.declared.basic.SemType.{SemType}
 use Rattle.type_model.specs.Membership.{In}
-use Rattle.type_model.specs.Parts.{StandsAt}
-use Rattle.operations.specs.Kinds.{IsError}
 use Rattle.operations.specs.Rows.{ResultHas}
 use Rattle.operations.specs.Structures.{GivenByFuture}
 use Rattle.value_model.specs.declared.value.Value.{Value}
 use Rattle.value_model.specs.declared.value.Value.TheVariants.{Future}
 use Rattle.value_model.specs.PanicName.{future_taken}
-use Rattle.value_model.specs.Stands.{Stands}
 use Rattle.value_model.specs.World.{Came, Gave, PassesCells, Threw}
 use Rattle.run_model.specs.Common.{AllEnded, Common, End, Panicked, Returned, Strand}
 use Rattle.run_model.specs.Effects.{Effect, lifted}
 use Rattle.run_model.specs.Rows.{gives_error}
-use Rattle.run_model.specs.Strands.{end_in, end_of, has_ended, met, no_strand, strand_at}
-use Rattle.run_model.specs.Waits.{Target, ends_with, future_target, gives_end, is_taken, took, waits, waits_for}
+use Rattle.run_model.specs.Strands.{end_in, end_of, met, no_strand, strand_at}
+use Rattle.run_model.specs.Waits.{Target, ends_with, future_target, is_taken, took, waits, waits_for}
 use Rattle.machine_model.specs.Runs.{Running}
 use Rattle.stack_code.specs.declared.code.Code.{Code}
 use Rattle.stack_code.specs.declared.code.Unit.{Unit as CodeUnit}
 use Rattle.stack_code.specs.Good.{EndFits, GoodCommon}
-use Rattle.stack_code.specs.Tables.{IsCallable, UnitAt}
-use Rattle.stack_code.specs.Values.{AllFit, Fits, IsMade, IsStarted, code_types}
+use Rattle.stack_code.specs.Values.{AllFit, Fits, IsStarted}
 use Rattle.stack_code.specs.WellTyped.{WellTyped}
 use Rattle.code_keeping.specs.Rows.{EffectTyped}
 use Rattle.code_keeping.proofs.Changing.{or-there}

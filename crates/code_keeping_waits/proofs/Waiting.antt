@@ -1,6 +1,5 @@
 -- What a frame asks for with an operation that may have to wait: whatever comes of its row fits.
-use Rattle.std.proofs.Common.{◌≡◌, ◌∙◌, ◌+◌, ℕ, false, List, [], ◌∷◌, ◌++◌, Option, Some, length, reverse, refl, sym, ap, subst}
-use Rattle.std.specs.Prelude.{option_to_list, slice_get}
+use Rattle.std.proofs.Common.{◌≡◌, ◌∙◌, ◌+◌, ℕ, false, List, ◌++◌, Option, Some, length, reverse, refl, sym, ap, subst}
 use Rattle.type_model.specs.declared.basic.SemType.{SemType}
 use Rattle.operations.specs.declared.operation.Operation.{Operation}
 use Rattle.operations.specs.Talk.{talk_of}
@@ -19,7 +18,7 @@ use Rattle.machine_model.specs.Runs.{Running}
 use Rattle.stack_code.specs.declared.code.Code.{Code}
 use Rattle.stack_code.specs.CodeMachine.{Standing, code_facts, codes, obeys, standing}
 use Rattle.stack_code.specs.Commands.{Do, command_at}
-use Rattle.stack_code.specs.Flow.{DoesTyped, tally_behind, tally_landing, tally_then, tally_thrown}
+use Rattle.stack_code.specs.Flow.{DoesTyped, tally_landing, tally_then, tally_thrown}
 use Rattle.stack_code.specs.Frames.{TallyIs, TopFits}
 use Rattle.stack_code.specs.Good.{GoodCommon, NeedIsThere, code_invariant}
 use Rattle.stack_code.specs.Places.{Tally, crew, tally_at, traps_at}

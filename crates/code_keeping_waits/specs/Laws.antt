@@ -14,3 +14,7 @@ SingleWaitsAreDone natives =
 -- one of several workers and futures is waited for
 abbrev pub AlternateWaitsAreDone : Answers → Type 0
 AlternateWaitsAreDone natives = (fillers : ℕ → List Filler) (names : List (Option ℕ)) → IsDone fillers natives (op.WaitAny names)
+
+-- several workers and futures are waited for, whose results are given as a mapping
+abbrev pub MultipleWaitsAreDone : Answers → Type 0
+MultipleWaitsAreDone natives = (fillers : ℕ → List Filler) (atom : ℕ) (names : List (Option ℕ)) → IsDone fillers natives (op.WaitAll atom names)
