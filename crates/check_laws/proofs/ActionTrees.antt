@@ -22,7 +22,7 @@ use Rattle.check_words.specs.Seen.{worker_named}
 use Rattle.check_laws.specs.Effects.{awaited_by, gives_by, parts_awaited}
 use Rattle.check_laws.specs.Heights.{Heights, ◌⊕◌, parts, wants, constructors, calls, plus}
 use Rattle.check_laws.specs.Laws.{IsWantedBy}
-use Rattle.check_laws.proofs.Leading.{Leads, Turns}
+use Rattle.check_laws.proofs.Leading.{Base, Leads, Turns}
 use Rattle.check_laws.proofs.Lines.{One, of-kind}
 use Rattle.check_laws.proofs.Stacks.{plus-is}
 use Rattle.check_laws.proofs.Trees.{call-one, expr-one}
@@ -33,14 +33,14 @@ futures-more [] (Some w) = refl
 futures-more (None ∷ ws) w = let more = futures-more ws w in omega arith
 futures-more (Some v ∷ ws) w = futures-more ws w
 
-module _ (workers : List Name) (base : ℕ) where
+module _ (workers : List Name) (base : Base) where
   abbrev Lead : Heights → Listed Need → Heights → Type 0
   Lead = Leads workers base
 
   abbrev OneOf : (Expected → Listed Need) → Type 0
-  OneOf needs = (e : Expected) (h : Heights) → IsWantedBy e (base + h.wants) → Lead h (needs e) (h ⊕ parts 1)
+  OneOf needs = (e : Expected) (h : Heights) → IsWantedBy e (base.wants + h.wants) → Lead h (needs e) (h ⊕ parts 1)
 
-  checked : (needs : Expected → Listed Need) → OneOf needs → (e : Expected) (at : Place) (h : Heights) → IsWantedBy e (base + h.wants)
+  checked : (needs : Expected → Listed Need) → OneOf needs → (e : Expected) (at : Place) (h : Heights) → IsWantedBy e (base.wants + h.wants)
       → Lead h (checked_needs needs e at) (h ⊕ parts 1)
   checked needs c Wanted at h w =
       let k : Heights = h ⊕ wants 1 in
@@ -48,7 +48,7 @@ module _ (workers : List Name) (base : ℕ) where
   checked needs c Nothing at h w = (h ⊕ parts 1, c Nothing h tt, (h, refl, refl))
   checked needs c Immutable at h w = (h ⊕ parts 1, c Nothing h tt, (h, refl, refl))
 
-  received : (e : Expected) (h : Heights) → IsWantedBy e (base + h.wants) → Turns workers base (gives_by e (parts 1)) h (h ⊕ parts 1)
+  received : (e : Expected) (h : Heights) → IsWantedBy e (base.wants + h.wants) → Turns workers base (gives_by e (parts 1)) h (h ⊕ parts 1)
   received Nothing h w = (h, refl, refl)
   received Immutable h w = (h, refl, refl)
   received Wanted h w = (w, refl)

@@ -263,7 +263,7 @@ module _ (s : State) where
 
   -- ---- anonymous functions
 
-  goes-new-number : (h : Heights) → Goes s h new_number h
+  pub goes-new-number : (h : Heights) → Goes s h new_number h
   goes-new-number h =
       goes-then s _ _ (goes-some s h _) (λ n. goes-then s _ _ (goes-becomes s h h _ (λ old p. apart-from s old old.atoms old.ways _ p)) (λ u. goes-some s h _))
 

@@ -12,20 +12,30 @@ use Rattle.expr_needs.specs.Needs.{Need}
 use Rattle.check_words.specs.Meets.{meets}
 use Rattle.check_words.specs.State.{State}
 use Rattle.check_words.specs.Words.{Step}
-use Rattle.check_laws.specs.Effects.{Effect, Beyond, Moves, Never, SeesWant, effect}
-use Rattle.check_laws.specs.Heights.{Heights, ◌⊕◌}
+use Rattle.check_laws.specs.Effects.{AddsStmt, Beyond, Effect, Moves, Never, SeesWant, effect}
+use Rattle.check_laws.specs.Heights.{Heights, ◌⊕◌, plus, with_stmt}
 use Rattle.check_laws.specs.Laws.{Finds}
 use Rattle.check_laws.specs.Positions.{Above}
 use Rattle.check_laws.proofs.EachNeed.{Respects, respects}
+use Rattle.check_laws.proofs.Stacks.{count-blocks, plus-is}
 use Rattle.check_laws.proofs.Words.{Goes, goes-done, goes-then}
 
--- `workers`: the names of the workers of the function; `base`: how many types are wanted below all that is looked at
-module _ (workers : List Name) (base : ℕ) where
+-- what stands below all that is looked at: how many types are wanted there, and how many blocks there are
+pub record Base : Type 0 where
+  pub wants : ℕ
+  pub blocks : ℕ
+
+abbrev pub base_of : State → Base
+base_of s = record { wants = length s.wants; blocks = length s.blocks }
+
+-- `workers`: the names of the workers of the function
+module _ (workers : List Name) (base : Base) where
   -- what the effect takes is there, and so this comes of it
   abbrev pub Turns : Effect → Heights → Heights → Type 0
   Turns Never h k = Unit {0}
   Turns (Moves takes leaves) h k = (r : Heights) × (h ≡ r ⊕ takes) × (k ≡ r ⊕ leaves)
-  Turns (SeesWant leaves) h k = (1 ≤ base + h.wants) × (k ≡ h ⊕ leaves)
+  Turns (SeesWant leaves) h k = (1 ≤ base.wants + h.wants) × (k ≡ h ⊕ leaves)
+  Turns (AddsStmt takes) h k = (r : Heights) × (h ≡ r ⊕ takes) × (k ≡ with_stmt r) × (1 ≤ base.blocks + r.blocks)
   Turns Beyond h k = ⊥
 
   -- need by need
@@ -55,16 +65,18 @@ module _ (workers : List Name) (base : ℕ) where
 
 module _ (s : State) (passes : List AtomDef → Asked → TypeLimit → Type 0) (names : Names) where
   abbrev TurnsHere : Effect → Heights → Heights → Type 0
-  TurnsHere = Turns s.site.workers (length s.wants)
+  TurnsHere = Turns s.site.workers (base_of s)
 
   turned : (m : Step) (e : Effect) (h k : Heights) → Respects s m e → TurnsHere e h k → Goes s h m k
-  turned m Never h k f t = f h k
+  turned m Never h k f t = λ old new a p x. absurd (f old new x)
   turned m (Moves takes leaves) h k f (r, before, behind) =
       subst (λ (x : Heights). Goes s x m k) (sym before) (subst (λ (x : Heights). Goes s (r ⊕ takes) m x) (sym behind) (f r))
   turned m (SeesWant leaves) h k f (seen, behind) = subst (λ (x : Heights). Goes s h m x) (sym behind) (f h)
+  turned m (AddsStmt takes) h k f (r, before, behind, seen) =
+      subst (λ (x : Heights). Goes s x m k) (sym before) (subst (λ (x : Heights). Goes s (r ⊕ takes) m x) (sym behind) (f r))
   turned m Beyond h k f t = absurd t
 
-  pub leads-so : (h k : Heights) (needs : Listed Need) → Leads s.site.workers (length s.wants) h needs k → Goes s h (all_met (meets passes names) needs) k
+  pub leads-so : (h k : Heights) (needs : Listed Need) → Leads s.site.workers (base_of s) h needs k → Goes s h (all_met (meets passes names) needs) k
   leads-so h k nothing e = subst (λ (x : Heights). Goes s h (all_met (meets passes names) nothing) x) (sym e) (goes-done s h)
   leads-so h k (one n) t = turned (meets passes names n) (effect s.site.workers n) h k (respects s passes names n) t
   leads-so h k (p & q) (mid, f, g) = goes-then s _ _ (leads-so h mid p f) (λ u. leads-so mid k q g)
@@ -80,7 +92,7 @@ module _ (s : State) (passes : List AtomDef → Asked → TypeLimit → Type 0) 
   all-append [] ms h mid k e l = subst (λ (x : Heights). LeadsAll x ms k) e l
   all-append (n ∷ ns) ms h mid k (at, t, rest) l = (at, t, all-append ns ms at mid k rest l)
 
-  as-list : (h k : Heights) (needs : Listed Need) → Leads s.site.workers (length s.wants) h needs k → LeadsAll h (members needs) k
+  as-list : (h k : Heights) (needs : Listed Need) → Leads s.site.workers (base_of s) h needs k → LeadsAll h (members needs) k
   as-list h k nothing e = e
   as-list h k (one n) t = (k, t, refl)
   as-list h k (p & q) (mid, f, g) = all-append (members p) (members q) h mid k (as-list h mid p f) (as-list mid k q g)
@@ -94,6 +106,10 @@ module _ (s : State) (passes : List AtomDef → Asked → TypeLimit → Type 0) 
   found-so Never h k t x p = tt
   found-so (Moves takes leaves) h k t (r, before, behind) p = (r, subst (λ (x : Heights). Above s x t) before p)
   found-so (SeesWant leaves) h k t (seen, behind) p = wanted-so h t p seen
+  found-so (AddsStmt takes) h k t (r, before, behind, seen) p =
+      let long = count-blocks s.blocks t.blocks h.blocks h.stmts p.blocks in let all = plus-is r.blocks takes.blocks in
+      let same : h.blocks ≡ plus r.blocks takes.blocks = ap (λ (x : Heights). x.blocks) before in
+      (r, subst (λ (x : Heights). Above s x t) before p, omega arith)
   found-so Beyond h k t x p = x
 
   pub finds-so : (before behind : List Need) (need : Need) (h k : Heights) (old t : State) → LeadsAll h (before ++ need ∷ behind) k → Above s h old
@@ -104,7 +120,7 @@ module _ (s : State) (passes : List AtomDef → Asked → TypeLimit → Type 0) 
       finds-so before behind need mid k at t rest
       (turned (meets passes names n) (effect s.site.workers n) h mid (respects s passes names n) x old at tt p met) more
 
-  pub finds-in : (needs : Listed Need) (h k : Heights) → Leads s.site.workers (length s.wants) h needs k → Above s h s
+  pub finds-in : (needs : Listed Need) (h k : Heights) → Leads s.site.workers (base_of s) h needs k → Above s h s
       → (before behind : List Need) (need : Need) (t : State) → members needs ≡ before ++ need ∷ behind → AreMet (meets passes names) before s t
       → Finds (effect s.site.workers need) s t
   finds-in needs h k l p before behind need t is met =

@@ -1,5 +1,6 @@
 mod ActionTrees
 mod Actions
+mod Branches
 mod Calls
 mod Constructors
 mod EachNeed
@@ -8,6 +9,7 @@ mod Leading
 mod Lines
 mod Setting
 mod Stacks
+mod Statements
 mod Trees
 mod Values
 mod Words

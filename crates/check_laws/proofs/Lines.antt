@@ -20,9 +20,9 @@ use Rattle.expr_needs.specs.Needs.{Need}
 use Rattle.expr_needs.specs.Operators.{expectation, prefix_expects, prefix_needs}
 use Rattle.check_laws.specs.Heights.{Heights, ◌⊕◌, parts, wants, sorts, accesses, constructors, calls, choices, units}
 use Rattle.check_laws.specs.Laws.{IsWantedBy}
-use Rattle.check_laws.proofs.Leading.{Leads, in-turn}
+use Rattle.check_laws.proofs.Leading.{Base, Leads, in-turn}
 
-module _ (workers : List Name) (base : ℕ) where
+module _ (workers : List Name) (base : Base) where
   abbrev Lead : Heights → Listed Need → Heights → Type 0
   Lead = Leads workers base
 
@@ -30,7 +30,7 @@ module _ (workers : List Name) (base : ℕ) where
 
   -- one part more, where a type is wanted if that counts
   abbrev pub One : Reading → Type 0
-  One a = (e : Expected) (h : Heights) → IsWantedBy e (base + h.wants) → Lead h (a.needs e) (h ⊕ parts 1)
+  One a = (e : Expected) (h : Heights) → IsWantedBy e (base.wants + h.wants) → Lead h (a.needs e) (h ⊕ parts 1)
 
   -- as a call that is started it is a call more
   abbrev pub Started : Reading → Type 0
@@ -64,7 +64,7 @@ module _ (workers : List Name) (base : ℕ) where
   prefixed prefix.Check a at c h = (h ⊕ parts 1, c _ h tt, (h, refl, refl))
   prefixed prefix.CheckPanic a at c h = (h ⊕ parts 1, c _ h tt, (h, refl, refl))
 
-  pub binary : (f : Family) (a b : Reading) (at : Place) → One a → One b → (e : Expected) (h : Heights) → IsWantedBy e (base + h.wants)
+  pub binary : (f : Family) (a b : Reading) (at : Place) → One a → One b → (e : Expected) (h : Heights) → IsWantedBy e (base.wants + h.wants)
       → Lead h (binary_needs f a b at e) (h ⊕ parts 1)
   binary (Arithmetic o) a b at ca cb e h w =
       let k : Heights = h ⊕ parts 1 in

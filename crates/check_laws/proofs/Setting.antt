@@ -3,10 +3,10 @@ use Rattle.std.proofs.Common.{◌+◌, ℕ, Bool, List, Option}
 use Rattle.typed_tree.specs.declared.expr.TypedExpr.{TypedExpr}
 use Rattle.typed_tree.specs.SharedTypes.{Shared}
 use Rattle.check_words.specs.declared.access.Access.{Access}
-use Rattle.check_words.specs.State.{CallAtWork, ChoiceAtWork, ConstructorAtWork, Done, State, UnitAtWork, Ways}
+use Rattle.check_words.specs.State.{BlockAtWork, CallAtWork, ChoiceAtWork, ConstructorAtWork, Done, MatchAtWork, State, UnitAtWork, Ways}
 use Rattle.check_words.specs.Words.{Atoms}
 use Rattle.check_laws.specs.Heights.{Heights}
-use Rattle.check_laws.specs.Positions.{Above, OnTop, OnUnits, parts_of_calls}
+use Rattle.check_laws.specs.Positions.{Above, OnBlocks, OnTop, OnUnits, parts_of_calls}
 
 module _ (s : State) {h : Heights} where
   -- atoms, ways and what is done of the package are of no account
@@ -20,10 +20,10 @@ module _ (s : State) {h : Heights} where
         accesses = p.accesses;
         constructors = p.constructors;
         choices = p.choices;
-        units = p.units;
-        site = p.site;
         matches = p.matches;
         blocks = p.blocks;
+        units = p.units;
+        site = p.site;
         initialiser = p.initialiser;
       }
 
@@ -38,10 +38,10 @@ module _ (s : State) {h : Heights} where
         accesses = p.accesses;
         constructors = p.constructors;
         choices = p.choices;
-        units = p.units;
-        site = p.site;
         matches = p.matches;
         blocks = p.blocks;
+        units = p.units;
+        site = p.site;
         initialiser = p.initialiser;
       }
 
@@ -57,10 +57,10 @@ module _ (s : State) {h : Heights} where
         accesses = p.accesses;
         constructors = p.constructors;
         choices = p.choices;
-        units = p.units;
-        site = p.site;
         matches = p.matches;
         blocks = p.blocks;
+        units = p.units;
+        site = p.site;
         initialiser = p.initialiser;
       }
 
@@ -74,10 +74,28 @@ module _ (s : State) {h : Heights} where
         accesses = p.accesses;
         constructors = p.constructors;
         choices = p.choices;
-        units = o;
-        site = p.site;
         matches = p.matches;
         blocks = p.blocks;
+        units = o;
+        site = p.site;
+        initialiser = p.initialiser;
+      }
+
+  pub with-blocks : (old : State) (k n : ℕ) (bs : List BlockAtWork) → Above s h old → OnBlocks s.blocks k n bs
+      → Above s (record h { blocks = k; stmts = n }) (record old { blocks = bs })
+  with-blocks old k n bs p o =
+      record {
+        calls = p.calls;
+        found = p.found;
+        wants = p.wants;
+        sorts = p.sorts;
+        accesses = p.accesses;
+        constructors = p.constructors;
+        choices = p.choices;
+        matches = p.matches;
+        blocks = o;
+        units = p.units;
+        site = p.site;
         initialiser = p.initialiser;
       }
 
@@ -91,14 +109,14 @@ module _ (s : State) {h : Heights} where
         accesses = p.accesses;
         constructors = p.constructors;
         choices = p.choices;
-        units = p.units;
-        site = p.site;
         matches = p.matches;
         blocks = p.blocks;
+        units = p.units;
+        site = p.site;
         initialiser = p.initialiser;
       }
 
-  pub with-sorts : (old : State) (n : ℕ) (xs : List (Bool)) → Above s h old → OnTop s.sorts n xs → Above s (record h { sorts = n }) (record old { sorts = xs })
+  pub with-sorts : (old : State) (n : ℕ) (xs : List Bool) → Above s h old → OnTop s.sorts n xs → Above s (record h { sorts = n }) (record old { sorts = xs })
   with-sorts old n xs p o =
       record {
         calls = p.calls;
@@ -108,14 +126,14 @@ module _ (s : State) {h : Heights} where
         accesses = p.accesses;
         constructors = p.constructors;
         choices = p.choices;
-        units = p.units;
-        site = p.site;
         matches = p.matches;
         blocks = p.blocks;
+        units = p.units;
+        site = p.site;
         initialiser = p.initialiser;
       }
 
-  pub with-accesses : (old : State) (n : ℕ) (xs : List (Access)) → Above s h old → OnTop s.accesses n xs → Above s (record h { accesses = n }) (record old { accesses = xs })
+  pub with-accesses : (old : State) (n : ℕ) (xs : List Access) → Above s h old → OnTop s.accesses n xs → Above s (record h { accesses = n }) (record old { accesses = xs })
   with-accesses old n xs p o =
       record {
         calls = p.calls;
@@ -125,14 +143,14 @@ module _ (s : State) {h : Heights} where
         accesses = o;
         constructors = p.constructors;
         choices = p.choices;
-        units = p.units;
-        site = p.site;
         matches = p.matches;
         blocks = p.blocks;
+        units = p.units;
+        site = p.site;
         initialiser = p.initialiser;
       }
 
-  pub with-constructors : (old : State) (n : ℕ) (xs : List (ConstructorAtWork)) → Above s h old → OnTop s.constructors n xs → Above s (record h { constructors = n }) (record old { constructors = xs })
+  pub with-constructors : (old : State) (n : ℕ) (xs : List ConstructorAtWork) → Above s h old → OnTop s.constructors n xs → Above s (record h { constructors = n }) (record old { constructors = xs })
   with-constructors old n xs p o =
       record {
         calls = p.calls;
@@ -142,14 +160,14 @@ module _ (s : State) {h : Heights} where
         accesses = p.accesses;
         constructors = o;
         choices = p.choices;
-        units = p.units;
-        site = p.site;
         matches = p.matches;
         blocks = p.blocks;
+        units = p.units;
+        site = p.site;
         initialiser = p.initialiser;
       }
 
-  pub with-choices : (old : State) (n : ℕ) (xs : List (ChoiceAtWork)) → Above s h old → OnTop s.choices n xs → Above s (record h { choices = n }) (record old { choices = xs })
+  pub with-choices : (old : State) (n : ℕ) (xs : List ChoiceAtWork) → Above s h old → OnTop s.choices n xs → Above s (record h { choices = n }) (record old { choices = xs })
   with-choices old n xs p o =
       record {
         calls = p.calls;
@@ -159,9 +177,26 @@ module _ (s : State) {h : Heights} where
         accesses = p.accesses;
         constructors = p.constructors;
         choices = o;
-        units = p.units;
-        site = p.site;
         matches = p.matches;
         blocks = p.blocks;
+        units = p.units;
+        site = p.site;
+        initialiser = p.initialiser;
+      }
+
+  pub with-matches : (old : State) (n : ℕ) (xs : List MatchAtWork) → Above s h old → OnTop s.matches n xs → Above s (record h { matches = n }) (record old { matches = xs })
+  with-matches old n xs p o =
+      record {
+        calls = p.calls;
+        found = p.found;
+        wants = p.wants;
+        sorts = p.sorts;
+        accesses = p.accesses;
+        constructors = p.constructors;
+        choices = p.choices;
+        matches = o;
+        blocks = p.blocks;
+        units = p.units;
+        site = p.site;
         initialiser = p.initialiser;
       }

@@ -1,9 +1,10 @@
 -- Lists on which so many stand.
 use Rattle.std.proofs.Common.{◌≡◌, ◌≤◌, ◌++◌, ◌+◌, ◌-◌, ℕ, zero, suc, List, [], ◌∷◌, length, drop, take, arith, refl, sym, subst, ap, ◌∙◌, append_assoc, length-append, length-take, append-nil}
 use Rattle.std.proofs.Math.Seq.{take-append-add, take-append_seam}
-use Rattle.check_words.specs.State.{CallAtWork, IsLast, UnitAtWork, all_but, replaced}
+use Rattle.typed_tree.specs.declared.stmt.TypedStmt.{TypedStmt}
+use Rattle.check_words.specs.State.{BlockAtWork, CallAtWork, IsLast, UnitAtWork, all_but, replaced}
 use Rattle.check_laws.specs.Heights.{plus}
-use Rattle.check_laws.specs.Positions.{OnTop, OnUnits, parts_of_call, parts_of_calls}
+use Rattle.check_laws.specs.Positions.{OnBlock, OnBlocks, OnTop, OnUnits, parts_of_call, parts_of_calls}
 
 pub plus-is : (n k : ℕ) → plus n k ≡ n + k
 plus-is n zero = omega arith
@@ -128,3 +129,60 @@ last-on {xs = xs} {ys = ys} {k = k} {c = c} o last = by o.more o.is o.many
     by : (more : List CallAtWork) → ys ≡ xs ++ more → length more ≡ suc k → LastOn xs k c more ys
     by [] is many = absurd (omega arith)
     by (x ∷ more) is many = let split = split-last x more in with_last (x ∷ more) split.0 split.1 split.2 is many
+
+-- ---- blocks
+
+pub same-last : {A : Type 0} {xs : List A} {x y : A} → IsLast xs x → IsLast xs y → x ≡ y
+same-last l m = (append-last l.kept m.kept _ _ (sym l.is ∙ m.is)).1
+
+-- a statement more in a block
+abbrev pub with_more : BlockAtWork → TypedStmt → BlockAtWork
+with_more b stmt = record b { stmts = b.stmts ++ stmt ∷ [] }
+
+module _ (bs cs : List BlockAtWork) where
+  pub block-on : (k n : ℕ) (b : BlockAtWork) → OnBlocks bs k n cs → OnBlocks bs (suc k) n (cs ++ b ∷ [])
+  block-on k zero b o = one-on b o
+  block-on k (suc n) b o = record { kept = o.kept; was = o.was; now = o.now; at_hand = o.at_hand; scope = o.scope; stmts = o.stmts; on = one-on b o.on }
+
+  pub block-off : (k n : ℕ) → OnBlocks bs (suc k) n cs → OnBlocks bs k n (all_but 1 cs)
+  block-off k zero o = fewer-on 1 k o
+  block-off k (suc n) o = record { kept = o.kept; was = o.was; now = o.now; at_hand = o.at_hand; scope = o.scope; stmts = o.stmts; on = fewer-on 1 k o.on }
+
+  -- another block in place of one that stands on them
+  pub block-above : (k n : ℕ) (b : BlockAtWork) → OnBlocks bs (suc k) n cs → OnBlocks bs (suc k) n (replaced cs b)
+  block-above k zero b o = other-on b o
+  block-above k (suc n) b o = record { kept = o.kept; was = o.was; now = o.now; at_hand = o.at_hand; scope = o.scope; stmts = o.stmts; on = other-on b o.on }
+
+  last-replaced : (kept : List BlockAtWork) (was now : BlockAtWork) → cs ≡ kept ++ was ∷ [] → replaced cs now ≡ kept ++ now ∷ []
+  last-replaced kept was now is = ap (λ l. replaced l now) is ∙ ap (λ l. l ++ now ∷ []) (all-but-last kept was)
+
+  -- a statement more in the block at hand
+  pub stmt-at-hand : (n : ℕ) (b : BlockAtWork) (stmt : TypedStmt) → OnBlocks bs 0 n cs → IsLast cs b → OnBlock bs 0 (suc n) (replaced cs (with_more b stmt))
+  stmt-at-hand zero b stmt o last =
+      record {
+        kept = last.kept;
+        was = b;
+        now = with_more b stmt;
+        at_hand = sym (is-same o) ∙ last.is;
+        scope = refl;
+        stmts = one-on stmt none-on;
+        on = subst (OnTop (last.kept ++ with_more b stmt ∷ []) 0) (sym (last-replaced last.kept b (with_more b stmt) last.is)) none-on;
+      }
+  stmt-at-hand (suc n) b stmt o last =
+      let same : b ≡ o.now = same-last last (record { kept = o.kept; is = is-same o.on }) in
+      record {
+        kept = o.kept;
+        was = o.was;
+        now = with_more b stmt;
+        at_hand = o.at_hand;
+        scope = ap (λ x. x.scope) same ∙ o.scope;
+        stmts = one-on stmt (subst (λ (x : BlockAtWork). OnTop o.was.stmts (suc n) x.stmts) (sym same) o.stmts);
+        on = subst (OnTop (o.kept ++ with_more b stmt ∷ []) 0) (sym (last-replaced o.kept o.now (with_more b stmt) (is-same o.on))) none-on;
+      }
+
+  pub count-blocks : (k n : ℕ) → OnBlocks bs k n cs → length cs ≡ length bs + k
+  count-blocks k zero o = let long : length cs ≡ length bs + length o.more = ap length o.is ∙ length-append bs o.more in let many = o.many in omega arith
+  count-blocks k (suc n) o =
+      let long : length cs ≡ length (o.kept ++ o.now ∷ []) + length o.on.more = ap length o.on.is ∙ length-append (o.kept ++ o.now ∷ []) o.on.more in
+      let now = length-append o.kept (o.now ∷ []) in let was : length bs ≡ length o.kept + 1 = ap length o.at_hand ∙ length-append o.kept (o.was ∷ []) in
+      let many = o.on.many in omega arith

@@ -23,11 +23,11 @@ use Rattle.expr_needs.specs.Operators.{family_of}
 use Rattle.check_laws.specs.Effects.{gives_by}
 use Rattle.check_laws.specs.Heights.{Heights, ◌⊕◌, parts, wants, accesses, constructors, calls}
 use Rattle.check_laws.specs.Laws.{IsWantedBy}
-use Rattle.check_laws.proofs.Leading.{Leads, Turns, in-turn-more}
+use Rattle.check_laws.proofs.Leading.{Base, Leads, Turns, in-turn-more}
 use Rattle.check_laws.proofs.Lines.{One, OneKey, OnePair, Started, anonymous, argument, binary, callee, conditional, element, item, of-any, of-kind, prefixed}
 use Rattle.check_laws.proofs.Stacks.{plus-is}
 
-module _ (workers : List Name) (base : ℕ) where
+module _ (workers : List Name) (base : Base) where
   abbrev Lead : Heights → Listed Need → Heights → Type 0
   Lead = Leads workers base
 
@@ -254,7 +254,7 @@ module _ (workers : List Name) (base : ℕ) where
   detail-layer y = λ e h. (Open h 1, (h, refl, refl), (Open h 2, of-any workers base (read_expr y.value.value.0) y.value.value.1 (Open h 1), (h, refl, refl)))
 
   -- what a constructor begins with, where the type that is wanted counts
-  begun : (e : Expected) (h : Heights) → IsWantedBy e (base + h.wants) → Turns workers base (gives_by e (constructors 1)) h (h ⊕ constructors 1)
+  begun : (e : Expected) (h : Heights) → IsWantedBy e (base.wants + h.wants) → Turns workers base (gives_by e (constructors 1)) h (h ⊕ constructors 1)
   begun expected.Nothing h w = (h, refl, refl)
   begun expected.Immutable h w = (h, refl, refl)
   begun expected.Wanted h w = (w, refl)

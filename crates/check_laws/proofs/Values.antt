@@ -67,11 +67,11 @@ module _ (s : State) where
   pub goes-forms : (r : Heights) (op : Operator) (count : ℕ) (k : Kind) (at : Place) → Goes s (r ⊕ parts count) (forms op count k at) (r ⊕ parts 1)
   goes-forms r op count k at = goes-makes s r count _
 
-  goes-sorts : (r : Heights) (ints : Bool) → Goes s r (sorting ints) (r ⊕ sorts 1)
+  pub goes-sorts : (r : Heights) (ints : Bool) → Goes s r (sorting ints) (r ⊕ sorts 1)
   goes-sorts r ints =
       goes-becomes s r (r ⊕ sorts 1) _ (λ old p. with-sorts s old _ _ p (one-on ints p.sorts))
 
-  goes-takes-sort : (r : Heights) → Goes s (r ⊕ sorts 1) takes_sort r
+  pub goes-takes-sort : (r : Heights) → Goes s (r ⊕ sorts 1) takes_sort r
   goes-takes-sort r =
       goes-then s _ _ (goes-some s (r ⊕ sorts 1) _) (λ c. goes-then s _ _
       (goes-becomes s (r ⊕ sorts 1) r _ (λ old p. with-sorts s old _ _ p (fewer-on 1 r.sorts p.sorts)))

@@ -4,10 +4,10 @@ use Rattle.bal_base.specs.declared.text.Name.{Name}
 use Rattle.bal_tree.specs.declared.name.QualifiedName.{QualifiedName}
 use Rattle.expr_needs.specs.declared.expected.Expected.{Expected}
 use Rattle.expr_needs.specs.declared.expected.Expected.TheVariants as expected
-use Rattle.expr_needs.specs.Needs.{Need, Fails, IsOf, IsWanted, Describes, Widens, WantsResult, WantsErrorToo, DropsWant, GivesLiteral, GivesNamed, Forms, Decides, IsSort, Adds, Compares, Splits, Switches, Turns, Conjoins, Disjoins, Chooses, FillsNil, Tests, Casts, Checks, ChecksPanicking, Traps, Encloses, IsAccessed, IsIndex, ReadsElement, ReadsField, ReadsOptional, ChoosesList, ChoosesMapping, BeginsKeys, GivesKey, TakesKey, ComputesKey, ExpectsItem, ExpectsMember, IsItem, IsMember, IsDetail, LacksCause, MakesList, MakesMapping, MakesError, CallsNamed, CallsValue, CallsMethod, ExpectsArgument, IsArgument, MakesCall, Starts, BeginsAnonymous, HasParameter, HasRest, BeginsValue, MakesAnonymous, Awaits, WaitsForAny, WaitsForAll, Receives, Sends, SendsAndWaits, Flushes}
+use Rattle.expr_needs.specs.Needs.{Need, Fails, IsOf, IsWanted, Describes, Widens, WantsResult, WantsErrorToo, DropsWant, GivesLiteral, GivesNamed, Forms, Decides, IsSort, Adds, Compares, Splits, Switches, Turns, Conjoins, Disjoins, Chooses, FillsNil, Tests, Casts, Checks, ChecksPanicking, Traps, Encloses, IsAccessed, IsIndex, ReadsElement, ReadsField, ReadsOptional, ChoosesList, ChoosesMapping, BeginsKeys, GivesKey, TakesKey, ComputesKey, ExpectsItem, ExpectsMember, IsItem, IsMember, IsDetail, LacksCause, MakesList, MakesMapping, MakesError, CallsNamed, CallsValue, CallsMethod, ExpectsArgument, IsArgument, MakesCall, Starts, BeginsAnonymous, HasParameter, HasRest, BeginsValue, MakesAnonymous, Awaits, WaitsForAny, WaitsForAll, Receives, Sends, SendsAndWaits, Flushes, IsNew, Declares, IsAssignable, Assigns, HasField, ExpectsStored, Stores, ReadsName, ReadsStored, ReadsStoredField, IsOperand, UpdatesName, UpdatesElement, UpdatesField, IsIgnorable, Performs, Stops, Returns, ReturnsNil, Breaks, Continues, BeginsBlock, EndsBlock, MakesBlock, MakesIf, Heads, OpensLoop, MakesWhile, IsItemOfLoop, WidensItem, IsCounter, WantsCounter, HasItem, MakesForeach, MakesRange, BeginsMatch, HasPattern, BeginsClause, EndsClause, MakesMatch, EntersFile, BeginsFunction, NamesParameter, EndsFunction, EndsValueFunction, BeginsWorker, EndsWorker, BeginsInitial, EndsInitial, EndsModule, IsConstant}
 use Rattle.check_words.specs.Actions.{futures}
 use Rattle.check_words.specs.Seen.{worker_named}
-use Rattle.check_laws.specs.Heights.{Heights, ◌⊕◌, none, parts, wants, sorts, accesses, constructors, calls, choices, units}
+use Rattle.check_laws.specs.Heights.{Heights, ◌⊕◌, none, parts, wants, sorts, accesses, constructors, calls, choices, matches, blocks, units}
 
 pub data Effect : Type 0 where
   -- it is always refused
@@ -16,7 +16,9 @@ pub data Effect : Type 0 where
   Moves : (takes leaves : Heights) → Effect
   -- some type is wanted, be it from before, and these come
   SeesWant : Heights → Effect
-  -- it is a need of a statement, a body or a package
+  -- it takes so many, and a statement more stands in the block at hand, be it from before
+  AddsStmt : Heights → Effect
+  -- it changes more than what stands on top: what is known of the function or the module
   Beyond : Effect
 
 -- these are there, and stay
@@ -123,6 +125,60 @@ module _ (workers : List Name) where
   effect (Sends peer at) = looks_at (parts 1)
   effect (SendsAndWaits peer at) = looks_at (parts 1)
   effect (Flushes peer at) = gives (parts 1)
-  -- ---- statements, bodies and packages
+  -- ---- statements
 
-  effect need = Beyond
+  effect (IsNew w) = Moves none none
+  effect (Declares name final assigned at) = AddsStmt (parts 1 ⊕ wants 1)
+  effect (IsAssignable q) = gives (wants 1)
+  effect (Assigns q at) = AddsStmt (parts 1 ⊕ wants 1)
+  effect (HasField w) = gives (parts 1 ⊕ accesses 1)
+  effect (ExpectsStored at) = Moves (parts 2 ⊕ accesses 1) (parts 2 ⊕ accesses 1 ⊕ wants 1)
+  effect (Stores at) = AddsStmt (parts 3 ⊕ accesses 1 ⊕ wants 1)
+  effect (ReadsName q) = Moves (wants 1) (wants 2)
+  effect (ReadsStored at) = Moves (parts 2 ⊕ accesses 1 ⊕ wants 1) (parts 2 ⊕ accesses 1 ⊕ wants 2)
+  effect (ReadsStoredField w at) = Moves (parts 2 ⊕ accesses 1 ⊕ wants 1) (parts 2 ⊕ accesses 1 ⊕ wants 2)
+  effect (IsOperand op at) = Moves (wants 2) (wants 3 ⊕ sorts 1)
+  effect (UpdatesName q op at) = AddsStmt (parts 1 ⊕ wants 3 ⊕ sorts 1)
+  effect (UpdatesElement op at) = AddsStmt (parts 3 ⊕ accesses 1 ⊕ wants 3 ⊕ sorts 1)
+  effect (UpdatesField w op at) = AddsStmt (parts 3 ⊕ accesses 1 ⊕ wants 3 ⊕ sorts 1)
+  effect (IsIgnorable at) = looks_at (parts 1)
+  effect (Performs form count at) = AddsStmt (parts count)
+  effect Stops = Moves none none
+  effect (Returns at) = AddsStmt (parts 1 ⊕ wants 1)
+  effect (ReturnsNil at) = AddsStmt none
+  effect (Breaks at) = AddsStmt none
+  effect (Continues at) = AddsStmt none
+  -- ---- blocks, branches and loops
+
+  effect BeginsBlock = gives (blocks 1)
+  effect EndsBlock = looks_at (blocks 1)
+  effect (MakesBlock at) = AddsStmt (blocks 1)
+  effect (MakesIf at) = AddsStmt (parts 1 ⊕ choices 1 ⊕ blocks 2)
+  effect (Heads assigned) = Moves none none
+  effect OpensLoop = gives (choices 1)
+  effect (MakesWhile leaves at) = AddsStmt (parts 1 ⊕ choices 1 ⊕ blocks 1)
+  effect (IsItemOfLoop at) = looks_at (parts 1 ⊕ wants 1)
+  effect (WidensItem at) = Moves (parts 1) (parts 1 ⊕ wants 1)
+  effect (IsCounter at) = looks_at (parts 2 ⊕ wants 1)
+  effect WantsCounter = Moves (parts 2) (parts 2 ⊕ wants 1)
+  effect (HasItem name assigned) = Moves (wants 1) none
+  effect (MakesForeach at) = AddsStmt (parts 1 ⊕ choices 1 ⊕ blocks 1)
+  effect (MakesRange op at) = AddsStmt (parts 2 ⊕ choices 1 ⊕ blocks 1)
+  effect (BeginsMatch name at) = Moves (parts 1) (parts 1 ⊕ matches 1)
+  effect (HasPattern p) = looks_at (matches 1)
+  effect (BeginsClause any) = looks_at (matches 1)
+  effect (EndsClause at) = Moves (matches 1 ⊕ blocks 1) (matches 1)
+  effect (MakesMatch any at) = AddsStmt (parts 1 ⊕ matches 1)
+  -- ---- workers, functions and packages
+
+  effect (NamesParameter w assigned) = Moves none none
+  effect (BeginsWorker w number used) = gives (units 1)
+  effect (EndsWorker w close) = Moves (units 1 ⊕ blocks 1) none
+  effect (IsConstant d) = Moves none none
+  effect (EntersFile m file) = Beyond
+  effect (BeginsFunction d) = Beyond
+  effect (EndsFunction d close) = Beyond
+  effect (EndsValueFunction d) = Beyond
+  effect (BeginsInitial d kept) = Beyond
+  effect (EndsInitial d kept) = Beyond
+  effect (EndsModule m) = Beyond

@@ -1,7 +1,7 @@
 -- Where a state stands above another one: what that had is there as it was, and so many stand on it.
-use Rattle.std.specs.Prelude.{◌≡◌, ◌++◌, ◌+◌, ℕ, List, [], ◌∷◌, length, Option, Some, None}
+use Rattle.std.specs.Prelude.{◌≡◌, ◌++◌, ◌+◌, ℕ, zero, suc, List, [], ◌∷◌, length, Option, Some, None}
 use Rattle.typed_tree.specs.SharedTypes.{Shared}
-use Rattle.check_words.specs.State.{CallAtWork, Called, OfFunction, OfLibrary, OfValue, State, UnitAtWork}
+use Rattle.check_words.specs.State.{BlockAtWork, CallAtWork, Called, OfFunction, OfLibrary, OfValue, State, UnitAtWork}
 use Rattle.check_laws.specs.Heights.{Heights, plus}
 
 -- so many stand on these, which are as they were
@@ -37,6 +37,21 @@ abbrev pub parts_of_calls : List CallAtWork → ℕ
 parts_of_calls [] = 0
 parts_of_calls (c ∷ cs) = parts_of_call c + parts_of_calls cs
 
+-- So many blocks stand on these, of which the last one has so many statements more.
+pub record OnBlock (bs : List BlockAtWork) (k n : ℕ) (cs : List BlockAtWork) : Type 0 where
+  pub kept : List BlockAtWork
+  pub was : BlockAtWork
+  pub now : BlockAtWork
+  pub at_hand : bs ≡ kept ++ was ∷ []
+  pub scope : now.scope ≡ was.scope
+  pub stmts : OnTop was.stmts n now.stmts
+  pub on : OnTop (kept ++ now ∷ []) k cs
+
+-- and where that are none, all are as they were
+abbrev pub OnBlocks : List BlockAtWork → ℕ → ℕ → List BlockAtWork → Type 0
+OnBlocks bs k zero cs = OnTop bs k cs
+OnBlocks bs k (suc n) cs = OnBlock bs k (suc n) cs
+
 -- the second state is the first one, and on it stand so many
 pub record Above (s : State) (h : Heights) (t : State) : Type 0 where
   pub calls : OnTop s.calls h.calls t.calls
@@ -48,6 +63,6 @@ pub record Above (s : State) (h : Heights) (t : State) : Type 0 where
   pub choices : OnTop s.choices h.choices t.choices
   pub units : OnUnits s.units h.units t.units
   pub site : t.site ≡ s.site
-  pub matches : t.matches ≡ s.matches
-  pub blocks : t.blocks ≡ s.blocks
+  pub matches : OnTop s.matches h.matches t.matches
+  pub blocks : OnBlocks s.blocks h.blocks h.stmts t.blocks
   pub initialiser : t.initialiser ≡ s.initialiser

@@ -1,7 +1,13 @@
 //! Laws of positions. These calls do nothing: their clauses are laws.
-ghost use Rattle.check_laws.specs.Laws.{KeptPositions};
+ghost use Rattle.check_laws.specs.Laws.{EffectsAreKept, KeptPositions};
 
 use type_model::Types;
+
+/// Each need that is met, of expressions, actions, statements and workers, takes as many parts, wanted types and other open things from
+/// the top as its effect says, and leaves as many there; and what is below stays as it was.
+pub fn effects_are_kept<T: Types>()
+    ensures { EffectsAreKept T.passes }
+{}
 
 /// Where the needs of an expression, of a part of one or of an action are met, in the order of its line, one typed expression more
 /// stands at the end of those that were found, and what is wanted and what else is open is what it was; and each need of it, where all

@@ -11,9 +11,9 @@
 //! - `Positions`: where one state stands so far above another.
 //! - `Laws`.
 //!
-//! Beside them stands the law: [`positions_are_kept`].
+//! Beside them stand the laws: [`effects_are_kept`] of each need, [`positions_are_kept`] of expressions and actions.
 #![tactic(auto)]
 
 mod laws;
 
-pub use laws::positions_are_kept;
+pub use laws::{effects_are_kept, positions_are_kept};
