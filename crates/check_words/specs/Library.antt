@@ -1,5 +1,5 @@
 -- The library as a checker sees it: a row for each call, with what it is a method of, what it takes and which operation it is.
-use Rattle.std.specs.Prelude.{◌+◌, ◌&&◌, ◌||◌, ℕ, Bool, true, false, List, [], ◌∷◌, ◌++◌, Option, Some, None, codes, filter, get_or, length, nat_le}
+use Rattle.std.specs.Prelude.{◌+◌, ◌&&◌, ◌||◌, ℕ, Bool, true, false, List, [], ◌∷◌, ◌++◌, Option, Some, None, codes, filter, get_or, length, map, nat_le}
 use Rattle.bal_base.specs.declared.text.Name.{Name}
 use Rattle.operations.specs.declared.library.LibraryCall.{LibraryCall}
 use Rattle.operations.specs.declared.library.LibraryCall.TheVariants.{Println, Print, Readln, FromString, Abs, ToString, Clone, CloneReadOnly, StringLength, StartsWith, Trim, Substring, ToUpperAscii, ToLowerAscii, ToCodePointInts, ListLength, Push, Pop, RemoveItem, Slice, Reverse, MappingLength, Keys, HasKey, Get, RemoveKey, Message, Cause, Detail}
@@ -52,41 +52,59 @@ any = None
 
 -- ---- the rows
 
+-- the row of a call
+abbrev pub row_of : LibraryCall → LibraryRow
+row_of Println = row_of_all (codes "println") any Println
+row_of Print = row_of_all (codes "print") any Print
+row_of Readln = row (codes "readln") any [] (any ∷ []) Readln
+row_of FromString = row (codes "fromString") any (string ∷ []) [] FromString
+row_of Abs = row (codes "abs") int [] [] Abs
+row_of ToString = row (codes "toString") any [] [] ToString
+row_of Clone = row (codes "clone") anydata [] [] Clone
+row_of CloneReadOnly = row (codes "cloneReadOnly") anydata [] [] CloneReadOnly
+row_of StringLength = row (codes "length") string [] [] StringLength
+row_of StartsWith = row (codes "startsWith") string (string ∷ []) [] StartsWith
+row_of Trim = row (codes "trim") string [] [] Trim
+row_of Substring = row (codes "substring") string (int ∷ []) (int ∷ []) Substring
+row_of ToUpperAscii = row (codes "toUpperAscii") string [] [] ToUpperAscii
+row_of ToLowerAscii = row (codes "toLowerAscii") string [] [] ToLowerAscii
+row_of ToCodePointInts = row (codes "toCodePointInts") string [] [] ToCodePointInts
+row_of ListLength = row (codes "length") list [] [] ListLength
+row_of Push = row_of_all (codes "push") list Push
+row_of Pop = row (codes "pop") list [] [] Pop
+row_of RemoveItem = row (codes "remove") list (int ∷ []) [] RemoveItem
+row_of Slice = row (codes "slice") list (int ∷ []) (int ∷ []) Slice
+row_of Reverse = row (codes "reverse") list [] [] Reverse
+row_of MappingLength = row (codes "length") mapping [] [] MappingLength
+row_of Keys = row (codes "keys") mapping [] [] Keys
+row_of HasKey = row (codes "hasKey") mapping (string ∷ []) [] HasKey
+row_of Get = row (codes "get") mapping (string ∷ []) [] Get
+row_of RemoveKey = row (codes "remove") mapping (string ∷ []) [] RemoveKey
+row_of Message = row (codes "message") error [] [] Message
+row_of Cause = row (codes "cause") error [] [] Cause
+row_of Detail = row (codes "detail") error [] [] Detail
+
+-- the functions of `io` and of `int`, and all methods
+abbrev pub calls_of_io : List LibraryCall
+calls_of_io = Println ∷ Print ∷ Readln ∷ []
+
+abbrev pub calls_of_int : List LibraryCall
+calls_of_int = FromString ∷ []
+
+abbrev pub calls_of_values : List LibraryCall
+calls_of_values =
+    Abs ∷ ToString ∷ Clone ∷ CloneReadOnly ∷ StringLength ∷ StartsWith ∷ Trim ∷ Substring ∷ ToUpperAscii ∷ ToLowerAscii ∷ ToCodePointInts ∷ ListLength
+    ∷ Push ∷ Pop ∷ RemoveItem ∷ Slice ∷ Reverse ∷ MappingLength ∷ Keys ∷ HasKey ∷ Get ∷ RemoveKey ∷ Message ∷ Cause ∷ Detail ∷ []
+
 abbrev pub functions_of_io : List LibraryRow
-functions_of_io = row_of_all (codes "println") any Println ∷ row_of_all (codes "print") any Print ∷ row (codes "readln") any [] (any ∷ []) Readln ∷ []
+functions_of_io = map row_of calls_of_io
 
 abbrev pub functions_of_int : List LibraryRow
-functions_of_int = row (codes "fromString") any (string ∷ []) [] FromString ∷ []
+functions_of_int = map row_of calls_of_int
 
 -- of methods of one name, the first whose receiver's kind fits is meant
 abbrev pub methods : List LibraryRow
-methods =
-    row (codes "abs") int [] [] Abs
-    ∷ row (codes "toString") any [] [] ToString
-    ∷ row (codes "clone") anydata [] [] Clone
-    ∷ row (codes "cloneReadOnly") anydata [] [] CloneReadOnly
-    ∷ row (codes "length") string [] [] StringLength
-    ∷ row (codes "startsWith") string (string ∷ []) [] StartsWith
-    ∷ row (codes "trim") string [] [] Trim
-    ∷ row (codes "substring") string (int ∷ []) (int ∷ []) Substring
-    ∷ row (codes "toUpperAscii") string [] [] ToUpperAscii
-    ∷ row (codes "toLowerAscii") string [] [] ToLowerAscii
-    ∷ row (codes "toCodePointInts") string [] [] ToCodePointInts
-    ∷ row (codes "length") list [] [] ListLength
-    ∷ row_of_all (codes "push") list Push
-    ∷ row (codes "pop") list [] [] Pop
-    ∷ row (codes "remove") list (int ∷ []) [] RemoveItem
-    ∷ row (codes "slice") list (int ∷ []) (int ∷ []) Slice
-    ∷ row (codes "reverse") list [] [] Reverse
-    ∷ row (codes "length") mapping [] [] MappingLength
-    ∷ row (codes "keys") mapping [] [] Keys
-    ∷ row (codes "hasKey") mapping (string ∷ []) [] HasKey
-    ∷ row (codes "get") mapping (string ∷ []) [] Get
-    ∷ row (codes "remove") mapping (string ∷ []) [] RemoveKey
-    ∷ row (codes "message") error [] [] Message
-    ∷ row (codes "cause") error [] [] Cause
-    ∷ row (codes "detail") error [] [] Detail
-    ∷ []
+methods = map row_of calls_of_values
 
 abbrev pub is_named : Name → LibraryRow → Bool
 is_named name r = is_same_text r.name name
