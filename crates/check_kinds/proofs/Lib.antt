@@ -1,0 +1,4 @@
+pub mod KindSets
+pub mod Over
+pub mod Shapes
+pub mod Within
