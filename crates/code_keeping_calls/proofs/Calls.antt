@@ -281,10 +281,10 @@ module _ (code : Code) (fillers : ℕ → List Filler) (natives : Answers) (t : 
 
       module _ (ok : Passed code t c good n k.o k.there k.u k.unit a args k.function vs k.fit k.few k.never soon (passed k.u.rest (length k.u.params) c.world vs)) where
         abbrev z : Common
-        z = with-strand code soon ok.sound k.o.unit
+        z = with-strand code soon ok.sound k.o.unit None
 
         later-z : (q : Option Role) → IsLater q c z
-        later-z q = later-follows q c soon z (ok.later q) (strand-later code soon ok.sound k.o.unit q)
+        later-z q = later-follows q c soon z (ok.later q) (strand-later code soon ok.sound k.o.unit None q)
 
         not-first : length c.strands ≢ 0
         not-first e = let l = good.nearly.ready.there in omega (arith, l, e)
@@ -305,24 +305,24 @@ module _ (code : Code) (fillers : ℕ → List Filler) (natives : Answers) (t : 
         future-fits : AllFit code z (Future (length c.strands) k.o.unit ∷ []) (option_to_list start-typed.result)
         future-fits =
             one-given code z start-typed.result (IsFutureOf (MayGive code.atoms a args)) (Future (length c.strands) k.o.unit) has ok.sound.nearly.heap.closed
-            (tt, tt, (not-first, at-some (λ (s : Strand). (s.unit ≡ k.o.unit) × (s.role ≡ None)) (slice_get z.strands (length c.strands)) (new code soon ok.sound k.o.unit) (new-there code soon ok.sound k.o.unit) (refl, refl), can-be-called code t c good a args n vs k))
+            (tt, tt, (not-first, at-some (λ (s : Strand). (s.unit ≡ k.o.unit) × (s.role ≡ None)) (slice_get z.strands (length c.strands)) (new code soon ok.sound k.o.unit None) (new-there code soon ok.sound k.o.unit None) (refl, refl), can-be-called code t c good a args n vs k))
             (λ x valid s. of-unit x valid (of-some (λ q. In code.atoms x (Atom q.1)) (slice_get (code_types code).units k.o.unit) (k.u.arrow, k.u.future)
             (get-map (λ (u : CodeUnit). (u.arrow, u.future)) code.units k.o.unit ∙ ap (λ o. option_map (λ (u : CodeUnit). (u.arrow, u.future)) o) k.unit) s))
 
         begun : Fit below (Spawns (record { unit = k.o.unit; args = all-args code t c good a args n vs k; role = None } ∷ []) f.role (Future (length c.strands) k.o.unit ∷ []) z)
         begun = (
-          good-so code soon ok.sound k.o.unit,
+          good-so code soon ok.sound k.o.unit None,
           refl,
-          many code soon ok.sound k.o.unit,
+          many code soon ok.sound k.o.unit None,
           (λ q apart. later-z q),
           inl refl,
           quietly-behind code f at.u at.is at.station (op.StartValue count) ec start-typed (λ h. h) refl c z (later-z f.role) (reverse (Function n ∷ vs)) below (Future (length c.strands) k.o.unit ∷ []) is others future-fits fits.0,
           (
             (
               (λ m e. enters code t z k.o.unit k.u k.unit (can-be-called code t c good a args n vs k).1 fillers (all-args code t c good a args n vs k)
-                  (all-later code None soon z (strand-later code soon ok.sound k.o.unit None) (all-args code t c good a args n vs k) (k.u.params ++ k.u.captured) (all-fit code t c good a args n vs k ok)) m e),
+                  (all-later code None soon z (strand-later code soon ok.sound k.o.unit None None) (all-args code t c good a args n vs k) (k.u.params ++ k.u.captured) (all-fit code t c good a args n vs k ok)) m e),
               tt,
-              inl (at-some (λ (s : Strand). s.unit ≡ k.o.unit) (slice_get z.strands (length c.strands)) (new code soon ok.sound k.o.unit) (new-there code soon ok.sound k.o.unit) refl),
+              inl (at-some (λ (s : Strand). s.unit ≡ k.o.unit) (slice_get z.strands (length c.strands)) (new code soon ok.sound k.o.unit None) (new-there code soon ok.sound k.o.unit None) refl),
             ),
             tt,
           ),

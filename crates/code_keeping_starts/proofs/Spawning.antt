@@ -1,4 +1,4 @@
--- A strand is made that is no worker's: all that is shared stays good, and what held holds.
+-- A strand is made, of a worker or of none: all that is shared stays good, and what held holds.
 use Rattle.std.proofs.Common.{◌≡◌, ◌≢◌, ◌<◌, ◌+◌, ◌∙◌, ℕ, zero, suc, Bool, false, List, [], ◌∷◌, ◌++◌, Option, Some, None, inl, inr, length, refl, sym, ap, subst, arith}
 use Rattle.std.proofs.Math.ListN.{get_or-append}
 use Rattle.std.proofs.lemmas.List.{length-append}
@@ -34,15 +34,15 @@ any-same : (p q : ℕ → Bool) (ns : List ℕ) → All (λ n. p n ≡ q n) ns �
 any-same p q [] h = refl
 any-same p q (n ∷ ns) h = (λ i. All-head (λ n. p n ≡ q n) n ns h i || any-same p q ns (All-tail (λ n. p n ≡ q n) n ns h) i)
 
-module _ (code : Code) (c : Common) (good : GoodCommon code c Running) (unit : ℕ) where
+module _ (code : Code) (c : Common) (good : GoodCommon code c Running) (unit : ℕ) (role : Option Role) where
   abbrev pub d : Common
-  d = strand_made unit None c
+  d = strand_made unit role c
 
   abbrev pub number : ℕ
   number = length c.strands
 
   abbrev pub new : Strand
-  new = record { unit = unit; role = None; status = IsActive; taken = false }
+  new = record { unit = unit; role = role; status = IsActive; taken = false }
 
   pub new-there : slice_get d.strands number ≡ Some new
   new-there = get-last c.strands new

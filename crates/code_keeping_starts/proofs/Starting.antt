@@ -82,7 +82,7 @@ module _ (code : Code) (fillers : ℕ → List Filler) (natives : Answers) (t : 
   callable = ((t.places p).uses f.unit at.u at.is at.here.0).functions o ec 0 unit (omega arith)
 
   abbrev z : Common
-  z = d code c good unit
+  z = d code c good unit None
 
   module _ (g : CodeUnit) (eg : slice_get code.units unit ≡ Some g) (below-params : AreBelow code.atoms typed.operands g.params) (has : ResultHas code.atoms typed.result (λ x. In code.atoms x (Atom g.future))) where
     captures-nothing : g.captured ≡ []
@@ -95,7 +95,7 @@ module _ (code : Code) (fillers : ℕ → List Filler) (natives : Answers) (t : 
     future-fits : AllFit code z (Future (length c.strands) unit ∷ []) (option_to_list typed.result)
     future-fits =
         one-given code z typed.result (λ x. In code.atoms x (Atom g.future)) (Future (length c.strands) unit) has good.nearly.heap.closed
-        (tt, tt, (not-first, at-some (λ (s : Strand). (s.unit ≡ unit) × (s.role ≡ None)) (slice_get z.strands (length c.strands)) (new code c good unit) (new-there code c good unit) (refl, refl), callable))
+        (tt, tt, (not-first, at-some (λ (s : Strand). (s.unit ≡ unit) × (s.role ≡ None)) (slice_get z.strands (length c.strands)) (new code c good unit None) (new-there code c good unit None) (refl, refl), callable))
         (λ x valid s. of-some (λ u. In code.atoms x (Atom u.1)) (slice_get (code_types code).units unit) (g.arrow, g.future) (get-map (λ (u : CodeUnit). (u.arrow, u.future)) code.units unit ∙ ap (λ o. option_map (λ (u : CodeUnit). (u.arrow, u.future)) o) eg) s)
 
     abbrev Fit : List Value → Effect → Type 0
@@ -105,18 +105,18 @@ module _ (code : Code) (fillers : ℕ → List Filler) (natives : Answers) (t : 
         Fit below (Spawns (record { unit = unit; args = args; role = None } ∷ []) f.role (Future (length c.strands) unit ∷ []) z)
     begun args below is fit others =
         let numbers : AllFit code z args (g.params ++ g.captured) =
-        subst (λ ts. AllFit code z args ts) (sym (ap (λ cs. g.params ++ cs) captures-nothing ∙ append-nil g.params)) (all-later code None c z (later code c good unit None) args g.params (above code c args typed.operands g.params fit below-params)) in (
-          good-so code c good unit,
+        subst (λ ts. AllFit code z args ts) (sym (ap (λ cs. g.params ++ cs) captures-nothing ∙ append-nil g.params)) (all-later code None c z (later code c good unit None None) args g.params (above code c args typed.operands g.params fit below-params)) in (
+          good-so code c good unit None,
           refl,
-          many code c good unit,
-          (λ q apart. later code c good unit q),
+          many code c good unit None,
+          (λ q apart. later code c good unit None q),
           inl refl,
-          quietly-behind code f at.u at.is at.station o ec typed (λ h. h) refl c z (later code c good unit f.role) (reverse args) below (Future (length c.strands) unit ∷ []) is others future-fits fits.0,
+          quietly-behind code f at.u at.is at.station o ec typed (λ h. h) refl c z (later code c good unit None f.role) (reverse args) below (Future (length c.strands) unit ∷ []) is others future-fits fits.0,
           (
             (
               (λ k e. enters code t z unit g eg callable.1 fillers args numbers k e),
               tt,
-              inl (at-some (λ (s : Strand). s.unit ≡ unit) (slice_get z.strands (length c.strands)) (new code c good unit) (new-there code c good unit) refl),
+              inl (at-some (λ (s : Strand). s.unit ≡ unit) (slice_get z.strands (length c.strands)) (new code c good unit None) (new-there code c good unit None) refl),
             ),
             tt,
           ),
