@@ -1,0 +1,4 @@
+pub mod Opened
+pub mod Crewed
+pub mod Captured
+pub mod Named
