@@ -142,7 +142,7 @@ does-asked captured s (Some CloseTrap) other vs k e = absurd (closes-none (s.pla
 does-asked captured s None other vs k e = absurd (let q : ⊥ = cc in q)
 
 -- of an operation that is no load
-at-command : (code : Code) (s : Standing) (captured : List ℕ) (other : Operation) (vs : List Value) (k : Standing) → ((slot : ℕ) → op.Load slot ≡ other → ⊥) → obeys captured s (command_at code s.place) ≡ Does other vs k → command_at code s.place ≡ Some (Do other)
+pub at-command : (code : Code) (s : Standing) (captured : List ℕ) (other : Operation) (vs : List Value) (k : Standing) → ((slot : ℕ) → op.Load slot ≡ other → ⊥) → obeys captured s (command_at code s.place) ≡ Does other vs k → command_at code s.place ≡ Some (Do other)
 at-command code s captured other vs k no-load e = by (does-asked captured s (command_at code s.place) other vs k e)
   where
     by : (o : Operation) × (command_at code s.place ≡ Some (Do o)) × AsksFor o other → command_at code s.place ≡ Some (Do other)
@@ -151,11 +151,11 @@ at-command code s captured other vs k no-load e = by (does-asked captured s (com
 
 -- ---- what holds of the code
 
-no-role : (code : Code) (c : Common) (role : Option Role) → TallyIs code c role None → role ≡ None
+pub no-role : (code : Code) (c : Common) (role : Option Role) → TallyIs code c role None → role ≡ None
 no-role code c None h = refl
 no-role code c (Some r) h = absurd h
 
-typed-at : (code : Code) (c : Common) (f : Frame Standing) (t : WellTyped code) (fits : TopFits code c f) (o : Operation) → command_at code f.control.place ≡ Some (Do o) →
+pub typed-at : (code : Code) (c : Common) (f : Frame Standing) (t : WellTyped code) (fits : TopFits code c f) (o : Operation) → command_at code f.control.place ≡ Some (Do o) →
     let at = at-place code c f fits.0 in DoesTyped code at.u at.station f.control.place o
 typed-at code c f t fits o ec =
     let at = at-place code c f fits.0 in
@@ -186,12 +186,12 @@ strands-of-code-hold natives code fillers t kept = hold-of-strands natives (code
 
 -- ---- and each reached state is good
 
-idle-frames : (phase : Phase) (s : State Standing) (n : ℕ) → IsIdle phase s.common n → frames_in phase s n ≡ get_or s.others n []
+pub idle-frames : (phase : Phase) (s : State Standing) (n : ℕ) → IsIdle phase s.common n → frames_in phase s n ≡ get_or s.others n []
 idle-frames Running s n idle = if-other n s.common.running s.frames (get_or s.others n []) idle
 idle-frames Picking s n idle = refl
 
 -- a strand that has ended is there, and has its end
-ends-with : (c : Common) (n : ℕ) (o : Option Strand) → slice_get c.strands n ≡ o → IsTrue (has_ended c n) → IsSomeAnd o (λ x. end_in x.status ≢ None)
+pub ends-with : (c : Common) (n : ℕ) (o : Option Strand) → slice_get c.strands n ≡ o → IsTrue (has_ended c n) → IsSomeAnd o (λ x. end_in x.status ≢ None)
 ends-with c n o e h = by o (sym (unwrap_or-slice_get c.strands n no_strand) ∙ ap (λ o. unwrap_or o no_strand) e)
   where
     by : (o : Option Strand) → strand_at c n ≡ unwrap_or o no_strand → IsSomeAnd o (λ x. end_in x.status ≢ None)
