@@ -1,0 +1,2 @@
+pub mod PackageTable
+pub mod StmtTable
