@@ -1,0 +1,24 @@
+//! Programs as rows, each with what the checkers are to say of it: that they accept it, or with which code they refuse it and where.
+//!
+//! Of a row it is tried what can be tried without checkers. The product's lexer, parser and builder of names take its file without a
+//! fault, or with just the one that it wants, at its mark; a row that wants one which only they give gets it; a mark stands before a token of
+//! the file; and a code is one that a file may have. So a row that is misread, or whose program isn't the one that is meant, is told.
+//!
+//! - `row`: the lines of a row, and what it wants.
+//! - `program`: the file of a row, put together of its lines.
+//! - `trial`: what the product says of the file.
+//! - `outcome`: what is told of a row.
+#![tactic(auto)]
+
+mod outcome;
+mod program;
+mod row;
+mod trial;
+
+use outcome::Programs;
+use row_lines::{Form, judge_rows};
+use std::io;
+
+fn main(rt: HostRuntime) -> io::Result<()> {
+    judge_rows(&rt, Form::Titled("row "), &mut Programs)
+}
