@@ -10,6 +10,9 @@ mod Lines
 mod Setting
 mod Stacks
 mod Statements
+mod StmtLaw
+mod StmtLines
+mod StmtTrees
 mod Trees
 mod Values
 mod Words

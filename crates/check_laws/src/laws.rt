@@ -1,5 +1,6 @@
 //! Laws of positions. These calls do nothing: their clauses are laws.
 ghost use Rattle.check_laws.specs.Laws.{EffectsAreKept, KeptPositions};
+ghost use Rattle.check_laws.specs.StmtLaws.{KeptStmtPositions};
 
 use type_model::Types;
 
@@ -15,4 +16,11 @@ pub fn effects_are_kept<T: Types>()
 /// whatever is expected, where there is a unit at hand, and a type is wanted where that counts.
 pub fn positions_are_kept<T: Types>()
     ensures { KeptPositions T.passes }
+{}
+
+/// Where the needs of a statement are met, one typed statement more stands at the end of the block at hand, and where those of a block
+/// are met, one block more waits for its construct; behind a worker nothing more is open; all parts that were found are those that were
+/// there, and all else that is open is what it was; and each need finds what it takes.
+pub fn stmt_positions_are_kept<T: Types>()
+    ensures { KeptStmtPositions T.passes }
 {}
