@@ -1,0 +1,3 @@
+pub mod Agreeing
+mod Loops
+pub mod Stocks

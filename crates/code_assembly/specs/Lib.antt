@@ -1,0 +1,4 @@
+pub mod Copies
+pub mod Known
+pub mod Standing
+pub mod Unit
