@@ -1,0 +1,32 @@
+-- What steps of well-typed code keep that call the library, as laws.
+use Rattle.std.specs.Prelude.{ℕ, List, Option}
+use Rattle.operations.specs.declared.library.LibraryCall.{LibraryCall}
+use Rattle.operations.specs.declared.library.LibraryCall.TheVariants.{Abs, Cause, HasKey, ListLength, MappingLength, Message, Print, Println, Readln, StartsWith, Substring, ToLowerAscii, ToUpperAscii, Trim}
+use Rattle.operations.specs.declared.operation.Operation.TheVariants as op
+use Rattle.value_model.specs.declared.filler.Filler.{Filler}
+use Rattle.run_model.specs.Library.{LibraryAnswers}
+use Rattle.code_keeping.specs.Laws.{IsDone}
+
+-- the call is done, where the library answers as its table says
+abbrev pub CallIsDone : LibraryCall → Type 0
+CallIsDone call = (fillers : ℕ → List Filler) (atom : Option ℕ) (count : ℕ) → IsDone fillers LibraryAnswers (op.Library call atom count)
+
+-- what is written is no value's
+abbrev pub OutputIsDone : Type 0
+OutputIsDone = CallIsDone Println × CallIsDone Print
+
+-- how many members a structure has, and whether a key is there
+abbrev pub MeasuresAreDone : Type 0
+MeasuresAreDone = CallIsDone ListLength × CallIsDone MappingLength × CallIsDone HasKey
+
+-- of ints, strings and errors
+abbrev pub TextCallsAreDone : Type 0
+TextCallsAreDone = CallIsDone Abs × CallIsDone StartsWith × CallIsDone Message × CallIsDone Cause
+
+-- strings are made of a string
+abbrev pub TextsAreMade : Type 0
+TextsAreMade = CallIsDone Trim × CallIsDone ToUpperAscii × CallIsDone ToLowerAscii × CallIsDone Substring
+
+-- a line is read, also behind a prompt
+abbrev pub InputIsDone : Type 0
+InputIsDone = CallIsDone Readln
