@@ -1,2 +1,3 @@
 pub mod Operations
 pub mod Kept
+pub mod Plain

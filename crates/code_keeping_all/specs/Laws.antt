@@ -1,12 +1,14 @@
 -- What each step of well-typed code keeps, as laws.
-use Rattle.std.specs.Prelude.{◌≡◌, ◌≢◌, ℕ, List, ◌∷◌, Option, Some, length}
+use Rattle.std.specs.Prelude.{◌≡◌, ◌≢◌, ℕ, List, ◌∷◌, Option, Some, length, ⊤}
 use Rattle.bal_base.specs.declared.text.Text.{Text}
 use Rattle.operations.specs.declared.library.LibraryCall.{LibraryCall}
+use Rattle.operations.specs.declared.library.LibraryCall.TheVariants.{Abs, Cause, HasKey, ListLength, MappingLength, Message, Print, Println, Readln, StartsWith, Substring, ToLowerAscii, ToUpperAscii, Trim}
 use Rattle.operations.specs.declared.operation.Operation.TheVariants as op
 use Rattle.value_model.specs.declared.filler.Filler.{Filler}
 use Rattle.value_model.specs.Heap.{IsClosed}
 use Rattle.value_model.specs.Meaning.{Answers}
 use Rattle.run_model.specs.Common.{Common}
+use Rattle.run_model.specs.Library.{LibraryAnswers}
 use Rattle.machine_model.specs.Keeping.{Invariant, IsKept}
 use Rattle.machine_model.specs.Machine.{Frame, State}
 use Rattle.machine_model.specs.Runs.{AreWords, IsReached, Phase, Running}
@@ -55,3 +57,33 @@ HasNoRest code =
 
 abbrev pub RestIsNotThere : Answers → Type 0
 RestIsNotThere natives = (fillers : ℕ → List Filler) (code : Code) → HasNoRest code → RestIsDone fillers natives code
+
+-- ---- where the library answers as its table says
+
+-- calls that are done: input and output, the lengths and keys of structures, and calls on ints, strings and errors
+abbrev pub IsPlainCall : LibraryCall → Type 0
+IsPlainCall Println = ⊤
+IsPlainCall Print = ⊤
+IsPlainCall Readln = ⊤
+IsPlainCall ListLength = ⊤
+IsPlainCall MappingLength = ⊤
+IsPlainCall HasKey = ⊤
+IsPlainCall Abs = ⊤
+IsPlainCall StartsWith = ⊤
+IsPlainCall Message = ⊤
+IsPlainCall Cause = ⊤
+IsPlainCall Trim = ⊤
+IsPlainCall ToUpperAscii = ⊤
+IsPlainCall ToLowerAscii = ⊤
+IsPlainCall Substring = ⊤
+IsPlainCall call = ⊥
+
+-- no store into a list, and no call but these
+abbrev pub HasPlainRest : Code → Type 0
+HasPlainRest code =
+    (p : ℕ) → (command_at code p ≢ Some (Do op.SetItem))
+    × ((call : LibraryCall) (atom : Option ℕ) (count : ℕ) → command_at code p ≡ Some (Do (op.Library call atom count)) → IsPlainCall call)
+
+-- nothing is asked of such code either
+abbrev pub PlainRestIsDone : Type 0
+PlainRestIsDone = (fillers : ℕ → List Filler) (code : Code) → WellTyped code → HasPlainRest code → RestIsDone fillers LibraryAnswers code

@@ -3,4 +3,4 @@
 
 mod laws;
 
-pub use laws::code_is_kept;
+pub use laws::{code_is_kept, plain_calls_are_done};

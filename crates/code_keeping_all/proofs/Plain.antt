@@ -1,0 +1,46 @@
+-- Code whose calls of the library are all done needs no premise.
+use Rattle.operations.specs.declared.library.LibraryCall.{LibraryCall}
+use Rattle.operations.specs.declared.library.LibraryCall.TheVariants.{Println, Print, Readln, FromString, Abs, ToString, Clone, CloneReadOnly, StringLength, StartsWith, Trim, Substring, ToUpperAscii, ToLowerAscii, ToCodePointInts, ListLength, Push, Pop, RemoveItem, Slice, Reverse, MappingLength, Keys, HasKey, Get, RemoveKey, Message, Cause, Detail}
+use Rattle.code_keeping_all.specs.Laws.{IsPlainCall, PlainRestIsDone}
+use Rattle.code_keeping_library.specs.Laws.{CallIsDone}
+use Rattle.code_keeping_library.proofs.Calls.{input-is-done, measures-are-done, output-is-done, text-calls-are-done, texts-are-made}
+
+plain-done : (call : LibraryCall) → IsPlainCall call → CallIsDone call
+plain-done Println h = output-is-done.0
+plain-done Print h = output-is-done.1
+plain-done ListLength h = measures-are-done.0
+plain-done MappingLength h = measures-are-done.1
+plain-done HasKey h = measures-are-done.2
+plain-done Abs h = text-calls-are-done.0
+plain-done StartsWith h = text-calls-are-done.1
+plain-done Message h = text-calls-are-done.2
+plain-done Readln h = input-is-done
+plain-done FromString h = absurd h
+plain-done ToString h = absurd h
+plain-done Clone h = absurd h
+plain-done CloneReadOnly h = absurd h
+plain-done StringLength h = absurd h
+plain-done Trim h = texts-are-made.0
+plain-done Substring h = texts-are-made.3
+plain-done ToUpperAscii h = texts-are-made.1
+plain-done ToLowerAscii h = texts-are-made.2
+plain-done ToCodePointInts h = absurd h
+plain-done Push h = absurd h
+plain-done Pop h = absurd h
+plain-done RemoveItem h = absurd h
+plain-done Slice h = absurd h
+plain-done Reverse h = absurd h
+plain-done Keys h = absurd h
+plain-done Get h = absurd h
+plain-done RemoveKey h = absurd h
+plain-done Cause h = text-calls-are-done.3
+plain-done Detail h = absurd h
+
+pub plain-rest-is-done : PlainRestIsDone
+plain-rest-is-done fillers code t plain c = (
+  ((λ depth f good fits ec. absurd ((plain f.control.place).0 ec)), (λ depth f good fits ec. absurd ((plain f.control.place).0 ec))),
+  (λ call atom count. (
+    (λ depth f good fits ec. (plain-done call ((plain f.control.place).1 call atom count ec) fillers atom count code c t).0 depth f good fits ec),
+    (λ depth f good fits ec. (plain-done call ((plain f.control.place).1 call atom count ec) fillers atom count code c t).1 depth f good fits ec),
+  )),
+)
