@@ -1,20 +1,21 @@
 -- What it means that the needs of reads and stores of members are met (Ballerina specification, "Member access expression", "Field access
 -- expression", "Optional field access expression").
-use Rattle.std.specs.Prelude.{ℤ, ◌≡◌, ◌⊎◌, ◌++◌, Bool, true, false, List, [], ◌∷◌, All, map, Option, Some, None, option_to_list, slice_get, ⊤}
+use Rattle.std.specs.Prelude.{ℕ, ℤ, ◌≡◌, ◌⊎◌, ◌++◌, Bool, true, false, List, [], ◌∷◌, All, map, Option, Some, None, option_to_list, pos, slice_get, ⊤}
 use Rattle.bal_base.specs.declared.fault.Fault.{Fault}
 use Rattle.bal_base.specs.declared.fault.FaultCode.TheVariants.{NoField}
 use Rattle.bal_base.specs.declared.place.Place.{Place}
-use Rattle.bal_base.specs.declared.shape.Shape.{Shape}
+use Rattle.bal_base.specs.declared.shape.Shape.{Shape, Int, Str}
 use Rattle.bal_base.specs.declared.text.Text.{Text}
+use Rattle.bal_base.specs.Valid.{IsValid}
 use Rattle.bal_tree.specs.declared.name.Word.{Word}
 use Rattle.checks.specs.Checks.{Check, Gives, Refuses, either, gives, gives_some, ◌▷◌}
 use Rattle.checks.specs.Questions.{IsTooLarge, adds, has_some, is_below, member}
 use Rattle.descriptors.specs.Described.{HasMeaning, IsPlain, plain}
 use Rattle.operations.specs.declared.operation.Constant.TheVariants as constant
 use Rattle.operations.specs.Kinds.{IsList, IsNil, IsString}
-use Rattle.operations.specs.Rows.{NamesIndex, NamesKey}
+use Rattle.operations.specs.Rows.{IsSingle}
 use Rattle.type_model.specs.declared.answers.Keys.{Keys}
-use Rattle.type_model.specs.declared.answers.Keys.TheVariants.{Index, Field}
+use Rattle.type_model.specs.declared.answers.Keys.TheVariants.{Index, AnyIndex, Field, AnyField}
 use Rattle.type_model.specs.declared.answers.TypeLimit.{TypeLimit}
 use Rattle.type_model.specs.declared.atoms.AtomDef.{AtomDef}
 use Rattle.type_model.specs.declared.atoms.AtomDef.TheVariants.{List as ListAtom, Mapping as MappingAtom, Arrow, Error as ErrorAtom, Future as FutureAtom}
@@ -61,11 +62,24 @@ index_kind Char = kind.Integer
 index_kind Item = kind.Integer
 index_kind Key = kind.Text
 
--- the members that an index or a key of the type names
+-- The type has just one shape, this one.
+abbrev pub IsOnly : Atoms → SemType → Shape → Type 0
+IsOnly env t x = IsValid x × IsSingle env t x
+
+-- the items that an index of the type names: one, where it has just one int, from 0 on, and else all
+abbrev pub NamesItems : Atoms → SemType → Keys → Type 0
+NamesItems env t keys =
+    ((n : ℕ) × IsOnly env t (Int (pos n)) × (keys ≡ Index n)) ⊎ (((n : ℕ) → ¬ IsOnly env t (Int (pos n))) × (keys ≡ AnyIndex))
+
+-- the members that a key of the type names: one, where it has just one string, and else all
+abbrev pub NamesFields : Atoms → SemType → Keys → Type 0
+NamesFields env t keys =
+    ((key : Text) × IsOnly env t (Str key) × (keys ≡ Field key)) ⊎ (((key : Text) → ¬ IsOnly env t (Str key)) × (keys ≡ AnyField))
+
 abbrev pub NamesMembers : Access → Atoms → SemType → Keys → Type 0
-NamesMembers Char env = NamesIndex env
-NamesMembers Item env = NamesIndex env
-NamesMembers Key env = NamesKey env
+NamesMembers Char env = NamesItems env
+NamesMembers Item env = NamesItems env
+NamesMembers Key env = NamesFields env
 
 -- the field is a key: a part that stands for no expression
 abbrev pub gives_key : Text → Place → Step

@@ -1,0 +1,3 @@
+pub mod Keying
+pub mod OnlyShapes
+pub mod TakenMembers
