@@ -23,7 +23,7 @@ use Rattle.run_model.specs.Common.{Asker, Common}
 use Rattle.run_model.specs.Facts.{own_types}
 use Rattle.run_model.specs.Library.{LibraryAnswers, cause_value, LibraryComes, Prints, TakesPart, texts_of, written}
 use Rattle.run_model.specs.Limits.{most_code_points}
-use Rattle.run_model.specs.Performs.{Performs}
+use Rattle.run_model.specs.Performs.{Performs, atom_number}
 use Rattle.run_model.specs.Rows.{Else, gives, panics, size_of}
 use Rattle.run_model.specs.Strings.{AreBounds, lower_ascii, part_of, trimmed, upper_ascii}
 use Rattle.run_model.specs.Texts.{text_of}
@@ -71,7 +71,7 @@ module _ (fillers : ℕ → List Filler) (code : Code) (t : WellTyped code) (pla
   abbrev Row : LibraryCall → Type 0
   Row call = (atom : Option ℕ) (count : ℕ) → RowHolds code fillers LibraryAnswers c place (op.Library call atom count)
 
-  abbrev Answered : LibraryCall → Option ℕ → ℕ → Asker → Option SemType → List Value → Type 0
+  abbrev pub Answered : LibraryCall → Option ℕ → ℕ → Asker → Option SemType → List Value → Type 0
   Answered call atom count asker result vs = AllCome code c result (Performs (code_facts fillers code) LibraryAnswers (op.Library call atom count) vs asker c)
 
   -- a call comes to what its row says alone
@@ -81,6 +81,14 @@ module _ (fillers : ℕ → List Filler) (code : Code) (t : WellTyped code) (pla
       (λ came (other, same, comes). (h _).0 came (subst (λ x. LibraryComes (own_types (code_facts fillers code)) x _ vs c.world came) (one-call other call same) comes)),
       (λ none. (h _).1 (λ came comes. none came (call, refl, comes))),
     )
+
+  -- where the list's atom counts
+  pub does-call-at : (good : GoodCommon code c Running) (result : Option SemType) (call : LibraryCall) (atom : Option ℕ) (count : ℕ) (asker : Asker) (vs : List Value) →
+      Does code c good result (LibraryComes (own_types (code_facts fillers code)) call (atom_number atom) vs c.world) → Answered call atom count asker result vs
+  does-call-at good result call atom count asker vs h = on-world code c good result (LibraryAnswers (own_types (code_facts fillers code)) (number_of call) (atom_number atom) vs) (
+    (λ came (other, same, comes). h.0 came (subst (λ x. LibraryComes (own_types (code_facts fillers code)) x (atom_number atom) vs c.world came) (one-call other call same) comes)),
+    (λ none. h.1 (λ came comes. none came (call, refl, comes))),
+  )
 
   -- ---- output
 

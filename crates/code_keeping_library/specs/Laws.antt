@@ -1,7 +1,7 @@
 -- What steps of well-typed code keep that call the library, as laws.
 use Rattle.std.specs.Prelude.{ℕ, List, Option}
 use Rattle.operations.specs.declared.library.LibraryCall.{LibraryCall}
-use Rattle.operations.specs.declared.library.LibraryCall.TheVariants.{Abs, Cause, HasKey, ListLength, MappingLength, Message, Print, Println, Readln, StartsWith, Substring, ToLowerAscii, ToUpperAscii, Trim}
+use Rattle.operations.specs.declared.library.LibraryCall.TheVariants.{Abs, Cause, HasKey, Keys, ListLength, MappingLength, Message, Print, Println, Readln, StartsWith, Substring, ToCodePointInts, ToLowerAscii, ToUpperAscii, Trim}
 use Rattle.operations.specs.declared.operation.Operation.TheVariants as op
 use Rattle.value_model.specs.declared.filler.Filler.{Filler}
 use Rattle.run_model.specs.Library.{LibraryAnswers}
@@ -30,3 +30,7 @@ TextsAreMade = CallIsDone Trim × CallIsDone ToUpperAscii × CallIsDone ToLowerA
 -- a line is read, also behind a prompt
 abbrev pub InputIsDone : Type 0
 InputIsDone = CallIsDone Readln
+
+-- lists are made: of the keys of a mapping, and of the characters of a string
+abbrev pub ListsAreMade : Type 0
+ListsAreMade = CallIsDone Keys × CallIsDone ToCodePointInts

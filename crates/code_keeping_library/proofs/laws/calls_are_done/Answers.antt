@@ -1,4 +1,5 @@
 use Rattle.code_keeping_library.proofs.Calls.{input-is-done, measures-are-done, output-is-done, text-calls-are-done, texts-are-made}
+use Rattle.code_keeping_library.proofs.Lists.{lists-are-made}
 use Rattle.code_keeping_library.proofs.laws.calls_are_done.Goals as goal
 
 pub returns-clause-output : goal.returns-clause-output
@@ -15,3 +16,6 @@ returns-clause-made c = texts-are-made
 
 pub returns-clause-input : goal.returns-clause-input
 returns-clause-input c = input-is-done
+
+pub returns-clause-lists : goal.returns-clause-lists
+returns-clause-lists c = lists-are-made
