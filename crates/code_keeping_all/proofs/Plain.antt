@@ -3,6 +3,7 @@ use Rattle.operations.specs.declared.library.LibraryCall.{LibraryCall}
 use Rattle.operations.specs.declared.library.LibraryCall.TheVariants.{Println, Print, Readln, FromString, Abs, ToString, Clone, CloneReadOnly, StringLength, StartsWith, Trim, Substring, ToUpperAscii, ToLowerAscii, ToCodePointInts, ListLength, Push, Pop, RemoveItem, Slice, Reverse, MappingLength, Keys, HasKey, Get, RemoveKey, Message, Cause, Detail}
 use Rattle.code_keeping_all.specs.Laws.{IsPlainCall, PlainRestIsDone}
 use Rattle.code_keeping_library.specs.Laws.{CallIsDone}
+use Rattle.code_keeping_library.proofs.Lists.{lists-are-made}
 use Rattle.code_keeping_library.proofs.Calls.{input-is-done, measures-are-done, output-is-done, text-calls-are-done, texts-are-made}
 
 plain-done : (call : LibraryCall) → IsPlainCall call → CallIsDone call
@@ -24,13 +25,13 @@ plain-done Trim h = texts-are-made.0
 plain-done Substring h = texts-are-made.3
 plain-done ToUpperAscii h = texts-are-made.1
 plain-done ToLowerAscii h = texts-are-made.2
-plain-done ToCodePointInts h = absurd h
+plain-done ToCodePointInts h = lists-are-made.1
 plain-done Push h = absurd h
 plain-done Pop h = absurd h
 plain-done RemoveItem h = absurd h
 plain-done Slice h = absurd h
 plain-done Reverse h = absurd h
-plain-done Keys h = absurd h
+plain-done Keys h = lists-are-made.0
 plain-done Get h = absurd h
 plain-done RemoveKey h = absurd h
 plain-done Cause h = text-calls-are-done.3

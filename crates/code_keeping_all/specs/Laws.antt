@@ -2,7 +2,7 @@
 use Rattle.std.specs.Prelude.{◌≡◌, ◌≢◌, ℕ, List, ◌∷◌, Option, Some, length, ⊤}
 use Rattle.bal_base.specs.declared.text.Text.{Text}
 use Rattle.operations.specs.declared.library.LibraryCall.{LibraryCall}
-use Rattle.operations.specs.declared.library.LibraryCall.TheVariants.{Abs, Cause, HasKey, ListLength, MappingLength, Message, Print, Println, Readln, StartsWith, Substring, ToLowerAscii, ToUpperAscii, Trim}
+use Rattle.operations.specs.declared.library.LibraryCall.TheVariants.{Abs, Cause, HasKey, Keys, ListLength, MappingLength, Message, Print, Println, Readln, StartsWith, Substring, ToCodePointInts, ToLowerAscii, ToUpperAscii, Trim}
 use Rattle.operations.specs.declared.operation.Operation.TheVariants as op
 use Rattle.value_model.specs.declared.filler.Filler.{Filler}
 use Rattle.value_model.specs.Heap.{IsClosed}
@@ -68,6 +68,8 @@ IsPlainCall Readln = ⊤
 IsPlainCall ListLength = ⊤
 IsPlainCall MappingLength = ⊤
 IsPlainCall HasKey = ⊤
+IsPlainCall Keys = ⊤
+IsPlainCall ToCodePointInts = ⊤
 IsPlainCall Abs = ⊤
 IsPlainCall StartsWith = ⊤
 IsPlainCall Message = ⊤
