@@ -4,12 +4,14 @@ mod Branches
 mod Calls
 mod Constructors
 mod EachNeed
+mod Functions
 mod Law
 mod Leading
 mod Lines
 mod Setting
 mod Stacks
 mod Statements
+mod Still
 mod StmtLaw
 mod StmtLines
 mod StmtTrees

@@ -135,6 +135,9 @@ last-on {xs = xs} {ys = ys} {k = k} {c = c} o last = by o.more o.is o.many
 pub same-last : {A : Type 0} {xs : List A} {x y : A} → IsLast xs x → IsLast xs y → x ≡ y
 same-last l m = (append-last l.kept m.kept _ _ (sym l.is ∙ m.is)).1
 
+pub same-front : {A : Type 0} (xs ys : List A) (x y : A) → xs ++ x ∷ [] ≡ ys ++ y ∷ [] → xs ≡ ys
+same-front xs ys x y e = (append-last xs ys x y e).0
+
 -- a statement more in a block
 abbrev pub with_more : BlockAtWork → TypedStmt → BlockAtWork
 with_more b stmt = record b { stmts = b.stmts ++ stmt ∷ [] }

@@ -40,7 +40,7 @@ no-more : (old new : State) → Above old none new → IsNoMore old new
 no-more old new p = record { found = is-same (parts-only 0 0 0 old new p); blocks = is-same p.blocks; same = else-same 0 0 0 old new p }
 
 -- a worker has a unit and a block of its own, and both end with it
-worker-none : (workers : List Name) (base : Base) (x : Worker) (number : ℕ) (h : Heights) → Leads workers base h (worker_needs number x) h
+pub worker-none : (workers : List Name) (base : Base) (x : Worker) (number : ℕ) (h : Heights) → Leads workers base h (worker_needs number x) h
 worker-none workers base x number h =
     (h ⊕ units 1, (h, refl, refl), (h ⊕ (units 1 ⊕ blocks 1), block-one workers base x.body (in_block false) (h ⊕ units 1), (h, refl, refl)))
 

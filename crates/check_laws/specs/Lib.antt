@@ -1,4 +1,5 @@
 pub mod Effects
+pub mod FunctionLaws
 pub mod Heights
 pub mod Laws
 pub mod Positions

@@ -1,4 +1,5 @@
 //! Laws of positions. These calls do nothing: their clauses are laws.
+ghost use Rattle.check_laws.specs.FunctionLaws.{FunctionsEndWhole};
 ghost use Rattle.check_laws.specs.Laws.{EffectsAreKept, KeptPositions};
 ghost use Rattle.check_laws.specs.StmtLaws.{KeptStmtPositions};
 
@@ -23,4 +24,10 @@ pub fn positions_are_kept<T: Types>()
 /// there, and all else that is open is what it was; and each need finds what it takes.
 pub fn stmt_positions_are_kept<T: Types>()
     ensures { KeptStmtPositions T.passes }
+{}
+
+/// Where the needs of a function are met, all that was found, is wanted or is open is what it was before it, its own unit and blocks
+/// among them, and so is the file at hand.
+pub fn functions_end_whole<T: Types>()
+    ensures { FunctionsEndWhole T.passes }
 {}

@@ -9,12 +9,14 @@
 //! - `Heights`: how many of each stand above what was there.
 //! - `Effects`: how many of each a need takes and leaves.
 //! - `Positions`: where one state stands so far above another.
-//! - `Laws` and `StmtLaws`.
+//! - `Laws`, `StmtLaws` and `FunctionLaws`.
 //!
 //! Beside them stand the laws: [`effects_are_kept`] of each need, [`positions_are_kept`] of expressions and actions,
-//! [`stmt_positions_are_kept`] of statements and blocks.
+//! [`stmt_positions_are_kept`] of statements, blocks and workers, and [`functions_end_whole`] of functions.
 #![tactic(auto)]
 
 mod laws;
 
-pub use laws::{effects_are_kept, positions_are_kept, stmt_positions_are_kept};
+pub use laws::{
+    effects_are_kept, functions_end_whole, positions_are_kept, stmt_positions_are_kept,
+};
