@@ -1,0 +1,76 @@
+-- What it means that a package is checked: all that it needs is met, one need behind another, and the typed package is what was found then.
+use Rattle.std.specs.Prelude.{◌≡◌, ℕ, List, [], ◌∷◌, codes, map, sum, Option, Some, None}
+use Rattle.bal_tree.specs.declared.package.Package.{Package}
+use Rattle.checks.specs.Checks.{Check, Gives, Refuses}
+use Rattle.descriptors.specs.declared.names.Names.{Names}
+use Rattle.descriptors.specs.declared.names.Signature.{Signature}
+use Rattle.descriptors.specs.Naming.{entry_in}
+use Rattle.name_resolution.specs.Definitions.{definitions_of, functions_in}
+use Rattle.needs.specs.Needs.{all_met}
+use Rattle.type_model.specs.declared.answers.TypeLimit.{TypeLimit}
+use Rattle.type_model.specs.declared.atoms.AtomDef.{AtomDef}
+use Rattle.type_model.specs.declared.basic.Ty.{Ty}
+use Rattle.type_model.specs.Calls.{Asked}
+use Rattle.typed_tree.specs.declared.package.TypedPackage.{TypedPackage}
+use Rattle.stmt_needs.specs.PackageTable.{package_needs}
+use Rattle.check_words.specs.Meets.{meets}
+use Rattle.check_words.specs.State.{State}
+use Rattle.check_words.specs.Units.{signature_in}
+
+-- ---- how it begins
+
+-- functions have the first numbers of units
+abbrev pub functions_of : Package → ℕ
+functions_of p = sum (map (λ d. functions_in d.def) (definitions_of p))
+
+-- nothing is open, and nothing is found
+abbrev pub at_first : List AtomDef → Package → State
+at_first env p =
+    record {
+      atoms = env;
+      site = record { scope = record { «module» = 0; file = None }; workers = []; results = []; events = [] };
+      found = [];
+      ways = None;
+      wants = [];
+      sorts = [];
+      accesses = [];
+      constructors = [];
+      calls = [];
+      choices = [];
+      matches = [];
+      blocks = [];
+      units = [];
+      initialiser = None;
+      done = record { next_unit = functions_of p; functions = []; workers = []; variables = []; initialisers = [] };
+    }
+
+-- ---- how it ends
+
+-- the list atom of main's arguments, or 0 where it has no parameter
+abbrev pub words_of : Signature → ℕ
+words_of f = by f.rest
+  where
+    by : Option Ty → ℕ
+    by None = 0
+    by (Some t) = f.lists
+
+-- The unit that is called first, and the list atom of its arguments. Both are 0 where the main module has no function of this name: such a
+-- package starts nothing, and is checked all the same.
+abbrev pub IsStart : List Signature → ℕ → ℕ → Type 0
+IsStart [] start words = (start ≡ 0) × (words ≡ 0)
+IsStart (f ∷ more) start words = (start ≡ f.unit) × (words ≡ words_of f)
+
+pub record IsTyped (names : Names) (p : Package) (s : State) (t : TypedPackage) : Type 0 where
+  pub functions : t.functions.items ≡ s.done.functions
+  pub variables : t.variables.items ≡ s.done.variables
+  pub initialisers : t.initialisers.items ≡ s.done.initialisers
+  pub begins : IsStart (signature_in (entry_in names (codes "main") p.main)) t.start t.words
+  pub units : t.units ≡ s.done.next_unit
+
+-- `passes`: which questions about types pass a limit; `names`: what the names of the package stand for
+module _ (passes : List AtomDef → Asked → TypeLimit → Type 0) (names : Names) (p : Package) where
+  unfoldable pub checked_package : Check (List AtomDef) TypedPackage
+  checked_package old (Gives t) new =
+      (s : State) × all_met (meets passes names) (package_needs p) (at_first old p) (Gives tt) s × IsTyped names p s t × (new ≡ s.atoms)
+  checked_package old (Refuses f) new =
+      (s : State) × all_met (meets passes names) (package_needs p) (at_first old p) (Refuses f) s × (new ≡ s.atoms)
