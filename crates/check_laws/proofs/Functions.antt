@@ -1,5 +1,5 @@
 -- A function opens a unit and blocks of its own, and all of them end with it.
-use Rattle.std.proofs.Common.{◌≡◌, ◌≤◌, ◌++◌, ◌+◌, ℕ, zero, suc, Bool, true, false, List, [], ◌∷◌, length, map, Option, None, Some, Result, Ok, Err, arith, refl, sym, subst, ap, ◌∙◌, length-append}
+use Rattle.std.proofs.Common.{◌≡◌, ◌≤◌, ◌++◌, ℕ, suc, List, [], ◌∷◌, length, map, Option, None, Some, Ok, arith, refl, sym, ap, ◌∙◌, length-append}
 use Rattle.bal_base.specs.declared.place.Place.{Place}
 use Rattle.bal_base.specs.declared.text.Name.{Name}
 use Rattle.bal_tree.specs.declared.def.Body.{Body}
@@ -20,17 +20,17 @@ use Rattle.typed_tree.specs.declared.unit.TypedBody.{TypedBody}
 use Rattle.typed_tree.specs.Skeleton.{events_of_body}
 use Rattle.typed_tree.specs.Listed.{Listed, nothing, one, ◌&◌, if_there}
 use Rattle.expr_needs.specs.ExprTable.{as_wanted, read_expr}
-use Rattle.expr_needs.specs.Needs.{Need, BeginsBlock, EndsFunction, EndsValueFunction, WantsResult}
-use Rattle.stmt_needs.specs.PackageTable.{assigned_in_body, body_needs, function_needs, in_initial, numbered, numbered_from, parameter_needs, parameters_needs, read_stmts, worker_needs}
-use Rattle.stmt_needs.specs.StmtTable.{Within, in_block, read_stmt, stmts_needs, stmts_needs_from}
+use Rattle.expr_needs.specs.Needs.{Need, BeginsBlock}
+use Rattle.stmt_needs.specs.PackageTable.{assigned_in_body, body_needs, function_needs, in_initial, numbered_from, parameter_needs, parameters_needs, read_stmts, worker_needs}
+use Rattle.stmt_needs.specs.StmtTable.{Within, stmts_needs, stmts_needs_from}
 use Rattle.check_words.specs.Meets.{meets}
 use Rattle.check_words.specs.Calls.{closes_unit}
 use Rattle.check_words.specs.State.{BlockAtWork, Done, Site, State, UnitAtWork, all_but}
 use Rattle.check_words.specs.Statements.{closes_block}
 use Rattle.check_words.specs.Units.{adds_function, begins_function, ends_function, function_unit, outside_functions, workers_of}
 use Rattle.check_laws.specs.FunctionLaws.{FunctionsEndWhole, IsAllSame}
-use Rattle.check_laws.specs.Heights.{Heights, ◌⊕◌, none, parts, wants, blocks, plus}
-use Rattle.check_laws.specs.Positions.{Above, OnUnits}
+use Rattle.check_laws.specs.Heights.{Heights, ◌⊕◌, none, parts, wants, blocks}
+use Rattle.check_laws.specs.Positions.{Above}
 use Rattle.check_laws.proofs.Law.{else-same, itself, parts-only}
 use Rattle.check_laws.proofs.Leading.{Base, Leads, base_of, in-turn, leads-so}
 use Rattle.check_laws.proofs.Stacks.{all-but-last, fewer-on, is-same, same-front}
