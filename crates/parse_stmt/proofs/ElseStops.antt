@@ -21,7 +21,7 @@ use Rattle.parse_types.proofs.Onto.{onto-longer}
 use Rattle.parse_types.proofs.Readings.{both-true, length-kinds}
 use Rattle.parse_expr.specs.Reaches.{expr}
 use Rattle.parse_stmt.specs.Reaches.{if_stmt, inside, stmt, then_part}
-use Rattle.parse_stmt.specs.Stops.{ElseThere, EndsAtElse, IsKept, IsLastElse, IsNextElse, IsRead, StartsElse}
+use Rattle.parse_stmt.specs.inner.Stops.{ElseThere, EndsAtElse, IsKept, IsLastElse, IsNextElse, IsRead, StartsElse}
 use Rattle.parse_stmt.proofs.ElseLaw.{Apart, AsIf, ThenElse, an_if, as-if, else-apart}
 use Rattle.parse_stmt.proofs.Known.{Known}
 use Rattle.parse_stmt.proofs.StmtLaw.{if-law}

@@ -23,7 +23,7 @@ use Rattle.parse_expr.specs.Reaches.{params}
 use Rattle.parse_stmt.specs.declared.stops.Signature.{Signature}
 use Rattle.parse_stmt.specs.Reaches.{body_front, result_if}
 use Rattle.parse_stmt.specs.Starts.{FrontReading, IsStop, IsWrong, StopsAt, WantsAt, WithinBody, begun_pieces, no_stmt, signature_is_formed, signature_pieces}
-use Rattle.parse_stmt.specs.Stops.{ComeWanting, IsLastStop, Leads, NoStmt}
+use Rattle.parse_stmt.specs.inner.Stops.{ComeWanting, IsLastStop, Leads, NoStmt}
 use Rattle.parse_stmt.proofs.DefLaw.{brace-behind, result-law}
 use Rattle.parse_stmt.proofs.FileLaw.{same-rest}
 use Rattle.parse_stmt.proofs.Known.{Known}

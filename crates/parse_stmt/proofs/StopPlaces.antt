@@ -18,7 +18,7 @@ use Rattle.parse_types.proofs.Parsing.{rest-place}
 use Rattle.parse_types.proofs.Readings.{all-push, length-kinds}
 use Rattle.parse_stmt.specs.Reaches.{goes_on, inside, led, stmt}
 use Rattle.parse_stmt.specs.Starts.{ends_stmts}
-use Rattle.parse_stmt.specs.Stops.{ComeWanting, EndsWanting, IsKept, IsLastStop, IsRead, IsStopWithin, Leads, MayEnd, NoStmt}
+use Rattle.parse_stmt.specs.inner.Stops.{ComeWanting, EndsWanting, IsKept, IsLastStop, IsRead, IsStopWithin, Leads, MayEnd, NoStmt}
 use Rattle.parse_stmt.proofs.Going.{goes-led}
 use Rattle.parse_stmt.proofs.Known.{Known}
 use Rattle.parse_stmt.proofs.StmtLaw.{stmt-law}

@@ -24,7 +24,7 @@ use Rattle.parse_types.proofs.Law.{both_pass}
 use Rattle.parse_types.proofs.Readings.{both-true, length-kinds}
 use Rattle.parse_stmt.specs.Reaches.{begins_mapping, brace_stmt, goes_on, inside, led, stmt}
 use Rattle.parse_stmt.specs.Starts.{ends_stmts}
-use Rattle.parse_stmt.specs.Stops.{BracesThere, EndsAtElse, EndsWanting, IsBehindBraces, IsKept, IsLastElse, IsRead, IsStopWithin, MayEnd, NoStmt, StartsElse}
+use Rattle.parse_stmt.specs.inner.Stops.{BracesThere, EndsAtElse, EndsWanting, IsBehindBraces, IsKept, IsLastElse, IsRead, IsStopWithin, MayEnd, NoStmt, StartsElse}
 use Rattle.parse_stmt.proofs.ElseLaw.{as-if}
 use Rattle.parse_stmt.proofs.ElseStops.{heads-kinds}
 use Rattle.parse_stmt.proofs.FormTree.{led-of}

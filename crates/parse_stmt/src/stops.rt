@@ -8,7 +8,7 @@ ghost use Rattle.parse_types.specs.Starts.{Leaves};
 ghost use Rattle.parse_types.specs.Tokens.{take_key};
 ghost use Rattle.parse_stmt.specs.Reaches as spec;
 ghost use Rattle.parse_stmt.specs.Starts.{FrontReading, IsStop, WholeOr, ends_stmts as stmts_end, no_stmt};
-ghost use Rattle.parse_stmt.specs.Stops.{IsBehindBraces, IsBehindStmt, IsLastElse, IsLastStop, IsNextElse, IsRead, IsStopWithin, ThenReading};
+ghost use Rattle.parse_stmt.specs.inner.Stops.{IsBehindBraces, IsBehindStmt, IsLastElse, IsLastStop, IsNextElse, IsRead, IsStopWithin, ThenReading};
 ghost use Rattle.bal_base.specs.declared.stop.Stop.TheVariants.{Fault as FaultOf};
 
 use crate::names::{key_if_there, word_here};

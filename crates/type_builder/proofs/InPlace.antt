@@ -24,7 +24,7 @@ use Rattle.type_builder.specs.AtomPlaces.{package_places, room_for}
 use Rattle.type_builder.specs.Listing.{IsListing}
 use Rattle.type_builder.specs.MainInPlace.{IsToldFirst, named_in_order, package_named, result_fits}
 use Rattle.type_builder.specs.Passes.{AreNamed}
-use Rattle.type_builder.specs.Telling.{IsFirstStop, IsRest, IsStop, IsStopOf, IsUnasked}
+use Rattle.type_builder.specs.inner.Telling.{IsFirstStop, IsRest, IsStop, IsStopOf, IsUnasked}
 use Rattle.type_builder.specs.declared.placed.Listing.{Listing}
 use Rattle.type_builder.proofs.Listed.{of-package}
 use Rattle.type_model.specs.declared.answers.TypeLimit.{TypeLimit}

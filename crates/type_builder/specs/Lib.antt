@@ -1,10 +1,10 @@
 pub mod AtomPlaces
 pub mod Building
 pub mod Flat
+pub mod inner
 pub mod Keeping
 pub mod Listing
 pub mod MainFunction
 pub mod MainInPlace
 pub mod Meanings
 pub mod Passes
-pub mod Telling

@@ -13,7 +13,7 @@ ghost use Rattle.name_resolution.specs.Resolved.{parts};
 ghost use Rattle.type_builder.specs.Listing.{IsListing};
 ghost use Rattle.type_builder.specs.MainInPlace.{IsToldFirst, result_fits};
 ghost use Rattle.type_builder.specs.Passes.{AreNamed, HaveRoom};
-ghost use Rattle.type_builder.specs.Telling.{IsFirstStop, IsRest, IsStop, IsStopOf, IsUnasked};
+ghost use Rattle.type_builder.specs.inner.Telling.{IsFirstStop, IsRest, IsStop, IsStopOf, IsUnasked};
 ghost use Rattle.type_model.specs.Calls.{KeepsTypes};
 
 use crate::building::define_all;
