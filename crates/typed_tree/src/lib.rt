@@ -12,7 +12,7 @@
 //! - [`TypedUnit`], [`TypedFunction`], [`TypedBody`] and [`TypedWorker`]: functions and their workers.
 //! - [`TypedPackage`], [`ModuleVariable`], [`Initialiser`] and [`Initial`]: packages.
 //! - [`EventKind`] and [`SeenEvent`]: the events of workers; [`Plan`] and [`Pair`]: which of them are paired.
-//! - [`skeleton`]: the events of a function by its syntax alone.
+//! - [`skeleton`], [`skeleton_of_body`]: the events of a function by its syntax alone.
 //! - [`nodes`]: how many nodes a package has.
 //!
 //! `specs/Skeleton.antt` says which events a function has, `specs/Nodes.antt` which nodes a package has.
@@ -32,6 +32,6 @@ pub use event::{EventKind, Pair, Pairs, Plan, SeenEvent, SeenEvents};
 pub use expr::{AnonymousFunction, TypedExpr};
 pub use form::{Callee, Operator, Peer, Read, StrictForm};
 pub use package::{Initial, Initialiser, ModuleVariable, TypedPackage};
-pub use seeing::skeleton;
+pub use seeing::{skeleton, skeleton_of_body};
 pub use stmt::{PerformForm, RangeEnd, Source, TypedClause, TypedPattern, TypedStmt, UpdateTarget};
 pub use unit::{Captured, SharedTy, TypedBody, TypedFunction, TypedUnit, TypedWorker};

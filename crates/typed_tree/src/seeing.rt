@@ -23,12 +23,13 @@ pub fn skeleton(alloc: Global, f: &Def) -> Result<Vec<SeenEvent>, Memory>
     ensures { IfOk result (λ events. events.items ≡ events_of f.now) }
 {
     match f {
-        Def::Function(f) => of_body(alloc, &f.body),
+        Def::Function(f) => skeleton_of_body(alloc, &f.body),
         Def::Type(_) | Def::Const(_) | Def::Variable(_) => Ok(Vec::new(alloc)),
     }
 }
 
-fn of_body(alloc: Global, body: &Body) -> Result<Vec<SeenEvent>, Memory>
+/// The same of a function by its body: the events by worker, and by text order within a worker.
+pub fn skeleton_of_body(alloc: Global, body: &Body) -> Result<Vec<SeenEvent>, Memory>
     ensures { IfOk result (λ events. events.items ≡ events_of_body body.now) }
 {
     match body {
