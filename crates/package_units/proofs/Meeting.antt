@@ -19,7 +19,8 @@ use Rattle.package_units.specs.declared.held.HeldUnit.{HeldUnit}
 use Rattle.package_units.specs.Held.{tree_of}
 use Rattle.package_units.specs.Noted.{AreAll, Noted, noted, noted_at, unmet}
 use Rattle.package_units.proofs.Found.{all-listed, has-units, listed}
-use Rattle.package_units.proofs.Noting.{map-slice_set, para_out, seconds}
+use Rattle.typed_tree.proofs.SeenParts.{para_out, seconds}
+use Rattle.package_units.proofs.Noting.{map-slice_set}
 
 -- ---- one more unit
 
