@@ -1,5 +1,5 @@
 -- The one shape of a type, if it has just one.
-use Rattle.std.proofs.Common.{◌≡◌, ◌≢◌, ◌∙◌, ℤ, ℕ, List, Bool, true, false, Option, Some, None, Result, Ok, Err, inl, inr, refl, sym, subst, ap, pos, negsuc}
+use Rattle.std.proofs.Common.{◌≡◌, ◌≢◌, ◌∙◌, ℤ, ℕ, List, Bool, true, false, Option, Some, None, Ok, Err, inl, inr, refl, sym, subst, ap, pos, negsuc}
 use Rattle.bal_base.specs.declared.fault.Fault.{Fault}
 use Rattle.bal_base.specs.declared.place.Place.{Place}
 use Rattle.bal_base.specs.declared.shape.Shape.{Shape, Nil, Bool as BoolShape, Int, Str, List', Mapping', Error', Function, Future'}
@@ -15,10 +15,9 @@ use Rattle.operations.specs.Rows.{shape_of}
 use Rattle.type_model.specs.declared.answers.Keys.{Keys}
 use Rattle.type_model.specs.declared.answers.TypeLimit.{TypeLimit}
 use Rattle.type_model.specs.declared.atoms.AtomDef.{AtomDef}
-use Rattle.type_model.specs.declared.basic.BasicSet.TheVariants as set
 use Rattle.type_model.specs.declared.basic.SemType.{SemType, Basic}
 use Rattle.type_model.specs.Calls.{Alone, Asked}
-use Rattle.type_model.specs.Inclusion.{FindsShape, IsEmpty, IsShapeOf, Sub}
+use Rattle.type_model.specs.Inclusion.{FindsShape, IsShapeOf, Sub}
 use Rattle.type_model.specs.Membership.{In}
 use Rattle.check_words.specs.declared.access.Access.{Access}
 use Rattle.check_words.specs.declared.access.Access.TheVariants.{Char, Item, Key}

@@ -11,7 +11,7 @@ use Rattle.bal_base.specs.declared.stop.Stop.TheVariants.{Memory, Fault as OwnFa
 use Rattle.bal_base.specs.declared.text.Text.{Text}
 use Rattle.descriptors.specs.Described.{IsPlain, plain}
 use Rattle.descriptors.specs.Language.{IsEverything}
-use Rattle.checks.specs.Checks.{Check, Comes, gives, gives_some, refuses, ◌▷◌}
+use Rattle.checks.specs.Checks.{Comes, gives, gives_some, refuses}
 use Rattle.checks.specs.Questions.{adds, member}
 use Rattle.type_model.specs.declared.answers.Keys.{Keys}
 use Rattle.type_model.specs.declared.answers.TypeLimit.{TypeLimit}
@@ -22,7 +22,6 @@ use Rattle.type_model.specs.declared.basic.SemType.{SemType}
 use Rattle.type_model.specs.Calls.{Asked}
 use Rattle.type_model.specs.Defined.{DefBelow, IsDefined, TyBelow}
 use Rattle.type_model.specs.Places.{HasDistinctFields}
-use Rattle.check_words.specs.State.{State}
 use Rattle.check_words.specs.Words.{Atoms, done, fails, unless}
 use Rattle.check_kinds.specs.Over.{ComesOver}
 use Rattle.check_kinds.proofs.Over.{over-on, over-out, over-stops}

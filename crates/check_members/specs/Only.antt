@@ -1,6 +1,5 @@
 -- Whether a type has just one shape, an int or a string.
 use Rattle.std.specs.Prelude.{◌≡◌, ℤ, List, Bool, true, false, Option, Some, None, negsuc, pos, ⊤}
-use Rattle.bal_base.specs.declared.fault.Fault.{Fault}
 use Rattle.bal_base.specs.declared.place.Place.{Place}
 use Rattle.bal_base.specs.declared.shape.Shape.{Shape, Nil, Bool as BoolShape, Int, Str, List', Mapping', Error', Function, Future'}
 use Rattle.bal_base.specs.declared.text.Text.{Text}
