@@ -1,17 +1,18 @@
 //! Statements without statements in them: what they need is met, in the order of the text.
 #![tactic(auto, using(needs::proofs::Running::running))]
 
+ghost use Rattle.bal_tree.specs.declared.stmt.Target.TheVariants.{Name as NameTarget};
 ghost use Rattle.needs.specs.Needs.{Runs};
 ghost use Rattle.typed_tree.specs.Listed.{one, ◌&◌};
 ghost use Rattle.expr_needs.specs.ActionTable.{read_rhs};
 ghost use Rattle.expr_needs.specs.declared.kind.Kind.TheVariants.{AnyMapping};
-ghost use Rattle.expr_needs.specs.ExprTable.{against, read_expr, read_postfix};
-ghost use Rattle.expr_needs.specs.Needs.{Breaks, Continues, HasField};
+ghost use Rattle.expr_needs.specs.ExprTable.{against, as_wanted, read_expr, read_postfix};
+ghost use Rattle.expr_needs.specs.Needs.{Breaks, Continues, HasField, IsOperand};
 ghost use Rattle.stmt_needs.specs.StmtTable.{assignment_needs, jump_needs, local_needs, counter_fits as needs_counter, item_fits as needs_item, loop_head_needs, loop_made, loop_type_needs, set_needs, stored_needs, through_needs, update_needs};
 
 use crate::meets::MeetsStmts;
 use bal_base::{FaultCode, Place};
-use bal_tree::{AssignOp, Expr, LocalType, Postfix, Range, Rhs, Target, Word};
+use bal_tree::{AssignOp, Expr, LocalType, Postfix, QualifiedName, Range, Rhs, Target, Word};
 use expr_needs::{
     Expected, Kind, accessed, indexed, of_kind, place, postfix, postfix_place, rhs, rhs_place,
     wanted_rhs,
@@ -85,18 +86,11 @@ fn update<M: MeetsStmts>(work: &mut M, target: &Target, op: AssignOp, value: &Rh
     ensures met { Runs M.meaning (update_needs target.now op (read_rhs value.now) at) (M.going work.old) (M.going work.new) }
 {
     match target {
-        Target::Name(q) => {
-            work.is_assignable(q);
-            work.reads_name(q);
-            work.is_operand(op, q.at);
-            wanted_rhs(work, value);
-            work.updates_name(q, op, at)
-        }
+        Target::Name(q) => update_name(work, q, op, value, at),
         Target::Index { at: there, .. } => {
             stored(work, target);
             work.reads_stored(*there);
-            work.is_operand(op, *there);
-            wanted_rhs(work, value);
+            operated(work, op, *there, value);
             work.updates_element(op, at)
         }
         Target::Field {
@@ -106,11 +100,32 @@ fn update<M: MeetsStmts>(work: &mut M, target: &Target, op: AssignOp, value: &Rh
         } => {
             stored(work, target);
             work.reads_stored_field(field, *there);
-            work.is_operand(op, *there);
-            wanted_rhs(work, value);
+            operated(work, op, *there, value);
             work.updates_field(field, op, at)
         }
     }
+}
+
+/// The same of a name.
+fn update_name<M: MeetsStmts>(work: &mut M, q: &QualifiedName, op: AssignOp, value: &Rhs, at: Place)
+    requires { M.stands work.old }
+    ensures stands { M.stands work.new }
+    ensures met { Runs M.meaning (update_needs (NameTarget q.now) op (read_rhs value.now) at) (M.going work.old) (M.going work.new) }
+{
+    work.is_assignable(q);
+    work.reads_name(q);
+    operated(work, op, q.at, value);
+    work.updates_name(q, op, at)
+}
+
+/// What was read is the left operand of the assignment, and this is the right one.
+fn operated<M: MeetsStmts>(work: &mut M, op: AssignOp, left: Place, value: &Rhs)
+    requires { M.stands work.old }
+    ensures stands { M.stands work.new }
+    ensures met { Runs M.meaning (one (IsOperand op left) & as_wanted (read_rhs value.now)) (M.going work.old) (M.going work.new) }
+{
+    work.is_operand(op, left);
+    wanted_rhs(work, value)
 }
 
 /// A member that is stored to, before its value.

@@ -1,18 +1,21 @@
 //! What bodies, workers, definitions and packages need is met, in the order of the text.
 #![tactic(auto, using(needs::proofs::Running::running))]
 
-ghost use Rattle.std.specs.Prelude.{◌≡◌, nat_le};
+ghost use Rattle.std.specs.Prelude.{◌≡◌, false, nat_le};
 ghost use Rattle.needs.specs.Needs.{Runs, in_turn};
 ghost use Rattle.typed_tree.specs.Listed.{if_there, one, ◌&◌};
-ghost use Rattle.expr_needs.specs.Needs.{BeginsBlock};
+ghost use Rattle.expr_needs.specs.ExprTable.{as_wanted, read_expr};
+ghost use Rattle.expr_needs.specs.Needs.{BeginsBlock, EndsFunction, EndsValueFunction, WantsResult};
 ghost use Rattle.stmt_needs.specs.PackageTable.{assigned_in_body, body_needs, def_needs, file_needs, function_needs, in_initial, module_needs, module_needs_if, numbered, package_needs, parameter_needs, parameters_needs, read_stmts, variable_needs, worker_needs};
-ghost use Rattle.stmt_needs.specs.StmtTable.{stmts_needs};
+ghost use Rattle.stmt_needs.specs.StmtTable.{in_block, stmts_needs};
 
 use crate::around::around_block;
 use crate::blocks::{block, stmts};
 use crate::meets::MeetsStmts;
+use bal_base::Place;
 use bal_tree::{
-    Body, Def, FunctionDef, Module, Package, Param, Params, SourceFile, Stmt, VariableDef, Worker,
+    Body, Def, Expr, FunctionDef, Module, Package, Param, Params, SourceFile, Stmt, VariableDef,
+    Worker,
 };
 use expr_needs::wanted;
 
@@ -164,16 +167,20 @@ fn body<M: MeetsStmts>(work: &mut M, d: &FunctionDef)
         } => {
             initial_part(work, initial, ws, rest);
             workers(work, ws);
-            work.begins_block();
-            stmts(work, rest, false, &[], &[]);
-            work.ends_function(d, *close)
+            rest_part(work, rest, d, *close)
         }
-        Body::Expr { value, .. } => {
-            work.wants_result();
-            wanted(work, value);
-            work.ends_value_function(d)
-        }
+        Body::Expr { value, .. } => value_body(work, value, d),
     }
+}
+
+fn value_body<M: MeetsStmts>(work: &mut M, value: &Expr, d: &FunctionDef)
+    requires { M.stands work.old }
+    ensures stands { M.stands work.new }
+    ensures met { Runs M.meaning (one WantsResult & as_wanted (read_expr value.now) & one (EndsValueFunction d.now)) (M.going work.old) (M.going work.new) }
+{
+    work.wants_result();
+    wanted(work, value);
+    work.ends_value_function(d)
 }
 
 fn initial_part<M: MeetsStmts>(work: &mut M, initial: &[Stmt], ws: &[Worker], rest: &[Stmt])
@@ -183,6 +190,17 @@ fn initial_part<M: MeetsStmts>(work: &mut M, initial: &[Stmt], ws: &[Worker], re
 {
     work.begins_block();
     stmts(work, initial, false, ws, rest)
+}
+
+/// The statements behind the workers, up to the function's brace.
+fn rest_part<M: MeetsStmts>(work: &mut M, rest: &[Stmt], d: &FunctionDef, close: Place)
+    requires { M.stands work.old }
+    ensures stands { M.stands work.new }
+    ensures met { Runs M.meaning (one BeginsBlock & stmts_needs (in_block false) (read_stmts rest.now) & one (EndsFunction d.now close)) (M.going work.old) (M.going work.new) }
+{
+    work.begins_block();
+    stmts(work, rest, false, &[], &[]);
+    work.ends_function(d, close)
 }
 
 fn workers<M: MeetsStmts>(work: &mut M, ws: &[Worker])
