@@ -39,7 +39,7 @@ use Rattle.check_laws.proofs.Setting.{apart-from, with-matches}
 use Rattle.check_laws.proofs.Stacks.{fewer-on, one-on, other-on}
 use Rattle.check_laws.proofs.Statements.{goes-adds-stmt, goes-closes-block, goes-takes-part, goes-takes-want}
 use Rattle.check_laws.proofs.Values.{goes-looks-up, goes-widened}
-use Rattle.check_laws.proofs.Words.{Goes, goes-asking, goes-becomes, goes-changes-flow, goes-closes-choice, goes-done, goes-either, goes-fails, goes-flow-now, goes-new-slot, goes-opens-choice, goes-sets-flow, goes-some, goes-takes, goes-then, goes-unless, goes-wants, goes-wants-some}
+use Rattle.check_laws.proofs.Words.{Goes, goes-asking, goes-becomes, goes-changes-flow, goes-closes-choice, goes-done, goes-either, goes-fails, goes-flow-now, goes-handles, goes-new-slot, goes-opens-choice, goes-sets-flow, goes-some, goes-takes, goes-then, goes-unless, goes-wants, goes-wants-some}
 
 module _ (s : State) where
   -- ---- branches
@@ -99,7 +99,7 @@ module _ (s : State) where
   pub goes-begins-match : (r : Heights) (name : Option QualifiedName) (at : Place) → Goes s r (begins_match name at) (r ⊕ matches 1)
   goes-begins-match r name at =
       goes-then s _ _ (goes-some s r _) (λ e. goes-then s _ _ (goes-flow-now s r) (λ f.
-      goes-becomes s r (r ⊕ matches 1) _ (λ old p. apart-from s _ old.atoms None old.done (with-matches s old _ _ p (one-on _ p.matches)))))
+      goes-then s _ _ (goes-handles s r _ _) (λ n. goes-becomes s r (r ⊕ matches 1) _ (λ old p. apart-from s _ old.atoms None old.done (with-matches s old _ _ p (one-on n p.matches))))))
 
   goes-sets-match : (r : Heights) (m : MatchAtWork) → Goes s (r ⊕ matches 1) (sets_match m) (r ⊕ matches 1)
   goes-sets-match r m =

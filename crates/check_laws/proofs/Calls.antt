@@ -29,7 +29,7 @@ use Rattle.check_laws.specs.Positions.{Above, OnTop, parts_called, parts_of_call
 use Rattle.check_laws.proofs.Setting.{apart-from, with-calls, with-units}
 use Rattle.check_laws.proofs.Stacks.{LastOn, all-but-last, as-on, last-on, parts-more, plus-is, unit-off, unit-on}
 use Rattle.check_laws.proofs.Values.{goes-below-if, goes-is-of, goes-looks-up, goes-seen, goes-whether}
-use Rattle.check_laws.proofs.Words.{Goes, goes-asking, goes-becomes, goes-done, goes-either, goes-fails, goes-makes, goes-no-more, goes-nothing, goes-sets-unit, goes-some, goes-then, goes-unless, goes-wants, goes-wants-some}
+use Rattle.check_laws.proofs.Words.{Goes, goes-asking, goes-becomes, goes-done, goes-either, goes-fails, goes-handles, goes-makes, goes-no-more, goes-nothing, goes-sets-unit, goes-some, goes-then, goes-unless, goes-wants, goes-wants-some}
 
 module _ (s : State) where
   -- ---- a call more, and one less
@@ -122,7 +122,7 @@ module _ (s : State) where
 
     pub goes-method : (r : Heights) (w : Word) (count : ℕ) (at : Place) → Goes s (r ⊕ parts 1) (calls_method passes w count at) (r ⊕ calls 1)
     goes-method r w count at =
-        goes-then s _ _ (goes-some s (r ⊕ parts 1) _) (λ e. goes-then s _ _ (goes-picks (r ⊕ parts 1) _ e at) (λ row. goes-library r row (Some _) count at))
+        goes-then s _ _ (goes-some s (r ⊕ parts 1) _) (λ e. goes-then s _ _ (goes-picks (r ⊕ parts 1) _ e at) (λ row. goes-then s _ _ (goes-handles s (r ⊕ parts 1) _ _) (λ t. goes-library r row (Some t) count at)))
 
     -- ---- arguments
 
@@ -269,7 +269,7 @@ module _ (s : State) where
 
   pub goes-opens-unit : (r : Heights) (u : UnitAtWork) → Goes s r (opens_unit u) (r ⊕ units 1)
   goes-opens-unit r u =
-      goes-becomes s r (r ⊕ units 1) _ (λ old p. apart-from s _ old.atoms None old.done (with-units s old _ _ p (unit-on u p.units)))
+      goes-then s _ _ (goes-handles s r _ _) (λ v. goes-becomes s r (r ⊕ units 1) _ (λ old p. apart-from s _ old.atoms None old.done (with-units s old _ _ p (unit-on v p.units))))
 
   pub goes-closes-unit : (r : Heights) → Goes s (r ⊕ units 1) closes_unit r
   goes-closes-unit r =

@@ -10,7 +10,7 @@ use Rattle.type_model.specs.declared.basic.Ty.{Ty}
 use Rattle.typed_tree.specs.declared.expr.TypedExpr.{TypedExpr}
 use Rattle.typed_tree.specs.SharedTypes.{Shared}
 use Rattle.check_words.specs.State.{ChoiceAtWork, ConstructorAtWork, State, UnitAtWork, Ways, all_but}
-use Rattle.check_words.specs.Words.{Atoms, asking, becomes, changes_flow, closes_choice, closes_constructor, done, fails, flow_now, makes, new_slot, opens_choice, opens_constructor, sets_constructor, sets_flow, sets_unit, sets_ways, takes, unless, wants as wanting, wants_no_more, wants_some, ways_now}
+use Rattle.check_words.specs.Words.{Atoms, asking, becomes, by_handles, changes_flow, closes_choice, closes_constructor, done, fails, flow_now, makes, new_slot, opens_choice, opens_constructor, sets_constructor, sets_flow, sets_unit, sets_ways, takes, unless, wants as wanting, wants_no_more, wants_some, ways_now}
 use Rattle.check_laws.specs.Heights.{Heights, ◌⊕◌, parts, wants, constructors, choices}
 use Rattle.check_laws.specs.Positions.{Above, parts_of_calls}
 use Rattle.check_laws.proofs.Setting.{apart-from, with-choices, with-constructors, with-parts, with-units, with-wants}
@@ -59,12 +59,16 @@ module _ (s : State) where
   unfolding does
   goes-becomes h k change f old new a p e = subst (Above s k) (sym e) (f old p)
 
+  pub goes-handles : {A : Type 0} (h : Heights) (Same : A → A → Type 0) (a : A) → Goes h (by_handles Same a) h
+  unfolding by_handles
+  goes-handles h Same a old new b p (x, e) = subst (Above s h) (sym e) p
+
   pub goes-asking : {A : Type 0} (h : Heights) (question : Check Atoms A) → Goes h (asking question) h
   unfolding asks
   goes-asking h question old new a p (x, e) = subst (Above s h) (sym e) (apart-from s old new.atoms old.ways old.done p)
 
   pub goes-sets-ways : (h : Heights) (w : Option Ways) → Goes h (sets_ways w) h
-  goes-sets-ways h w = goes-becomes h h _ (λ old p. apart-from s old old.atoms w old.done p)
+  goes-sets-ways h w = goes-then _ _ (goes-handles h _ _) (λ x. goes-becomes h h _ (λ old p. apart-from s old old.atoms x old.done p))
 
   -- ---- parts
 
@@ -89,7 +93,7 @@ module _ (s : State) where
   -- ---- what is wanted
 
   pub goes-wants : (r : Heights) (w : Option Shared) → Goes r (wanting w) (r ⊕ wants 1)
-  goes-wants r w = goes-becomes r (r ⊕ wants 1) _ (λ old p. with-wants s old _ _ p (one-on w p.wants))
+  goes-wants r w = goes-then _ _ (goes-handles r _ _) (λ x. goes-becomes r (r ⊕ wants 1) _ (λ old p. with-wants s old _ _ p (one-on x p.wants)))
 
   pub goes-wants-some : (r : Heights) (P : Atoms → Ty → Type 0) → Goes r (wants_some P) (r ⊕ wants 1)
   goes-wants-some r P = goes-then _ _ (goes-some r _) (λ t. goes-wants r (Some t))
@@ -102,10 +106,10 @@ module _ (s : State) where
 
   pub goes-sets-unit : (h : Heights) (u : UnitAtWork) → Goes h (sets_unit u) h
   goes-sets-unit h u =
-      goes-becomes h h _ (λ old p. with-units s old h.units _ p (other-unit h.units u p.units))
+      goes-then _ _ (goes-handles h _ _) (λ v. goes-becomes h h _ (λ old p. with-units s old h.units _ p (other-unit h.units v p.units)))
 
   pub goes-sets-flow : (h : Heights) (f : Flow) → Goes h (sets_flow f) h
-  goes-sets-flow h f = goes-then _ _ (goes-then _ _ (goes-some h _) (λ u. goes-sets-unit h _)) (λ u. goes-sets-ways h None)
+  goes-sets-flow h f = goes-then _ _ (goes-then _ _ (goes-some h _) (λ u. goes-sets-unit h _)) (λ u. goes-becomes h h _ (λ old p. apart-from s old old.atoms None old.done p))
 
   pub goes-flow-now : (h : Heights) → Goes h flow_now h
   goes-flow-now h = goes-then _ _ (goes-some h _) (λ u. goes-some h _)
@@ -123,7 +127,7 @@ module _ (s : State) where
 
   pub goes-opens-choice : (r : Heights) (c : ChoiceAtWork) → Goes r (opens_choice c) (r ⊕ choices 1)
   goes-opens-choice r c =
-      goes-becomes r (r ⊕ choices 1) _ (λ old p. with-choices s old _ _ p (one-on c p.choices))
+      goes-then _ _ (goes-handles r _ _) (λ d. goes-becomes r (r ⊕ choices 1) _ (λ old p. with-choices s old _ _ p (one-on d p.choices)))
 
   pub goes-closes-choice : (r : Heights) → Goes (r ⊕ choices 1) closes_choice r
   goes-closes-choice r =

@@ -41,11 +41,12 @@ use Rattle.check_words.specs.Members.{member_at}
 use Rattle.check_words.specs.Seen.{Seen, SeenVariable, SeenWorker, SeenConstant, SeenLibrary, SeenMeaning, SeenNothing, looks_up, variable_named}
 use Rattle.flow_narrowing.specs.declared.flow.Flow.{Flow}
 use Rattle.flow_narrowing.specs.declared.flow.Variable.{Variable}
+use Rattle.check_words.specs.Sharing.{SameMatch}
 use Rattle.check_words.specs.State.{IsLast, MatchAtWork, State, all_but, replaced, stopped, with_type, with_variable}
 use Rattle.check_words.specs.Statements.{adds_stmt, closes_block, local_variable, takes_part, takes_want}
 use Rattle.check_words.specs.StmtViews.{IsClause, IsForeach, IsIf, IsListSource, IsMatch, IsRangeSource, IsWhile}
 use Rattle.check_words.specs.Values.{constant_in, constant_of, widened}
-use Rattle.check_words.specs.Words.{Atoms, OfKind, Step, asking, becomes, changes_flow, closes_choice, fails, flow_now, last_part, last_two, new_slot, opens_choice, sem, sets_flow, some_over, takes, wanted, wants, wants_some}
+use Rattle.check_words.specs.Words.{Atoms, OfKind, Step, asking, becomes, by_handles, changes_flow, closes_choice, fails, flow_now, last_part, last_two, new_slot, opens_choice, sem, sets_flow, some_over, takes, wanted, wants, wants_some}
 
 -- ---- branches
 
@@ -126,20 +127,20 @@ abbrev pub variable_of_name : List Variable → Option QualifiedName → Option 
 variable_of_name vs None = None
 variable_of_name vs (Some q) = variable_named vs q
 
+abbrev pub opens_match : MatchAtWork → Step
+opens_match m = by_handles SameMatch m ▷ λ n. becomes (λ s. record s { matches = s.matches ++ n ∷ []; ways = None })
+
 abbrev pub begins_match : Option QualifiedName → Place → Step
 begins_match name at =
     last_part ▷ λ e. flow_now ▷ λ f.
-    becomes (λ s. record s {
-      matches = s.matches ++ record {
-        at = at;
-        on = option_map (λ v. v.name) (variable_of_name f.variables name);
-        before = f;
-        left = type_of e;
-        patterns = [];
-        clauses = [];
-        ends = [];
-      } ∷ [];
-      ways = None;
+    opens_match (record {
+      at = at;
+      on = option_map (λ v. v.name) (variable_of_name f.variables name);
+      before = f;
+      left = type_of e;
+      patterns = [];
+      clauses = [];
+      ends = [];
     })
 
 -- the variable of the match has this type in the flow before it

@@ -41,9 +41,10 @@ use Rattle.check_words.specs.Library.{LibraryRow, Takes, argument_of, methods_na
 use Rattle.check_words.specs.Members.{IsStored, member_at}
 use Rattle.check_words.specs.Seen.{Seen, SeenVariable, SeenWorker, SeenConstant, SeenLibrary, SeenMeaning, SeenNothing, looks_up}
 use Rattle.flow_narrowing.specs.declared.flow.Variable.{Variable}
+use Rattle.check_words.specs.Sharing.{SameShared, SameUnit}
 use Rattle.check_words.specs.State.{CallAtWork, Called, IsLast, OfFunction, OfLibrary, OfValue, State, UnitAtWork, all_but, find_variable, shared_now, with_variable}
 use Rattle.check_words.specs.Values.{gives_seen}
-use Rattle.check_words.specs.Words.{Atoms, OfKind, PartOf, Step, asking, becomes, below_if, closes_call, done, fails, is_of, last_call, last_part, last_parts, last_want, makes, makes_strict, makes_typed, opens_call, sem, sets_call, sets_unit, some_over, takes, unit_now, unless, wanted, wants, wants_no_more, wants_some, whether_within}
+use Rattle.check_words.specs.Words.{Atoms, OfKind, PartOf, Step, asking, becomes, below_if, by_handles, closes_call, done, fails, is_of, last_call, last_part, last_parts, last_want, makes, makes_strict, makes_typed, opens_call, sem, sets_call, sets_unit, some_over, takes, unit_now, unless, wanted, wants, wants_no_more, wants_some, whether_within}
 
 -- ---- what is called
 
@@ -171,7 +172,7 @@ new_number =
     gives_some (λ s n. n ≡ s.done.next_unit) ▷ λ n. becomes (λ s. record s { done = record s.done { next_unit = suc n } }) ▷ λ u. gives n
 
 abbrev pub opens_unit : UnitAtWork → Step
-opens_unit u = becomes (λ s. record s { units = s.units ++ u ∷ []; ways = None })
+opens_unit u = by_handles SameUnit u ▷ λ v. becomes (λ s. record s { units = s.units ++ v ∷ []; ways = None })
 
 abbrev pub closes_unit : Check State UnitAtWork
 closes_unit = unit_now ▷ λ u. becomes (λ s. record s { units = all_but 1 s.units; ways = None }) ▷ λ v. gives u
@@ -267,7 +268,7 @@ module _ (passes : List AtomDef → Asked → TypeLimit → Type 0) where
 
   abbrev pub calls_method : Word → ℕ → Place → Step
   calls_method w count at =
-      last_part ▷ λ e. picks (methods_named w.name) e at ▷ λ r. calls_library r (Some (type_of e)) count at
+      last_part ▷ λ e. picks (methods_named w.name) e at ▷ λ r. by_handles SameShared (type_of e) ▷ λ t. calls_library r (Some t) count at
 
   abbrev pub calls_value : Step
   calls_value = calls OfValue

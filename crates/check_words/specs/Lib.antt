@@ -8,6 +8,7 @@ pub mod Library
 pub mod Members
 pub mod Meets
 pub mod Seen
+pub mod Sharing
 pub mod Stands
 pub mod State
 pub mod Statements

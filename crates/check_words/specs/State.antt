@@ -34,6 +34,10 @@ pub record Ways : Type 0 where
   pub yes : Flow
   pub no : Flow
 
+-- what is known where there may be a condition: the same both times where there is none
+abbrev pub ways_or_same : Option Ways → Flow → Ways
+ways_or_same ways f = unwrap_or ways (record { yes = f; no = f })
+
 -- the type that the variable has here, as it is shared
 abbrev pub shared_now : Variable → Shared
 shared_now v = unwrap_or v.narrowed v.declared

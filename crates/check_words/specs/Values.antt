@@ -38,6 +38,7 @@ use Rattle.check_words.specs.Joins.{narrows_to, joins_two}
 use Rattle.check_words.specs.Seen.{Seen, SeenVariable, SeenWorker, SeenConstant, SeenLibrary, SeenMeaning, SeenNothing, looks_up, variable_named}
 use Rattle.flow_narrowing.specs.declared.flow.Flow.{Flow}
 use Rattle.flow_narrowing.specs.declared.flow.Variable.{Variable}
+use Rattle.check_words.specs.Sharing.{SameShared}
 use Rattle.check_words.specs.State.{IsLast, State, Ways, all_but, shared_now, with_type}
 use Rattle.check_words.specs.Words.{Atoms, EitherOf, OfKind, One, PartOf, SharedOf, Step, Three, Two, UnionOf, asking, becomes, closes_choice, done, fails, flow_now, is_of, is_within, last_part, last_two, makes, makes_strict, new_slot, opens_choice, sem, sets_flow, sets_ways, some_over, unit_now, unless, wanted, wants, wants_no_more, wants_some, ways_now, whether_within}
 
@@ -64,7 +65,7 @@ abbrev pub uses : Variable → Place → Step
 uses v at = unless (not (v.captured && v.assigned)) Captured at
 
 abbrev pub gives_variable : Variable → Place → Step
-gives_variable v at = uses v at ▷ λ u. makes 0 (λ env parts e. IsLocal v.slot (is_some v.narrowed) (shared_now v) at e)
+gives_variable v at = uses v at ▷ λ u. makes 0 (λ env parts e. (t : Shared) × SameShared (shared_now v) t × IsLocal v.slot (is_some v.narrowed) t at e)
 
 abbrev pub gives_constant : Constant → Place → Step
 gives_constant c at = makes_strict 0 (form.Constant c) (SingleOf c) at
@@ -167,7 +168,7 @@ fills_nil at =
 abbrev pub encloses : Place → Step
 encloses at =
     gives_some (λ s w. w ≡ s.ways) ▷ λ w.
-    makes 1 (λ env parts e. One parts (λ a. IsParens a (type_of a) at e)) ▷ λ u. sets_ways w
+    makes 1 (λ env parts e. One parts (λ a. (t : Shared) × SameShared (type_of a) t × IsParens a t at e)) ▷ λ u. sets_ways w
 
 -- ---- errors
 

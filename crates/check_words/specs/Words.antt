@@ -1,10 +1,10 @@
 -- The words of which it is put together what it means that needs are met: small checks of a state, one behind another.
-use Rattle.std.specs.Prelude.{◌≡◌, ◌⊎◌, ◌++◌, ℕ, Bool, true, false, List, [], ◌∷◌, length, Option, Some, None, unwrap_or}
+use Rattle.std.specs.Prelude.{◌≡◌, ◌⊎◌, ◌++◌, ℕ, Bool, true, false, List, [], ◌∷◌, length, Option, Some, None}
 use Rattle.bal_base.specs.declared.fault.FaultCode.{FaultCode}
 use Rattle.bal_base.specs.declared.fault.Kept.TheVariants.{Nothing as ShowsNothing}
 use Rattle.bal_base.specs.declared.place.Place.{Place}
 use Rattle.bal_base.specs.declared.shape.Shape.{Shape}
-use Rattle.checks.specs.Checks.{Check, gives, gives_some, refuses, ◌▷◌}
+use Rattle.checks.specs.Checks.{Check, Gives, Refuses, gives, gives_some, refuses, ◌▷◌}
 use Rattle.checks.specs.Questions.{below, has_some, is_below, IsFault}
 use Rattle.descriptors.specs.Described.{IsPlain}
 use Rattle.needs.specs.Needs.{asks, does}
@@ -22,7 +22,9 @@ use Rattle.typed_tree.specs.Views.{IsStrict}
 use Rattle.expr_needs.specs.declared.kind.Kind.{Kind}
 use Rattle.check_words.specs.Kinds.{IsOfKind, IsWrittenSo, is_simple}
 use Rattle.flow_narrowing.specs.declared.flow.Flow.{Flow}
-use Rattle.check_words.specs.State.{AreLast, CallAtWork, ChoiceAtWork, ConstructorAtWork, IsLast, State, UnitAtWork, Ways, all_but, replaced}
+use Rattle.flow_narrowing.specs.Flows.{AreSame}
+use Rattle.check_words.specs.Sharing.{SameChoice, SameOption, SameShared, SameUnit, SameWays}
+use Rattle.check_words.specs.State.{AreLast, CallAtWork, ChoiceAtWork, ConstructorAtWork, IsLast, State, UnitAtWork, Ways, all_but, replaced, ways_or_same}
 
 abbrev pub Atoms : Type 0
 Atoms = List AtomDef
@@ -44,6 +46,11 @@ unless false code at = fails code at
 -- the state becomes this
 abbrev pub becomes : (State → State) → Step
 becomes change = does (λ old new. new ≡ change old)
+
+-- the same thing, which may have its types by other handles
+unfoldable pub by_handles : {A : Type 0} → (A → A → Type 0) → A → Check State A
+by_handles Same a old (Gives b) new = Same a b × (new ≡ old)
+by_handles Same a old (Refuses f) new = ⊥
 
 -- a question over the atoms, which changes nothing else
 abbrev pub asking : {A : Type 0} → Check Atoms A → Check State A
@@ -78,9 +85,9 @@ makes count P = does (λ old new.
 abbrev pub makes_strict : ℕ → StrictForm → (Atoms → Ty → Type 0) → Place → Step
 makes_strict count form P at = makes count (λ env parts e. (t : Shared) × P env t.value × IsStrict form parts t at e)
 
--- the same with this very type
+-- the same with this type
 abbrev pub makes_typed : ℕ → StrictForm → Shared → Place → Step
-makes_typed count form t at = makes count (λ env parts e. IsStrict form parts t at e)
+makes_typed count form t at = makes count (λ env parts e. (u : Shared) × SameShared t u × IsStrict form parts u at e)
 
 -- so many of the last parts are taken away
 abbrev pub takes : ℕ → Check State (List TypedExpr)
@@ -109,7 +116,7 @@ abbrev pub last_wants : ℕ → Check State (List (Option Shared))
 last_wants count = gives_some (λ s ws. AreLast s.wants count ws)
 
 abbrev pub wants : Option Shared → Step
-wants w = becomes (λ s. record s { wants = s.wants ++ w ∷ [] })
+wants w = by_handles AreSame w ▷ λ x. becomes (λ s. record s { wants = s.wants ++ x ∷ [] })
 
 -- a type of which this holds is wanted
 abbrev pub wants_some : (Atoms → Ty → Type 0) → Step
@@ -124,7 +131,7 @@ abbrev pub unit_now : Check State UnitAtWork
 unit_now = gives_some (λ s u. IsLast s.units u)
 
 abbrev pub sets_unit : UnitAtWork → Step
-sets_unit u = becomes (λ s. record s { units = replaced s.units u })
+sets_unit u = by_handles SameUnit u ▷ λ v. becomes (λ s. record s { units = replaced s.units v })
 
 abbrev pub flow_now : Check State Flow
 flow_now = unit_now ▷ λ u. gives u.flow
@@ -141,15 +148,15 @@ new_slot t = unit_now ▷ λ u. sets_unit (record u { slots = u.slots ++ t ∷ [
 
 -- where the last part holds, and where it doesn't: the same unless it is a condition
 abbrev pub ways_now : Check State Ways
-ways_now = flow_now ▷ λ f. gives_some (λ s w. w ≡ unwrap_or s.ways (record { yes = f; no = f }))
+ways_now = flow_now ▷ λ f. gives_some (λ s w. w ≡ ways_or_same s.ways f)
 
 abbrev pub sets_ways : Option Ways → Step
-sets_ways w = becomes (λ s. record s { ways = w })
+sets_ways w = by_handles (SameOption SameWays) w ▷ λ x. becomes (λ s. record s { ways = x })
 
 -- ---- what is open
 
 abbrev pub opens_choice : ChoiceAtWork → Step
-opens_choice c = becomes (λ s. record s { choices = s.choices ++ c ∷ [] })
+opens_choice c = by_handles SameChoice c ▷ λ d. becomes (λ s. record s { choices = s.choices ++ d ∷ [] })
 
 abbrev pub last_choice : Check State ChoiceAtWork
 last_choice = gives_some (λ s c. IsLast s.choices c)

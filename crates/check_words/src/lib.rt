@@ -4,7 +4,8 @@
 //! a check of a state. The definitions stand by topic:
 //!
 //! - `specs/State.antt`: parts that wait for their construct, what is wanted, what is known of variables, units at work.
-//!   `specs/Stands.antt`: what holds of it between any two needs.
+//!   `specs/Stands.antt`: what holds of it between any two needs. `specs/Sharing.antt`: what is the same but for
+//!   handles of types.
 //! - `specs/Words.antt`: the small checks of a state of which all others are put together.
 //! - `specs/Kinds.antt`, `specs/Library.antt`: the kinds of values that rows name, and a row for each call of the library.
 //! - `specs/Seen.antt`: what a name stands for where a value may stand.
