@@ -1,0 +1,15 @@
+use Rattle.std.proofs.Common.{map}
+use Rattle.check_words.proofs.Blocks.{continues-come}
+use Rattle.check_words.proofs.Entering.{stopped-stands}
+use Rattle.check_work.specs.Views.{state_of, unit_of}
+use Rattle.check_work.proofs.Noting.{at-hand}
+use Rattle.needs_of_statements.proofs.blocks.continue_here.Goals as goal
+
+pub returns-clause-stands : goal.returns-clause-stands
+returns-clause-stands c = λ env h.
+    stopped-stands (state_of env c.args.work.now) h (map unit_of c.args.work.now.around.items) (unit_of c.in_ok-unit.unit) (at-hand _ _ _ c.in_ok-unit.ensures) _ _ c.stop.ensures
+
+pub returns-clause-comes : goal.returns-clause-comes
+returns-clause-comes c = λ env. let added = c.in_ok-add_stmt.ensures in
+    continues-come (state_of env c.args.work.now) (map unit_of c.args.work.now.around.items) (unit_of c.in_ok-unit.unit) (at-hand _ _ _ c.in_ok-unit.ensures)
+    added.kept added.block added.is c.continue_stmt.result _ added.after _ c.stop.ensures c.args.at c.continue_stmt.ensures
