@@ -3,6 +3,7 @@ pub mod ByName
 pub mod Coming
 pub mod Entering
 pub mod Flowing
+pub mod Handles
 pub mod LastOnes
 pub mod Same
 pub mod Standing
