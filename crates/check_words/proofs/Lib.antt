@@ -5,5 +5,7 @@ pub mod Entering
 pub mod Flowing
 pub mod Handles
 pub mod LastOnes
+pub mod Retyping
 pub mod Same
 pub mod Standing
+pub mod Stepping

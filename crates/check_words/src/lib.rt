@@ -17,13 +17,16 @@
 //! Which needs a construct has is said in the tables of `expr_needs`, and those of statements to come.
 //!
 //! - [`Access`]: what `a[i]` is taken of.
+//! - [`constant_of`], [`value_constant`], [`place_of_value`]: constants, as literals write them.
 //! - [`strict`] and its kin: typed expressions, made of their parts.
 #![tactic(auto)]
 
 mod access;
+mod constants;
 mod makers;
 
 pub use access::Access;
+pub use constants::{constant_of, place_of_value, value_constant};
 pub use makers::{
     and, check, conditional, elvis, function, implied, local, or, parens, strict, trap,
 };
