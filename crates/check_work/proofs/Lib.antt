@@ -1,3 +1,4 @@
 pub mod Making
 pub mod Noting
+pub mod Slots
 pub mod Taking

@@ -11,7 +11,8 @@
 //!   [`Done`]: the parts of the work.
 //! - [`last`], [`taken`], [`at_hand`], [`last_taken`], [`drop_last`]: what stands last in a list.
 //! - [`take_one`], [`take_two`], [`take_three`], [`take_parts`], [`gather`]: parts that become one (`specs/Parts.antt`).
-//! - [`shared`], [`shared_if`], [`copy_flow`], [`find_variable`]: types by other handles, and what is known of variables.
+//! - [`take_part`], [`take_want`], [`close_block`], [`keep`], [`declare`]: small steps, each as it is meant.
+//! - [`shared`], [`shared_if`], [`copy_flow`], [`find_variable`], [`narrow_by_name`]: types by other handles, and what is known of variables.
 //! - [`forget_choice`] (`specs/Choices.antt`), [`add_stmt`], [`scope_at`] (`specs/Blocks.antt`): what is open.
 //!
 //! Types are shared and never copied. Where a way is left that is entered again what is known of variables is copied, which costs
@@ -21,7 +22,9 @@
 mod blocks;
 mod choices;
 mod flows;
+mod narrowing;
 mod parts;
+mod steps;
 mod stopping;
 mod units;
 mod work;
@@ -29,9 +32,11 @@ mod work;
 pub use blocks::{add_stmt, scope_at};
 pub use choices::forget_choice;
 pub use flows::{copy_flow, find_variable, shared, shared_if};
+pub use narrowing::narrow_by_name;
 pub use parts::{
     drop_last, gather, last, last_taken, take_one, take_parts, take_three, take_two, taken,
 };
+pub use steps::{close_block, declare, keep, take_part, take_want};
 pub use stopping::{has_stopped, note, note_made};
 pub use units::at_hand;
 pub use work::{

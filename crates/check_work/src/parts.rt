@@ -96,9 +96,7 @@ pub fn take_two(found: &mut Vec<TypedExpr>) -> Result<(TypedExpr, TypedExpr), Me
 }
 
 /// The last three parts are taken, the first one first.
-pub fn take_three(
-    found: &mut Vec<TypedExpr>,
-) -> Result<(TypedExpr, TypedExpr, TypedExpr), Memory>
+pub fn take_three(found: &mut Vec<TypedExpr>) -> Result<(TypedExpr, TypedExpr, TypedExpr), Memory>
     ensures parts { IfOk result (λ p. AreLast found.old.items 3 (p.0 ∷ p.1 ∷ p.2 ∷ [])) }
     ensures kept { OnOk result (found.new.items ≡ all_but 3 found.old.items) }
 {
