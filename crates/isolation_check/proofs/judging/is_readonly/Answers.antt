@@ -1,0 +1,10 @@
+use Rattle.std.proofs.Common.{subst}
+use Rattle.type_model.specs.declared.basic.BasicSet.TheVariants.{Readonly}
+use Rattle.type_model.specs.declared.basic.SemType.{Basic}
+use Rattle.isolation_check.specs.inner.Judging.{Judged}
+use Rattle.isolation_check.specs.Walk.{has_to_be}
+use Rattle.isolation_check.proofs.judging.is_readonly.Goals as goal
+
+pub returns-clause-judged : goal.returns-clause-judged
+returns-clause-judged g c = λ names.
+    subst (λ t. Judged (has_to_be g.T.Types.passes t.sem (Basic Readonly) names c.args.at) names c.args.at (g.T.Types.atoms c.args.types.now) c.has_to_be.result) c.deref.ensures (c.has_to_be.ensures.judged names)

@@ -1,0 +1,5 @@
+pub mod inner
+pub mod Isolated
+pub mod Parts
+pub mod Typed
+pub mod Walk
