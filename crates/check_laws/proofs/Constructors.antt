@@ -103,7 +103,7 @@ module _ (s : State) where
         → Goes s h (fits_fields passes key e at fields) h
     goes-fits-fields h key e at [] = goes-done s h
     goes-fits-fields h key e at (f ∷ fields) =
-        goes-then s _ _ (goes-then s _ _ (goes-asking s h _) (λ b. goes-either s b _ _ (goes-asking s h _) (goes-done s h)))
+        goes-then s _ _ (goes-then s _ _ (goes-asking s h _) (λ b. goes-either s b _ _ (goes-then s _ _ (goes-some s h _) (λ t. goes-asking s h _)) (goes-done s h)))
         (λ u. goes-fits-fields h key e at fields)
 
     goes-fits-keys : (h : Heights) (choice : Option ℕ) (key : Option Text) (at : Place) → Goes s h (fits_keys passes choice key at) h

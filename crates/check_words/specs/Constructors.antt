@@ -26,6 +26,7 @@ use Rattle.type_model.specs.declared.basic.Ty.{Ty}
 use Rattle.type_model.specs.Calls.{Asked}
 use Rattle.type_model.specs.Membership.{In}
 use Rattle.type_model.specs.Places.{is_same_text, item_type, key_type}
+use Rattle.type_model.specs.SameType.{IsSameType}
 use Rattle.typed_tree.specs.declared.expr.TypedExpr.{TypedExpr}
 use Rattle.typed_tree.specs.declared.form.StrictForm.TheVariants as form
 use Rattle.typed_tree.specs.Exprs.{type_of}
@@ -189,9 +190,12 @@ module _ (passes : List AtomDef → Asked → TypeLimit → Type 0) where
   names_field name key old (Gives b) new = ((b ≡ true) × In old (Str name) key ⊎ (b ≡ false) × (¬ In old (Str name) key)) × (new ≡ old)
   names_field name key old (Refuses f) new = ⊥
 
+  -- a question changes what is known of types, so it is asked of a copy
+  abbrev pub is_below_copy : TypedExpr → SemType → Place → Step
+  is_below_copy e s at = some_over (λ env t. IsSameType s t) ▷ λ t. asking (below passes (sem e) t (Some at))
+
   abbrev pub fits_field : SemType → TypedExpr → Place → FieldDef → Step
-  fits_field key e at f =
-      asking (names_field f.name key) ▷ λ b. either b (asking (below passes (sem e) f.ty.sem (Some at))) done
+  fits_field key e at f = asking (names_field f.name key) ▷ λ b. either b (is_below_copy e f.ty.sem at) done
 
   abbrev pub fits_fields : SemType → TypedExpr → Place → List FieldDef → Step
   fits_fields key e at [] = done
