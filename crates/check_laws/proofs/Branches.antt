@@ -103,7 +103,8 @@ module _ (s : State) where
 
   goes-sets-match : (r : Heights) (m : MatchAtWork) → Goes s (r ⊕ matches 1) (sets_match m) (r ⊕ matches 1)
   goes-sets-match r m =
-      goes-becomes s (r ⊕ matches 1) (r ⊕ matches 1) _ (λ old p. with-matches s old (suc r.matches) _ p (other-on m p.matches))
+      goes-then s _ _ (goes-handles s (r ⊕ matches 1) _ _) (λ n.
+      goes-becomes s (r ⊕ matches 1) (r ⊕ matches 1) _ (λ old p. with-matches s old (suc r.matches) _ p (other-on n p.matches)))
 
   goes-closes-match : (r : Heights) → Goes s (r ⊕ matches 1) closes_match r
   goes-closes-match r =

@@ -118,7 +118,7 @@ abbrev pub last_match : Check State MatchAtWork
 last_match = gives_some (λ s m. IsLast s.matches m)
 
 abbrev pub sets_match : MatchAtWork → Step
-sets_match m = becomes (λ s. record s { matches = replaced s.matches m })
+sets_match m = by_handles SameMatch m ▷ λ n. becomes (λ s. record s { matches = replaced s.matches n })
 
 abbrev pub closes_match : Check State MatchAtWork
 closes_match = last_match ▷ λ m. becomes (λ s. record s { matches = all_but 1 s.matches }) ▷ λ u. gives m
