@@ -1,0 +1,3 @@
+pub mod GivenResults
+pub mod Parameters
+pub mod PickedMethods
