@@ -1,0 +1,3 @@
+pub mod Asked
+pub mod CheckedParts
+pub mod Formed
