@@ -1,0 +1,7 @@
+pub mod Asked
+pub mod Beside
+pub mod Chosen
+pub mod Made
+pub mod Pairs
+pub mod Sorting
+pub mod Split

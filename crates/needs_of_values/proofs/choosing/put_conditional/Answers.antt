@@ -1,0 +1,14 @@
+use Rattle.std.proofs.Common.{◌∙◌, ◌++◌, ◌∷◌, [], ap}
+use Rattle.needs_of_values.proofs.choosing.put_conditional.Goals as goal
+
+pub returns : goal.returns
+returns c =
+    record {
+      a = c.in_ok-condition.condition;
+      b = c.in_ok-condition.first;
+      c = c.in_ok-condition.second;
+      e = c.in_ok-whole.whole;
+      last = c.in_ok-condition.ensures.parts;
+      made = c.in_ok-whole.ensures;
+      after = c.in_ok-push.ensures.items ∙ ap (λ es. es ++ c.in_ok-whole.whole ∷ []) c.in_ok-condition.ensures.kept;
+    }

@@ -1,0 +1,27 @@
+//! The needs of names, literals, operators and conditions, met: a call for each.
+//!
+//! What it means that a need is met is said in `check_words`; what the calls change is the work of a `Checker` of `check_work`. Each
+//! does nothing where the work has stopped, and else notes what came of it. Where the parts that it needs aren't there, which no table
+//! of needs brings about, it is as if memory were wanted.
+//!
+//! - [`fails`], [`is_wanted`], [`drops_want`], [`wants_result`], [`wants_error_too`]: what is wanted of parts.
+//! - [`gives_literal`], [`encloses`]: literals, and parentheses.
+//! - [`decides`]: what an operator works on.
+//! - [`splits`], [`switches`]: conditions, one way of which is entered, and then the other one.
+//! - [`chooses`], [`fills_nil`]: values of which one is chosen.
+#![tactic(auto)]
+
+mod choosing;
+mod conditions;
+mod deciding;
+mod parts;
+mod shapes;
+mod wanting;
+mod wants;
+
+pub use choosing::{chooses, fills_nil};
+pub use conditions::{splits, switches};
+pub use deciding::decides;
+pub use parts::{encloses, gives_literal};
+pub use wanting::wants_error_too;
+pub use wants::{drops_want, fails, is_wanted, wants_result};
