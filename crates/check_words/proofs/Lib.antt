@@ -3,8 +3,10 @@ pub mod ByName
 pub mod Coming
 pub mod Entering
 pub mod Flowing
+pub mod Growing
 pub mod Handles
 pub mod LastOnes
+pub mod Regrouping
 pub mod Retyping
 pub mod Same
 pub mod Standing
