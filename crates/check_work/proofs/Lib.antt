@@ -2,3 +2,4 @@ pub mod Making
 pub mod Noting
 pub mod Slots
 pub mod Taking
+pub mod Updating

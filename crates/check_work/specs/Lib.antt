@@ -1,4 +1,5 @@
 pub mod Blocks
 pub mod Choices
 pub mod Parts
+pub mod Updates
 pub mod Views

@@ -13,6 +13,7 @@
 //! - [`take_one`], [`take_two`], [`take_three`], [`take_parts`], [`gather`]: parts that become one (`specs/Parts.antt`).
 //! - [`take_part`], [`take_want`], [`close_block`], [`keep`], [`declare`]: small steps, each as it is meant.
 //! - [`shared`], [`shared_if`], [`copy_flow`], [`find_variable`], [`narrow_by_name`]: types by other handles, and what is known of variables.
+//! - [`result_fits`], [`take_operator`] (`specs/Updates.antt`): assignments with an operator.
 //! - [`forget_choice`] (`specs/Choices.antt`), [`add_stmt`], [`scope_at`] (`specs/Blocks.antt`): what is open.
 //!
 //! Types are shared and never copied. Where a way is left that is entered again what is known of variables is copied, which costs
@@ -27,6 +28,7 @@ mod parts;
 mod steps;
 mod stopping;
 mod units;
+mod updates;
 mod work;
 
 pub use blocks::{add_stmt, scope_at};
@@ -39,6 +41,7 @@ pub use parts::{
 pub use steps::{close_block, declare, keep, take_part, take_want};
 pub use stopping::{has_stopped, note, note_made};
 pub use units::at_hand;
+pub use updates::{result_fits, take_operator};
 pub use work::{
     Block, Call, Callee, Checker, Choice, Constructor, Done, Here, Initials, Match, Site, Unit,
     Ways, Work,
