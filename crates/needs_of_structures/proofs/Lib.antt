@@ -1,0 +1,8 @@
+pub mod Answering
+pub mod Asking
+pub mod Chosen
+pub mod Fitting
+pub mod Implied
+pub mod Made
+pub mod Opening
+pub mod Wanted

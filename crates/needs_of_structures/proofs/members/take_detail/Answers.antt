@@ -1,0 +1,36 @@
+use Rattle.std.proofs.Common.{length, subst, sym}
+use Rattle.type_model.specs.Defined.{TyBelow}
+use Rattle.check_words.specs.Constructors.{is_detail}
+use Rattle.check_words.specs.Words.{Atoms}
+use Rattle.check_work.specs.Views.{state_of}
+use Rattle.needs_of_structures.proofs.Answering.{kept-same, stands-over}
+use Rattle.needs_of_structures.proofs.Fitting.{detail-refused, detail-taken, member-stands}
+use Rattle.needs_of_structures.proofs.Made.{lifted-comes, lifted-on}
+use Rattle.needs_of_structures.proofs.Opening.{on-then}
+use Rattle.needs_of_structures.proofs.members.take_detail.Goals as goal
+
+pub returns-in-Ok-clause-kept : goal.returns-in-Ok-clause-kept
+returns-in-Ok-clause-kept g c = kept-same _ _ c.detail_added.ensures.atoms
+
+pub returns-in-Err-clause-kept : goal.returns-in-Err-clause-kept
+returns-in-Err-clause-kept g c = kept-same _ _ c.detail_added.ensures.atoms
+
+pub returns-in-Ok-clause-stands : goal.returns-in-Ok-clause-stands
+returns-in-Ok-clause-stands g c =
+    let old = g.T.Types.atoms c.args.types.now in
+    let env = g.T.Types.atoms c.detail_added.new.types in
+    lifted-on _ c.add_member.result c.lift.result c.lift.ensures
+    (on-then _ _ c.add_member.result
+    (λ t. member-stands (state_of env c.args.work.now) (stands-over (state_of old c.args.work.now) env c.detail_added.ensures.atoms c.requires) c.in-Ok.ty
+    (subst (λ (n : Atoms). TyBelow (length n) c.in-Ok.ty) (sym c.detail_added.ensures.atoms) c.in-Ok.ensures.below) _ t) c.add_member.ensures)
+
+pub returns-in-Ok-clause-comes : goal.returns-in-Ok-clause-comes
+returns-in-Ok-clause-comes g c =
+    let s = state_of (g.T.Types.atoms c.args.types.now) c.args.work.now in
+    let env = g.T.Types.atoms c.detail_added.new.types in
+    lifted-comes (is_detail g.T.Types.passes c.args.at) s _ c.add_member.result c.lift.result c.lift.ensures
+    (on-then _ _ c.add_member.result (λ t. detail-taken g.T.Types.passes c.args.at s env c.in-Ok.ty _ c.in-Ok.ensures.comes t) c.add_member.ensures)
+
+pub returns-in-Err-clause-comes : goal.returns-in-Err-clause-comes
+returns-in-Err-clause-comes g c =
+    detail-refused g.T.Types.passes c.args.at (state_of (g.T.Types.atoms c.args.types.now) c.args.work.now) (g.T.Types.atoms c.detail_added.new.types) c.in-Err.stop _ c.in-Err.ensures.comes

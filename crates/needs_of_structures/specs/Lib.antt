@@ -1,0 +1,4 @@
+pub mod Changed
+pub mod Choosing
+pub mod Fitting
+pub mod Making
