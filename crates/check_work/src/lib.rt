@@ -14,6 +14,7 @@
 //! - [`take_part`], [`take_want`], [`close_block`], [`keep`], [`declare`]: small steps, each as it is meant.
 //! - [`shared`], [`shared_if`], [`copy_flow`], [`find_variable`], [`narrow_by_name`]: types by other handles, and what is known of variables.
 //! - [`result_fits`], [`take_operator`] (`specs/Updates.antt`): assignments with an operator.
+//! - [`new_name`] (`specs/Seen.antt`): whether a name may be declared.
 //! - [`forget_choice`] (`specs/Choices.antt`), [`add_stmt`], [`scope_at`] (`specs/Blocks.antt`): what is open.
 //!
 //! Types are shared and never copied. Where a way is left that is entered again what is known of variables is copied, which costs
@@ -25,6 +26,7 @@ mod choices;
 mod flows;
 mod narrowing;
 mod parts;
+mod seen;
 mod steps;
 mod stopping;
 mod units;
@@ -38,6 +40,7 @@ pub use narrowing::narrow_by_name;
 pub use parts::{
     drop_last, gather, last, last_taken, take_one, take_parts, take_three, take_two, taken,
 };
+pub use seen::new_name;
 pub use steps::{close_block, declare, keep, take_part, take_want};
 pub use stopping::{has_stopped, note, note_made};
 pub use units::at_hand;
