@@ -6,24 +6,26 @@ ghost use Rattle.checks.specs.Checks.{Comes};
 ghost use Rattle.needs.specs.Needs.{Runs};
 ghost use Rattle.type_model.specs.declared.atoms.AtomDef.{AtomDef as Atom};
 ghost use Rattle.typed_tree.specs.Listed.{one};
-ghost use Rattle.expr_needs.specs.Needs.{BeginsBlock, Breaks, Continues, EndsBlock, OpensLoop, Stops};
+ghost use Rattle.expr_needs.specs.Needs.{BeginsBlock, Breaks, Continues, EndsBlock, MakesBlock, OpensLoop, Stops};
 ghost use Rattle.check_words.specs.Branches.{opens_loop as opens_loop_of};
 ghost use Rattle.check_words.specs.Meets.{meets};
 ghost use Rattle.check_words.specs.Stands.{Stands};
-ghost use Rattle.check_words.specs.Statements.{begins_block as begins_block_of, breaks as breaks_of, continues as continues_of, ends_block as ends_block_of, stops as stops_of};
+ghost use Rattle.check_words.specs.Statements.{begins_block as begins_block_of, breaks as breaks_of, continues as continues_of, ends_block as ends_block_of, makes_block as makes_block_of, stops as stops_of};
 ghost use Rattle.check_words.specs.StmtViews.{IsBreak, IsContinue};
 ghost use Rattle.check_work.specs.Views.{Holds, going, state_of};
 
+use crate::stmts::block_stmt;
 use bal_base::{Memory, Place};
 use check_work::{
-    Block, Checker, Choice, Work, add_stmt, at_hand, has_stopped, note_made, scope_at, taken,
+    Block, Checker, Choice, Work, add_stmt, at_hand, close_block, has_stopped, note_made, scope_at,
+    taken,
 };
 use std::alloc::Global;
 use type_model::Types;
 use typed_tree::TypedStmt;
 
 /// No way goes on from here.
-fn stop(work: &mut Work<'_>) -> Result<(), Memory>
+pub(crate) fn stop(work: &mut Work<'_>) -> Result<(), Memory>
     ensures stands { (env : List Atom) → Stands (state_of env work.old) → OnOk result (Stands (state_of env work.new)) }
     ensures comes { (env : List Atom) → OnOk result (Comes stops_of (state_of env work.old) (Given tt) (state_of env work.new)) }
 {
@@ -95,6 +97,29 @@ pub fn ends_block<T: Types>(checker: &mut Checker<'_, T>)
         return;
     }
     let made = end_block(&mut checker.work);
+    note_made(&checker.types, &mut checker.work, made);
+}
+
+/// The last block is a statement.
+fn make_block(work: &mut Work<'_>, at: Place) -> Result<(), Memory>
+    ensures stands { (env : List Atom) → Stands (state_of env work.old) → OnOk result (Stands (state_of env work.new)) }
+    ensures comes { (env : List Atom) → OnOk result (Comes (makes_block_of at) (state_of env work.old) (Given tt) (state_of env work.new)) }
+{
+    let inner = close_block(work)?;
+    add_stmt(&mut work.blocks, block_stmt(inner.stmts, at))?;
+    Ok(())
+}
+
+/// The last block is a statement of the one around it (Ballerina specification, "Block statement").
+pub fn makes_block<T: Types>(checker: &mut Checker<'_, T>, at: Place)
+    requires { Holds (T.atoms checker.old.types) checker.old.names.now checker.old.work }
+    ensures holds { Holds (T.atoms checker.new.types) checker.new.names.now checker.new.work }
+    ensures met { Runs (meets T.passes checker.old.names.now) (one (MakesBlock at)) (going (T.atoms checker.old.types) checker.old.work) (going (T.atoms checker.new.types) checker.new.work) }
+{
+    if has_stopped(&checker.work) {
+        return;
+    }
+    let made = make_block(&mut checker.work, at);
     note_made(&checker.types, &mut checker.work, made);
 }
 
