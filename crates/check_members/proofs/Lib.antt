@@ -1,3 +1,4 @@
 pub mod Keying
 pub mod OnlyShapes
+pub mod StoredChoices
 pub mod TakenMembers
