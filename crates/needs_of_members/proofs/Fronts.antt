@@ -22,18 +22,19 @@ use Rattle.typed_tree.specs.declared.expr.TypedExpr.{TypedExpr}
 use Rattle.typed_tree.specs.declared.form.Read.TheVariants as read
 use Rattle.typed_tree.specs.declared.form.StrictForm.{StrictForm}
 use Rattle.typed_tree.specs.declared.form.StrictForm.TheVariants as form
+use Rattle.typed_tree.specs.Exprs.{type_of}
 use Rattle.typed_tree.specs.SharedTypes.{Shared}
 use Rattle.expr_needs.specs.declared.kind.Kind.TheVariants as kind
 use Rattle.check_words.specs.declared.access.Access.{Access}
 use Rattle.check_words.specs.declared.access.Access.TheVariants.{Char, Item, Key}
-use Rattle.check_words.specs.Members.{field_type, member_at, names_members, read_of, reads_element, reads_field, reads_optional, reads_stored, reads_stored_field, some_member_at, stored_type}
+use Rattle.check_words.specs.Members.{IsStored, expects_stored, field_type, member_at, names_members, read_of, reads_element, reads_field, reads_optional, reads_stored, reads_stored_field, some_member_at, stored_type}
 use Rattle.check_words.specs.Stands.{PartBelow, Stands}
 use Rattle.check_words.specs.State.{IsLast, State}
 use Rattle.check_words.specs.Words.{Atoms, EitherOf, OfKind, asking, last_part, makes_strict, sem, some_over, wants, wants_some}
 use Rattle.check_words.proofs.Coming.{given, next}
-use Rattle.check_words.proofs.Regrouping.{regroup-all, under}
+use Rattle.check_words.proofs.Regrouping.{regroup-all, regroup-three, under}
 use Rattle.check_words.proofs.Standing.{last-has, last-have}
-use Rattle.needs_of_members.specs.Fronts.{AreSides, field_read, gives_plain, optional_read, read_type}
+use Rattle.needs_of_members.specs.Fronts.{AreSides, field_read, gives_plain, optional_read, read_type, stored_by}
 
 -- ---- a type of which this holds
 
@@ -101,6 +102,17 @@ module _ (s : State) (container : Ty) (key : SemType) (sides : AreSides s.found 
 
     pub element-read : (a : Access) → reads a container.sem key → Comes (reads_element passes a at) s r new
     element-read a h = element-of a (subst (λ k. reads a (sem sides.first) k) sides.key_is (subst (λ c. reads a c.sem key) sides.container_is h))
+
+    abbrev expects : Access → Ty → SemType → Type 0
+    expects a c k = Comes (stored_by passes a c k at ▷ λ t. wants (Some t)) s r new
+
+    pub stored-expected : (a : Access) → IsLast s.accesses a → expects a container key → Comes (expects_stored passes at) s r new
+    stored-expected a last h =
+        next _ _ _ _ _ (sides.first, sides.second) s (given _ s (sides.first, sides.second) sides.last)
+        (next _ _ _ _ _ a s (given _ s a last)
+        (regroup-three (asking (names_members passes a (sem sides.second) at)) (λ keys. some_member_at passes (sem sides.first) keys at)
+        (λ keys m. some_over (λ env (t : Shared). IsStored (type_of sides.first).value keys m env t.value)) (λ t. wants (Some t)) s new r
+        (subst (λ k. expects a (type_of sides.first).value k) sides.key_is (subst (λ c. expects a c key) sides.container_is h))))
 
     abbrev before : Access → SemType → SemType → Type 0
     before a c k = Comes (stored_type passes a c k at ▷ λ t. wants_some (λ env u. u ≡ t.value)) s r new

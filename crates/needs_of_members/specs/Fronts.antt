@@ -23,7 +23,7 @@ use Rattle.typed_tree.specs.Views.{IsImplied}
 use Rattle.expr_needs.specs.declared.kind.Kind.TheVariants as kind
 use Rattle.check_words.specs.declared.access.Access.{Access}
 use Rattle.check_words.specs.declared.access.Access.TheVariants.{Char, Item, Key}
-use Rattle.check_words.specs.Members.{field_type, member_at, names_members, read_of, some_member_at, takes_access}
+use Rattle.check_words.specs.Members.{IsStored, field_type, member_at, names_members, read_of, some_member_at, takes_access}
 use Rattle.check_words.specs.Stands.{SharedBelow}
 use Rattle.check_words.specs.State.{AreLast, State}
 use Rattle.check_words.specs.Statements.{operand_kind, operand_sort, takes_operator, updates_member}
@@ -83,6 +83,13 @@ module _ (passes : List AtomDef → Asked → TypeLimit → Type 0) where
 
   abbrev pub optional_read : SemType → Keys → Place → Check State Shared
   optional_read container keys at = some_member_at passes container keys at ▷ λ m. gives_optional m
+
+  -- what may be stored at these keys, and at those that a key names
+  abbrev pub stored_at : Ty → Keys → Place → Check State Shared
+  stored_at container keys at = some_member_at passes container.sem keys at ▷ λ m. some_over (λ env (t : Shared). IsStored container keys m env t.value)
+
+  abbrev pub stored_by : Access → Ty → SemType → Place → Check State Shared
+  stored_by a container key at = asking (names_members passes a key at) ▷ λ keys. stored_at container keys at
 
   -- on what an assignment with an operator works, where what was read has this type
   abbrev pub sort_of : AssignOp → Shared → Place → Check State Bool

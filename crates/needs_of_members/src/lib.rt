@@ -5,7 +5,7 @@
 //! it needs aren't there, which no table of needs brings about, it is as if memory were wanted.
 //!
 //! - [`is_accessed`], [`is_index`], [`reads_element`], [`reads_field`], [`reads_optional`]: members that are read.
-//! - [`has_field`], [`stores`]: members that are stored. The need that wants the type of what is stored (`ExpectsStored`) isn't here yet.
+//! - [`has_field`], [`expects_stored`], [`stores`]: members that are stored.
 //! - [`reads_stored`], [`reads_stored_field`], [`is_operand`], [`updates_element`], [`updates_field`]: members that are assigned
 //!   with an operator.
 //!
@@ -23,5 +23,5 @@ mod updates;
 pub use accesses::{is_accessed, is_index};
 pub use operands::{is_operand, reads_stored, reads_stored_field};
 pub use reads::{reads_element, reads_field, reads_optional};
-pub use storing::{has_field, stores};
+pub use storing::{expects_stored, has_field, stores};
 pub use updates::{updates_element, updates_field};

@@ -11,14 +11,14 @@ ghost use Rattle.type_model.specs.Calls.{KeepsTypes};
 ghost use Rattle.type_model.specs.Defined.{IsDefined, TyBelow};
 ghost use Rattle.expr_needs.specs.declared.kind.Kind.TheVariants.{Text as TextKind};
 ghost use Rattle.check_kinds.specs.Over.{ComesOver};
-ghost use Rattle.check_words.specs.Members.{stored_type as stored_type_of};
+ghost use Rattle.check_words.specs.Members.{IsStored, stored_type as stored_type_of};
 ghost use Rattle.check_words.specs.declared.access.Access.TheVariants.{Item as ItemAccess, Key as KeyAccess};
 ghost use Rattle.check_words.specs.Words.{EitherOf, OfKind};
-ghost use Rattle.needs_of_members.specs.Fronts.{field_read as field_read_of, item_at as item_at_of, key_at as key_at_of, optional_read as optional_read_of, read_type as read_type_of, some_item_at as some_item_at_of};
+ghost use Rattle.needs_of_members.specs.Fronts.{field_read as field_read_of, item_at as item_at_of, key_at as key_at_of, optional_read as optional_read_of, read_type as read_type_of, some_item_at as some_item_at_of, stored_at as stored_at_of, stored_by as stored_by_of};
 
 use bal_base::{Fault, Memory, Place, Stop, Text};
 use check_kinds::{kind_type, optional};
-use check_members::{field_type, member_at, names_members, some_member_at};
+use check_members::{field_type, member_at, names_members, some_member_at, stored_type};
 use check_words::Access;
 use descriptors::{OwnTypes, lift, plain};
 use expr_needs::Kind;
@@ -276,6 +276,61 @@ fn optional_at<T: Types>(
 {
     match some_member_at(alloc, types, container, keys, at) {
         Ok(member) => lift(optional_shared(alloc, types, &member)),
+        Err(stop) => Err(stop),
+    }
+}
+
+/// A type of what is stored at these keys, where members have these shapes.
+fn stored_shared<T: Types>(
+    alloc: Global,
+    types: &T,
+    container: &Ty,
+    keys: &Keys,
+    member: SemType,
+) -> Result<SharedTy, Memory>
+    requires { IsDefined (T.atoms types.now) member }
+    ensures below { IfOk result (λ t. TyBelow (length (T.atoms types.now)) t.value) }
+    ensures is { IfOk result (λ t. IsStored container.now keys.now member (T.atoms types.now) t.value) }
+{
+    let ty = stored_type(alloc, types, container, keys, member)?;
+    Ok(Rc::new(alloc, ty)?)
+}
+
+/// A type of what is stored at these keys, where members have to be.
+fn stored_at<T: Types>(
+    alloc: Global,
+    types: &mut T,
+    container: &Ty,
+    keys: &Keys,
+    at: Place,
+) -> Result<SharedTy, Stop<Fault>>
+    requires { IsDefined (T.atoms types.old) container.now.sem }
+    ensures atoms { T.atoms types.new ≡ T.atoms types.old }
+    ensures below { IfOk result (λ t. TyBelow (length (T.atoms types.old)) t.value) }
+    ensures comes { ComesOver (stored_at_of T.passes container.now keys.now at) (T.atoms types.old) result (T.atoms types.new) }
+{
+    match some_member_at(alloc, types, &container.sem, keys, at) {
+        Ok(member) => lift(stored_shared(alloc, types, container, keys, member)),
+        Err(stop) => Err(stop),
+    }
+}
+
+/// A type of what is stored in the container by this index or key. Three questions of the decider at most.
+pub(crate) fn stored_by<T: Types>(
+    alloc: Global,
+    types: &mut T,
+    access: Access,
+    sides: Sides<'_>,
+    at: Place,
+) -> Result<SharedTy, Stop<Fault>>
+    requires container { IsDefined (T.atoms types.old) sides.container.now.sem }
+    requires key { IsDefined (T.atoms types.old) sides.key.now }
+    ensures atoms { T.atoms types.new ≡ T.atoms types.old }
+    ensures below { IfOk result (λ t. TyBelow (length (T.atoms types.old)) t.value) }
+    ensures comes { ComesOver (stored_by_of T.passes access sides.entry.container.now sides.entry.key.now at) (T.atoms types.old) result (T.atoms types.new) }
+{
+    match names_members(alloc, types, access, sides.key, at) {
+        Ok(keys) => stored_at(alloc, types, sides.container, &keys, at),
         Err(stop) => Err(stop),
     }
 }

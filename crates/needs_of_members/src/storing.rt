@@ -6,22 +6,25 @@ ghost use Rattle.checks.specs.Checks.{Comes};
 ghost use Rattle.needs.specs.Needs.{Runs};
 ghost use Rattle.type_model.specs.declared.atoms.AtomDef.{AtomDef as Atom};
 ghost use Rattle.typed_tree.specs.Listed.{one};
-ghost use Rattle.expr_needs.specs.Needs.{HasField, Stores};
+ghost use Rattle.expr_needs.specs.Needs.{ExpectsStored, HasField, Stores};
 ghost use Rattle.check_words.specs.Meets.{meets};
-ghost use Rattle.check_words.specs.Members.{has_field as has_field_of};
+ghost use Rattle.check_words.specs.Members.{expects_stored as expects_stored_of, has_field as has_field_of};
 ghost use Rattle.check_words.specs.Stands.{Stands};
 ghost use Rattle.check_words.specs.Statements.{store_form as store_form_of, stores as stores_of};
 ghost use Rattle.check_words.specs.StmtViews.{IsPerform};
 ghost use Rattle.check_work.specs.Views.{Holds, going, state_of};
 ghost use Rattle.needs_of_members.specs.Fronts.{IsKey};
 
-use bal_base::{Memory, Place, Text};
+use crate::named::stored_by;
+use crate::sides::last_sides;
+use bal_base::{Fault, Memory, Place, Stop, Text};
 use bal_tree::Word;
 use check_kinds::single_type;
 use check_words::{Access, implied};
 use check_work::{
-    Checker, Work, add_stmt, drop_last, has_stopped, last_taken, note_made, take_parts,
+    Checker, Work, add_stmt, drop_last, has_stopped, last, last_taken, note, note_made, take_parts,
 };
+use descriptors::lift;
 use operations::Constant;
 use std::alloc::Global;
 use std::rc::Rc;
@@ -68,6 +71,47 @@ pub(crate) fn want(wants: &mut Vec<Option<SharedTy>>, t: SharedTy) -> Result<(),
 {
     wants.push(Some(t))?;
     Ok(())
+}
+
+/// What the last two parts name is stored.
+fn expect_stored<T: Types>(
+    alloc: Global,
+    types: &mut T,
+    work: &mut Work<'_>,
+    at: Place,
+) -> Result<(), Stop<Fault>>
+    requires { Stands (state_of (T.atoms types.old) work.old) }
+    ensures atoms { T.atoms types.new ≡ T.atoms types.old }
+    ensures stands { OnOk result (Stands (state_of (T.atoms types.old) work.new)) }
+    ensures comes { Comes (expects_stored_of T.passes at) (state_of (T.atoms types.old) work.old) result (state_of (T.atoms types.new) work.new) }
+{
+    match last(work.accesses.as_slice()) {
+        Some(access) => match last_sides(work.found.as_slice()) {
+            Some(sides) => match stored_by(alloc, types, *access, sides, at) {
+                Ok(t) => lift(want(&mut work.wants, t)),
+                Err(stop) => Err(stop),
+            },
+            None => Err(Stop::Memory),
+        },
+        None => Err(Stop::Memory),
+    }
+}
+
+/// A member of the container that stands before its index or key is stored: its type is wanted, with the constructor choices that
+/// the container's type says ("Assignment statement"). Three questions of the decider at most.
+///
+/// - `NoField` at the place: no value of the container's type has such a member.
+/// - `TypeLimit` at the place: a question is too large.
+pub fn expects_stored<T: Types>(checker: &mut Checker<'_, T>, at: Place)
+    requires { Holds (T.atoms checker.old.types) checker.old.names.now checker.old.work }
+    ensures holds { Holds (T.atoms checker.new.types) checker.new.names.now checker.new.work }
+    ensures met { Runs (meets T.passes checker.old.names.now) (one (ExpectsStored at)) (going (T.atoms checker.old.types) checker.old.work) (going (T.atoms checker.new.types) checker.new.work) }
+{
+    if has_stopped(&checker.work) {
+        return;
+    }
+    let answer = expect_stored(checker.alloc, &mut checker.types, &mut checker.work, at);
+    note(&checker.types, &mut checker.work, answer);
 }
 
 /// The form of a store, where there is one.
