@@ -27,7 +27,8 @@ use Rattle.check_words.specs.Meets.{meets}
 use Rattle.check_words.specs.Calls.{closes_unit}
 use Rattle.check_words.specs.State.{BlockAtWork, Done, Site, State, UnitAtWork, all_but}
 use Rattle.check_words.specs.Statements.{closes_block}
-use Rattle.check_words.specs.Units.{adds_function, begins_function, ends_function, function_unit, outside_functions, workers_of}
+use Rattle.check_words.specs.Units.{adds_function, begins_function, ends_function, outside_functions, workers_of}
+use Rattle.check_words.specs.Words.{by_handles}
 use Rattle.check_laws.specs.FunctionLaws.{FunctionsEndWhole, IsAllSame}
 use Rattle.check_laws.specs.Heights.{Heights, ◌⊕◌, none, parts, wants, blocks}
 use Rattle.check_laws.specs.Positions.{Above}
@@ -82,20 +83,20 @@ record Begun (old new : State) : Type 0 where
   scope : site.scope ≡ old.site.scope
 
 begins-so : (names : Names) (d : FunctionDef) (old new : State) → begins_function names d old (Gives tt) new → Begun old new
-unfolding ◌▷◌ gives_some does
-begins-so names d old new (f, m1, x1, (result, m2, (p2, e2), (slots, m3, (p3, e3), (results, m4, x4, (u, m5, e5, e6))))) =
+unfolding ◌▷◌ gives_some does by_handles
+begins-so names d old new (f, m1, x1, (result, m2, (p2, e2), (slots, m3, (p3, e3), (results, m4, x4, (u, m5, e5, (v, m6, (same, e6), e7)))))) =
     let first : IsStill old m1 = still-signature names d old m1 (Gives f) x1 in
     let next : IsStill old m3 = still-on old m1 m3 first (same-is-still m1 m3 (e3 ∙ e2)) in
     let all : IsStill old m4 = still-on old m3 m4 next (still-results names _ m3 m4 (Gives results) x4) in
     record {
-      unit = function_unit f slots result;
+      unit = v;
       atoms = m4.atoms;
       site = record old.site { workers = map (λ w. w.name.name) (workers_of d.body); results = Ok result ∷ results; events = events_of_body d.body };
-      is = e6
-          ∙ ap (λ (x : State). record x { units = x.units ++ function_unit f slots result ∷ []; ways = None }) e5
+      is = e7
+          ∙ ap (λ (x : State). record x { units = x.units ++ v ∷ []; ways = None }) (e6 ∙ e5)
           ∙ ap (λ (x : State). record x {
             site = record x.site { workers = map (λ w. w.name.name) (workers_of d.body); results = Ok result ∷ results; events = events_of_body d.body };
-            units = x.units ++ function_unit f slots result ∷ [];
+            units = x.units ++ v ∷ [];
             ways = None;
           }) all;
       scope = refl;
