@@ -1,0 +1,18 @@
+use Rattle.std.proofs.Common.{refl}
+use Rattle.expr_needs.specs.Needs.{IsItemOfLoop}
+use Rattle.check_work.specs.Views.{going}
+use Rattle.needs_of_loops.proofs.Answered.{on-any}
+use Rattle.needs_of_loops.proofs.items.is_item_of_loop.Goals as goal
+
+pub require_item-answer-requires : goal.require_item-answer-requires
+require_item-answer-requires g c = (c.requires (c.has_stopped.ensures.goes_on c.if-has_stopped.false)).1
+
+pub returns-clause-holds : goal.returns-clause-holds
+returns-clause-holds g c =
+    c.note.ensures.holds (g.T.Types.atoms c.args.checker.now.types) c.args.checker.now.names.now c.require_item-answer.ensures.atoms
+    (on-any _ c.require_item-answer.result (c.requires (c.has_stopped.ensures.goes_on c.if-has_stopped.false)))
+
+pub returns-clause-met : goal.returns-clause-met
+returns-clause-met g c =
+    c.note.ensures.runs _ c.args.checker.now.names.now (IsItemOfLoop c.args.at) (going (g.T.Types.atoms c.args.checker.now.types) c.args.checker.now.work) refl
+    (c.has_stopped.ensures.goes_on c.if-has_stopped.false) c.require_item-answer.ensures.comes
