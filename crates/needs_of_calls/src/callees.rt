@@ -51,6 +51,7 @@ fn call_value(work: &mut Work<'_>) -> Result<(), Memory>
 pub fn calls_value<T: Types>(checker: &mut Checker<'_, T>)
     requires { Holds (T.atoms checker.old.types) checker.old.names.now checker.old.work }
     ensures holds { Holds (T.atoms checker.new.types) checker.new.names.now checker.new.work }
+    ensures names { checker.new.names.now ≡ checker.old.names.now }
     ensures met { Runs (meets T.passes checker.old.names.now) (one CallsValue) (going (T.atoms checker.old.types) checker.old.work) (going (T.atoms checker.new.types) checker.new.work) }
 {
     if has_stopped(&checker.work) {
@@ -130,6 +131,7 @@ fn call_method<T: Types>(
 pub fn calls_method<T: Types>(checker: &mut Checker<'_, T>, method: &Word, count: usize, at: Place)
     requires { Holds (T.atoms checker.old.types) checker.old.names.now checker.old.work }
     ensures holds { Holds (T.atoms checker.new.types) checker.new.names.now checker.new.work }
+    ensures names { checker.new.names.now ≡ checker.old.names.now }
     ensures met { Runs (meets T.passes checker.old.names.now) (one (CallsMethod method.now count at)) (going (T.atoms checker.old.types) checker.old.work) (going (T.atoms checker.new.types) checker.new.work) }
 {
     if has_stopped(&checker.work) {

@@ -167,6 +167,7 @@ fn require_accessed<T: Types>(
 pub fn is_accessed<T: Types>(checker: &mut Checker<'_, T>, texts: bool, at: Place)
     requires { Holds (T.atoms checker.old.types) checker.old.names.now checker.old.work }
     ensures holds { Holds (T.atoms checker.new.types) checker.new.names.now checker.new.work }
+    ensures names { checker.new.names.now ≡ checker.old.names.now }
     ensures met { Runs (meets T.passes checker.old.names.now) (one (IsAccessed texts at)) (going (T.atoms checker.old.types) checker.old.work) (going (T.atoms checker.new.types) checker.new.work) }
 {
     if has_stopped(&checker.work) {
@@ -210,6 +211,7 @@ fn require_index<T: Types>(
 pub fn is_index<T: Types>(checker: &mut Checker<'_, T>, at: Place)
     requires { Holds (T.atoms checker.old.types) checker.old.names.now checker.old.work }
     ensures holds { Holds (T.atoms checker.new.types) checker.new.names.now checker.new.work }
+    ensures names { checker.new.names.now ≡ checker.old.names.now }
     ensures met { Runs (meets T.passes checker.old.names.now) (one (IsIndex at)) (going (T.atoms checker.old.types) checker.old.work) (going (T.atoms checker.new.types) checker.new.work) }
 {
     if has_stopped(&checker.work) {

@@ -125,6 +125,7 @@ fn trap_part<T: Types>(
 pub fn traps<T: Types>(checker: &mut Checker<'_, T>, at: Place)
     requires { Holds (T.atoms checker.old.types) checker.old.names.now checker.old.work }
     ensures holds { Holds (T.atoms checker.new.types) checker.new.names.now checker.new.work }
+    ensures names { checker.new.names.now ≡ checker.old.names.now }
     ensures met { Runs (meets T.passes checker.old.names.now) (one (Traps at)) (going (T.atoms checker.old.types) checker.old.work) (going (T.atoms checker.new.types) checker.new.work) }
 {
     if has_stopped(&checker.work) {
@@ -190,6 +191,7 @@ fn check_part<T: Types>(
 pub fn checks_panicking<T: Types>(checker: &mut Checker<'_, T>, at: Place)
     requires { Holds (T.atoms checker.old.types) checker.old.names.now checker.old.work }
     ensures holds { Holds (T.atoms checker.new.types) checker.new.names.now checker.new.work }
+    ensures names { checker.new.names.now ≡ checker.old.names.now }
     ensures met { Runs (meets T.passes checker.old.names.now) (one (ChecksPanicking at)) (going (T.atoms checker.old.types) checker.old.work) (going (T.atoms checker.new.types) checker.new.work) }
 {
     if has_stopped(&checker.work) {
@@ -252,6 +254,7 @@ fn check_result<T: Types>(
 pub fn checks<T: Types>(checker: &mut Checker<'_, T>, at: Place)
     requires { Holds (T.atoms checker.old.types) checker.old.names.now checker.old.work }
     ensures holds { Holds (T.atoms checker.new.types) checker.new.names.now checker.new.work }
+    ensures names { checker.new.names.now ≡ checker.old.names.now }
     ensures met { Runs (meets T.passes checker.old.names.now) (one (Checks at)) (going (T.atoms checker.old.types) checker.old.work) (going (T.atoms checker.new.types) checker.new.work) }
 {
     if has_stopped(&checker.work) {
@@ -297,6 +300,7 @@ fn cast<T: Types>(
 pub fn casts<T: Types>(checker: &mut Checker<'_, T>, at: Place)
     requires { Holds (T.atoms checker.old.types) checker.old.names.now checker.old.work }
     ensures holds { Holds (T.atoms checker.new.types) checker.new.names.now checker.new.work }
+    ensures names { checker.new.names.now ≡ checker.old.names.now }
     ensures met { Runs (meets T.passes checker.old.names.now) (one (Casts at)) (going (T.atoms checker.old.types) checker.old.work) (going (T.atoms checker.new.types) checker.new.work) }
 {
     if has_stopped(&checker.work) {

@@ -44,6 +44,7 @@ fn give(alloc: Global, work: &mut Work<'_>, at: Place) -> Result<(), Memory>
 pub fn returns<T: Types>(checker: &mut Checker<'_, T>, at: Place)
     requires { Holds (T.atoms checker.old.types) checker.old.names.now checker.old.work }
     ensures holds { Holds (T.atoms checker.new.types) checker.new.names.now checker.new.work }
+    ensures names { checker.new.names.now ≡ checker.old.names.now }
     ensures met { Runs (meets T.passes checker.old.names.now) (one (Returns at)) (going (T.atoms checker.old.types) checker.old.work) (going (T.atoms checker.new.types) checker.new.work) }
 {
     if has_stopped(&checker.work) {
@@ -108,6 +109,7 @@ fn give_nil<T: Types>(
 pub fn returns_nil<T: Types>(checker: &mut Checker<'_, T>, at: Place)
     requires { Holds (T.atoms checker.old.types) checker.old.names.now checker.old.work }
     ensures holds { Holds (T.atoms checker.new.types) checker.new.names.now checker.new.work }
+    ensures names { checker.new.names.now ≡ checker.old.names.now }
     ensures met { Runs (meets T.passes checker.old.names.now) (one (ReturnsNil at)) (going (T.atoms checker.old.types) checker.old.work) (going (T.atoms checker.new.types) checker.new.work) }
 {
     if has_stopped(&checker.work) {

@@ -96,6 +96,7 @@ fn end_value_function(alloc: Global, work: &mut Work<'_>, d: &FunctionDef) -> Re
 pub fn ends_value_function<T: Types>(checker: &mut Checker<'_, T>, d: &FunctionDef)
     requires { Holds (T.atoms checker.old.types) checker.old.names.now checker.old.work }
     ensures holds { Holds (T.atoms checker.new.types) checker.new.names.now checker.new.work }
+    ensures names { checker.new.names.now ≡ checker.old.names.now }
     ensures met { Runs (meets T.passes checker.old.names.now) (one (EndsValueFunction d.now)) (going (T.atoms checker.old.types) checker.old.work) (going (T.atoms checker.new.types) checker.new.work) }
 {
     if has_stopped(&checker.work) {
@@ -161,6 +162,7 @@ fn end_function<T: Types>(
 pub fn ends_function<T: Types>(checker: &mut Checker<'_, T>, d: &FunctionDef, close: Place)
     requires { Holds (T.atoms checker.old.types) checker.old.names.now checker.old.work }
     ensures holds { Holds (T.atoms checker.new.types) checker.new.names.now checker.new.work }
+    ensures names { checker.new.names.now ≡ checker.old.names.now }
     ensures met { Runs (meets T.passes checker.old.names.now) (one (EndsFunction d.now close)) (going (T.atoms checker.old.types) checker.old.work) (going (T.atoms checker.new.types) checker.new.work) }
 {
     if has_stopped(&checker.work) {

@@ -35,6 +35,7 @@ fn enter_file(work: &mut Work<'_>, number: usize, file: usize)
 pub fn enters_file<T: Types>(checker: &mut Checker<'_, T>, number: usize, file: usize)
     requires { Holds (T.atoms checker.old.types) checker.old.names.now checker.old.work }
     ensures holds { Holds (T.atoms checker.new.types) checker.new.names.now checker.new.work }
+    ensures names { checker.new.names.now ≡ checker.old.names.now }
     ensures met { Runs (meets T.passes checker.old.names.now) (one (EntersFile number file)) (going (T.atoms checker.old.types) checker.old.work) (going (T.atoms checker.new.types) checker.new.work) }
 {
     if has_stopped(&checker.work) {
@@ -75,6 +76,7 @@ fn end_module(work: &mut Work<'_>, number: usize) -> Result<(), Memory>
 pub fn ends_module<T: Types>(checker: &mut Checker<'_, T>, number: usize)
     requires { Holds (T.atoms checker.old.types) checker.old.names.now checker.old.work }
     ensures holds { Holds (T.atoms checker.new.types) checker.new.names.now checker.new.work }
+    ensures names { checker.new.names.now ≡ checker.old.names.now }
     ensures met { Runs (meets T.passes checker.old.names.now) (one (EndsModule number)) (going (T.atoms checker.old.types) checker.old.work) (going (T.atoms checker.new.types) checker.new.work) }
 {
     if has_stopped(&checker.work) {

@@ -128,6 +128,7 @@ fn name_in_body(
 pub fn names_parameter<T: Types>(checker: &mut Checker<'_, T>, name: &Word, body: &Body)
     requires { Holds (T.atoms checker.old.types) checker.old.names.now checker.old.work }
     ensures holds { Holds (T.atoms checker.new.types) checker.new.names.now checker.new.work }
+    ensures names { checker.new.names.now ≡ checker.old.names.now }
     ensures met { Runs (meets T.passes checker.old.names.now) (one (NamesParameter name.now (is_among name.now.name (assigned_in_body body.now)))) (going (T.atoms checker.old.types) checker.old.work) (going (T.atoms checker.new.types) checker.new.work) }
 {
     if has_stopped(&checker.work) {

@@ -203,6 +203,7 @@ fn begin_worker(
 pub fn begins_worker<T: Types>(checker: &mut Checker<'_, T>, w: &Worker, number: usize)
     requires { Holds (T.atoms checker.old.types) checker.old.names.now checker.old.work }
     ensures holds { Holds (T.atoms checker.new.types) checker.new.names.now checker.new.work }
+    ensures names { checker.new.names.now ≡ checker.old.names.now }
     ensures met { Runs (meets T.passes checker.old.names.now) (one (BeginsWorker w.now number (members (used_in_block w.now.body)))) (going (T.atoms checker.old.types) checker.old.work) (going (T.atoms checker.new.types) checker.new.work) }
 {
     if has_stopped(&checker.work) {
@@ -268,6 +269,7 @@ fn end_worker<T: Types>(
 pub fn ends_worker<T: Types>(checker: &mut Checker<'_, T>, w: &Worker)
     requires { Holds (T.atoms checker.old.types) checker.old.names.now checker.old.work }
     ensures holds { Holds (T.atoms checker.new.types) checker.new.names.now checker.new.work }
+    ensures names { checker.new.names.now ≡ checker.old.names.now }
     ensures met { Runs (meets T.passes checker.old.names.now) (one (EndsWorker w.now (out-Block w.now.body).close)) (going (T.atoms checker.old.types) checker.old.work) (going (T.atoms checker.new.types) checker.new.work) }
 {
     if has_stopped(&checker.work) {

@@ -77,6 +77,7 @@ fn want_error_too<T: Types>(alloc: Global, types: &mut T, work: &mut Work<'_>) -
 pub fn wants_error_too<T: Types>(checker: &mut Checker<'_, T>)
     requires { Holds (T.atoms checker.old.types) checker.old.names.now checker.old.work }
     ensures holds { Holds (T.atoms checker.new.types) checker.new.names.now checker.new.work }
+    ensures names { checker.new.names.now ≡ checker.old.names.now }
     ensures met { Runs (meets T.passes checker.old.names.now) (one WantsErrorToo) (going (T.atoms checker.old.types) checker.old.work) (going (T.atoms checker.new.types) checker.new.work) }
 {
     if has_stopped(&checker.work) {
