@@ -1,0 +1,3 @@
+pub mod FirstFits
+pub mod FittingChoices
+pub mod SingleValues

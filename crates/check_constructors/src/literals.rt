@@ -1,0 +1,40 @@
+//! Whether single values are in types.
+#![tactic(auto, using(crate::proofs::SingleValues::values))]
+
+ghost use Rattle.std.specs.Prelude.{◌↔◌, IsTrue};
+ghost use Rattle.type_model.specs.Basic.{InBasic};
+ghost use Rattle.type_model.specs.Membership.{In};
+ghost use Rattle.operations.specs.Rows.{shape_of};
+
+use operations::Constant;
+use type_model::{AtomDef, BasicSet, SemType};
+
+fn is_in_set(set: &BasicSet, value: &Constant) -> bool
+    ensures { IsTrue result ↔ InBasic (shape_of value.now) set.now }
+{
+    match set {
+        BasicSet::Nil => matches!(value, Constant::Nil),
+        BasicSet::Bool(b) => matches!(value, Constant::Bool(c) if b == c),
+        BasicSet::IntRange(low, high) => {
+            matches!(value, Constant::Int(i) if low <= i && i <= high)
+        }
+        BasicSet::StringOne(text) => matches!(value, Constant::Str(t) if t == text),
+        BasicSet::StringAll => matches!(value, Constant::Str(_)),
+        BasicSet::Readonly => true,
+        BasicSet::ListAll | BasicSet::MappingAll | BasicSet::ErrorAll => false,
+        BasicSet::FunctionAll | BasicSet::FutureAll | BasicSet::Never => false,
+    }
+}
+
+/// Whether the value is in the type, over these atoms: none of them has it. It looks at each part of the type at most once.
+pub fn is_in(defs: &[AtomDef], t: &SemType, value: &Constant) -> bool
+    ensures { IsTrue result ↔ In defs.now (shape_of value.now) t.now }
+{
+    match t {
+        SemType::Basic(set) => is_in_set(set, value),
+        SemType::Atom(_) => false,
+        SemType::Or(s, t) => is_in(defs, s, value) || is_in(defs, t, value),
+        SemType::And(s, t) => is_in(defs, s, value) && is_in(defs, t, value),
+        SemType::Not(t) => !is_in(defs, t, value),
+    }
+}
