@@ -5,7 +5,7 @@
 //! of needs brings about, it is as if memory were wanted.
 //!
 //! - [`fails`], [`is_wanted`], [`drops_want`], [`wants_result`], [`wants_error_too`]: what is wanted of parts.
-//! - [`gives_literal`], [`encloses`]: literals, and parentheses.
+//! - [`gives_named`], [`gives_literal`], [`encloses`]: names, literals, and parentheses.
 //! - [`decides`]: what an operator works on.
 //! - [`splits`], [`switches`]: conditions, one way of which is entered, and then the other one.
 //! - [`chooses`], [`fills_nil`]: values of which one is chosen.
@@ -14,6 +14,7 @@
 mod choosing;
 mod conditions;
 mod deciding;
+mod names;
 mod parts;
 mod shapes;
 mod wanting;
@@ -22,6 +23,7 @@ mod wants;
 pub use choosing::{chooses, fills_nil};
 pub use conditions::{splits, switches};
 pub use deciding::decides;
+pub use names::gives_named;
 pub use parts::{encloses, gives_literal};
 pub use wanting::wants_error_too;
 pub use wants::{drops_want, fails, is_wanted, wants_result};
