@@ -24,7 +24,7 @@ use std::mem;
 use type_model::Types;
 
 /// What the last part says of variables: the same both times unless it is a condition.
-fn ways_now(alloc: Global, here: &Here, ways: Option<Ways>) -> Result<Ways, Memory>
+pub(crate) fn ways_now(alloc: Global, here: &Here, ways: Option<Ways>) -> Result<Ways, Memory>
     ensures { IfOk result (λ w. SameWays (ways_or_same (option_map ways_of ways) (flow_of here.now)) (ways_of w)) }
 {
     match ways {

@@ -7,7 +7,8 @@
 //! - [`fails`], [`is_wanted`], [`drops_want`], [`wants_result`], [`wants_error_too`]: what is wanted of parts.
 //! - [`gives_named`], [`gives_literal`], [`encloses`]: names, literals, and parentheses.
 //! - [`decides`]: what an operator works on.
-//! - [`splits`], [`switches`]: conditions, one way of which is entered, and then the other one.
+//! - [`splits`], [`switches`]: conditions, one way of which is entered, and then the other one. [`turns`], [`conjoins`],
+//!   [`disjoins`]: those that are put together of others.
 //! - [`chooses`], [`fills_nil`]: values of which one is chosen.
 #![tactic(auto)]
 
@@ -17,6 +18,7 @@ mod deciding;
 mod names;
 mod parts;
 mod shapes;
+mod truths;
 mod wanting;
 mod wants;
 
@@ -25,5 +27,6 @@ pub use conditions::{splits, switches};
 pub use deciding::decides;
 pub use names::gives_named;
 pub use parts::{encloses, gives_literal};
+pub use truths::{conjoins, disjoins, turns};
 pub use wanting::wants_error_too;
 pub use wants::{drops_want, fails, is_wanted, wants_result};
