@@ -1,8 +1,10 @@
 pub mod Asked
 pub mod Beside
 pub mod Chosen
+pub mod Described
 pub mod Joined
 pub mod Made
 pub mod Pairs
 pub mod Sorting
 pub mod Split
+pub mod Widened

@@ -4,7 +4,8 @@
 //! does nothing where the work has stopped, and else notes what came of it. Where the parts that it needs aren't there, which no table
 //! of needs brings about, it is as if memory were wanted.
 //!
-//! - [`fails`], [`is_wanted`], [`drops_want`], [`wants_result`], [`wants_error_too`]: what is wanted of parts.
+//! - [`fails`], [`is_wanted`], [`drops_want`]: what is wanted of parts. [`describes`], [`widens`], [`wants_result`],
+//!   [`wants_error_too`]: what is wanted of parts to come.
 //! - [`gives_named`], [`gives_literal`], [`encloses`]: names, literals, and parentheses.
 //! - [`decides`]: what an operator works on.
 //! - [`splits`], [`switches`]: conditions, one way of which is entered, and then the other one. [`turns`], [`conjoins`],
@@ -28,5 +29,5 @@ pub use deciding::decides;
 pub use names::gives_named;
 pub use parts::{encloses, gives_literal};
 pub use truths::{conjoins, disjoins, turns};
-pub use wanting::wants_error_too;
+pub use wanting::{describes, wants_error_too, widens};
 pub use wants::{drops_want, fails, is_wanted, wants_result};
