@@ -7,4 +7,5 @@ pub mod Made
 pub mod Pairs
 pub mod Sorting
 pub mod Split
+pub mod Tested
 pub mod Widened

@@ -9,7 +9,7 @@
 //! - [`gives_named`], [`gives_literal`], [`encloses`]: names, literals, and parentheses.
 //! - [`decides`]: what an operator works on.
 //! - [`splits`], [`switches`]: conditions, one way of which is entered, and then the other one. [`turns`], [`conjoins`],
-//!   [`disjoins`]: those that are put together of others.
+//!   [`disjoins`]: those that are put together of others. [`tests`]: tests of types.
 //! - [`chooses`], [`fills_nil`]: values of which one is chosen.
 #![tactic(auto)]
 
@@ -18,7 +18,9 @@ mod conditions;
 mod deciding;
 mod names;
 mod parts;
+mod reading;
 mod shapes;
+mod testing;
 mod truths;
 mod wanting;
 mod wants;
@@ -28,6 +30,7 @@ pub use conditions::{splits, switches};
 pub use deciding::decides;
 pub use names::gives_named;
 pub use parts::{encloses, gives_literal};
+pub use testing::tests;
 pub use truths::{conjoins, disjoins, turns};
 pub use wanting::{describes, wants_error_too, widens};
 pub use wants::{drops_want, fails, is_wanted, wants_result};
