@@ -7,7 +7,7 @@
 //! - [`makes_if`], [`heads`], [`opens_loop`], [`makes_while`]: branches, and loops on a condition.
 //!
 //! A call does nothing where the work has stopped before. Where parts that a need takes aren't there, which no table brings about, it is
-//! as if memory were wanted. Declarations and assignments to names are not met yet.
+//! as if memory were wanted. Declarations and assignments to names stand in `needs_of_assignments`.
 #![tactic(auto)]
 
 mod blocks;

@@ -1,0 +1,14 @@
+use Rattle.std.proofs.Common.{All, Some, ap, length, subst, sym}
+use Rattle.flow_narrowing.specs.Flows.{IfShared}
+use Rattle.type_model.specs.Defined.{TyBelow}
+use Rattle.check_words.proofs.Standing.{also-has, stands-wants}
+use Rattle.check_work.specs.Views.{state_of}
+use Rattle.needs_of_assignments.proofs.assignments.want.Goals as goal
+
+pub returns-clause-stands : goal.returns-clause-stands
+returns-clause-stands c = λ env below h.
+    stands-wants (state_of env c.args.work.now) h _
+    (subst (All (IfShared (TyBelow (length env)))) (sym c.in_ok-push.ensures.items) (also-has (IfShared (TyBelow (length env))) _ (Some c.args.ty) h.wants below))
+
+pub returns-clause-put : goal.returns-clause-put
+returns-clause-put c = λ env. ap (λ ws. record (state_of env c.args.work.now) { wants = ws }) c.in_ok-push.ensures.items
