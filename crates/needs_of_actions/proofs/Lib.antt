@@ -1,6 +1,9 @@
 pub mod Asked
+pub mod Awaited
 pub mod Counted
+pub mod Futures
 pub mod Lifting
 pub mod MessagesMade
 pub mod PeersNamed
 pub mod Received
+pub mod Zipped

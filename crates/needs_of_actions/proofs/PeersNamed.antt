@@ -1,5 +1,6 @@
 -- The workers that actions name, and what they give.
-use Rattle.std.proofs.Common.{◌≡◌, ◌++◌, ℕ, List, [], ◌∷◌, Option, Some, Ok, Err, refl, slice_get, sym, subst}
+use Rattle.std.proofs.Common.{◌≡◌, ◌++◌, ℕ, zero, suc, All, List, [], ◌∷◌, Option, Some, Ok, Err, refl, slice_get, sym, subst}
+use Rattle.std.proofs.lemmas.List.Elements.{All-head, All-tail}
 use Rattle.bal_base.specs.declared.fault.Fault.{Fault}
 use Rattle.bal_base.specs.declared.stop.Stop.TheVariants.{Fault as OwnFault}
 use Rattle.bal_tree.specs.declared.action.Peer.{Peer}
@@ -28,3 +29,9 @@ told s fault = (refl, refl)
 pub result-refused : (s : State) (w : ℕ) (fault : Fault) → slice_get s.site.results w ≡ Some (Err fault) → Comes (result_of w) s (Err (OwnFault fault)) s
 result-refused s w fault is =
     next _ _ _ _ _ s.site s (site-now s) (subst (λ k. Comes (known_result k) s (Err (OwnFault fault)) s) (sym is) (told s fault))
+
+-- what holds of all results holds of that of a worker
+pub result-has : {A : Type 0} (P : A → Type 0) (xs : List A) (k : ℕ) (x : A) → All P xs → slice_get xs k ≡ Some x → P x
+result-has P [] k x h is = absurd (cc)
+result-has P (y ∷ ys) zero x h is = let same : y ≡ x = cc in subst P same (All-head P y ys h)
+result-has P (y ∷ ys) (suc k) x h is = result-has P ys k x (All-tail P y ys h) is

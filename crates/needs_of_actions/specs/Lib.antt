@@ -1,2 +1,4 @@
+pub mod Awaited
 pub mod Failing
+pub mod Futures
 pub mod LastWant

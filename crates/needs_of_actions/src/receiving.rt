@@ -120,6 +120,7 @@ fn receive(
 pub fn receives<T: Types>(checker: &mut Checker<'_, T>, expected: Expected, peer: &Peer, at: Place)
     requires { Holds (T.atoms checker.old.types) checker.old.names.now checker.old.work }
     ensures holds { Holds (T.atoms checker.new.types) checker.new.names.now checker.new.work }
+    ensures names { checker.new.names.now ≡ checker.old.names.now }
     ensures met { Runs (meets T.passes checker.old.names.now) (one (Receives expected peer.now at)) (going (T.atoms checker.old.types) checker.old.work) (going (T.atoms checker.new.types) checker.new.work) }
 {
     if has_stopped(&checker.work) {
