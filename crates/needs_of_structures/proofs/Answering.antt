@@ -1,5 +1,5 @@
 -- What a call answered, and what holds behind it.
-use Rattle.std.proofs.Common.{◌≡◌, ◌<◌, ℕ, List, length, Option, IfSome, Result, Ok, Err, OnOk, subst, sym}
+use Rattle.std.proofs.Common.{◌≡◌, List, Result, Ok, Err, OnOk, subst, sym}
 use Rattle.bal_base.specs.declared.fault.Fault.{Fault}
 use Rattle.bal_base.specs.declared.stop.Stop.{Stop}
 use Rattle.type_model.specs.declared.atoms.AtomDef.{AtomDef}
@@ -22,6 +22,3 @@ kept-same old new e = subst (KeepsTypes old) (sym e) (KeepsTypes-same old)
 
 pub stands-over : (s : State) (env : List AtomDef) → env ≡ s.atoms → Stands s → Stands (record s { atoms = env })
 stands-over s env e h = subst (λ (n : List AtomDef). Stands (record s { atoms = n })) (sym e) h
-
-pub chosen-below : (atom : Option ℕ) (old new : List AtomDef) → new ≡ old → IfSome atom (λ a. a < length old) → IfSome atom (λ a. a < length new)
-chosen-below atom old new e h = subst (λ (n : List AtomDef). IfSome atom (λ a. a < length n)) (sym e) h

@@ -1,5 +1,5 @@
 -- Members that fit, and what is said of them by other handles.
-use Rattle.std.proofs.Common.{◌≡◌, ◌++◌, ℕ, Bool, true, false, List, [], ◌∷◌, length, Option, Some, None, Result, Ok, Err, inl, inr, refl, sym, subst, ap}
+use Rattle.std.proofs.Common.{◌≡◌, Bool, true, false, List, [], ◌∷◌, length, Option, Result, Ok, Err, inl, inr, refl, sym, subst, ap}
 use Rattle.bal_base.specs.declared.fault.Fault.{Fault}
 use Rattle.bal_base.specs.declared.place.Place.{Place}
 use Rattle.bal_base.specs.declared.stop.Stop.{Stop}
@@ -15,9 +15,8 @@ use Rattle.typed_tree.specs.declared.expr.TypedExpr.{TypedExpr}
 use Rattle.typed_tree.specs.SharedTypes.{Shared, sem_of}
 use Rattle.descriptors.specs.Described.{IsCopy}
 use Rattle.expr_needs.specs.declared.kind.Kind.{Kind}
-use Rattle.expr_needs.specs.declared.kind.Kind.TheVariants as kind
 use Rattle.check_kinds.specs.Over.{ComesOver}
-use Rattle.check_words.specs.Constructors.{is_detail, is_item, is_member, with_member}
+use Rattle.check_words.specs.Constructors.{is_detail, is_item, with_member}
 use Rattle.check_words.specs.Stands.{Stands}
 use Rattle.check_words.specs.State.{ConstructorAtWork, IsLast, State, all_but}
 use Rattle.check_words.specs.Values.{widened, widens_to}
@@ -25,8 +24,9 @@ use Rattle.check_words.specs.Words.{Atoms, OfKind, sets_constructor, whether_wit
 use Rattle.check_words.proofs.Coming.{became-this, given, next}
 use Rattle.check_words.proofs.Standing.{also-has, others-have, stands-wants}
 use Rattle.needs_of_structures.specs.Changed.{IsChanged}
-use Rattle.needs_of_structures.specs.Fitting.{IsTaken, copied, fits_detail, fits_item, fits_member, fits_so, frozen_so, member_so}
+use Rattle.needs_of_structures.specs.Fitting.{IsTaken, copied, fits_detail, fits_item, fits_so, frozen_so}
 use Rattle.needs_of_structures.proofs.Opening.{changed-comes, changed-stands, last-is, same-last}
+use Rattle.expr_needs.specs.declared.kind.Kind.TheVariants as kind
 
 module _ (passes : List AtomDef → Asked → TypeLimit → Type 0) where
   -- ---- the last ones
@@ -34,9 +34,6 @@ module _ (passes : List AtomDef → Asked → TypeLimit → Type 0) where
   module _ (at : Place) (s : State) (c : ConstructorAtWork) (e : TypedExpr) (r : Result Ty (Stop Fault)) (new : State) (lc : IsLast s.constructors c) (le : IsLast s.found e) where
     pub item-fits : (w : Option Shared) → IsLast s.wants w → Comes (fits_so passes c e w at) s r new → Comes (fits_item passes at) s r new
     item-fits w lw h = next _ _ _ _ _ c s (given _ s c lc) (next _ _ _ _ _ e s (given _ s e le) (next _ _ _ _ _ w s (given _ s w lw) h))
-
-    pub member-fits : (w : Option Shared) → IsLast s.wants w → Comes (member_so passes c e w at) s r new → Comes (fits_member passes at) s r new
-    member-fits w lw h = next _ _ _ _ _ c s (given _ s c lc) (next _ _ _ _ _ e s (given _ s e le) (next _ _ _ _ _ w s (given _ s w lw) h))
 
     pub detail-fits : Comes (frozen_so passes e at) s r new → Comes (fits_detail passes at) s r new
     detail-fits h = next _ _ _ _ _ c s (given _ s c lc) (next _ _ _ _ _ e s (given _ s e le) h)
@@ -96,62 +93,6 @@ module _ (passes : List AtomDef → Asked → TypeLimit → Type 0) where
     item-refused (OwnFault f) new (inr (c, m1, lc, inr (e, m2, le, inr (w, m3, lw, inr (a, m4, below, inr (b, m5, may, inl added)))))) =
         inr (c, m1, lc, inr (e, m2, le, inr (w, m3, lw, inr (a, m4, below, inr (b, m5, may, inl (inl added))))))
     item-refused (OwnFault f) new (inr (c, m1, lc, inr (e, m2, le, inr (w, m3, lw, inr (a, m4, below, inr (b, m5, may, inr (u, m6, added, copy))))))) = absurd copy
-
-    pub member-taken : (t : Ty) (new : State) → Comes (fits_member passes at) s (Ok t) over → IsTaken t over new → Comes (is_member passes at) s (Ok tt) new
-    unfolding Comes ◌▷◌ gives_some
-    member-taken t new (c, m1, (lc, x1), (e, m2, le, (w, m3, lw, (a, m4, below, (k, m7, key, (b, m5, may, (u, m6, added, copy))))))) g =
-        let mid : State = record over { constructors = new.constructors } in
-        let same : g.changed.c ≡ c = same-last s.constructors g.changed.c c (last-is over (with_member t) new.constructors g.changed) lc in (
-          c,
-          m1,
-          (lc, x1),
-          (
-            e,
-            m2,
-            le,
-            (
-              w,
-              m3,
-              lw,
-              (
-                a,
-                m4,
-                below,
-                (
-                  k,
-                  m7,
-                  key,
-                  (
-                    b,
-                    m5,
-                    may,
-                    (
-                      tt,
-                      mid,
-                      (u, m6, added, (t, over, copy, subst (λ d. Comes (sets_constructor (with_member t d)) over (Ok tt) mid) same (changed-comes over (with_member t) new.constructors g.changed))),
-                      became-this _ mid new g.after,
-                    ),
-                  ),
-                ),
-              ),
-            ),
-          ),
-        )
-
-    pub member-refused : (stop : Stop Fault) (new : State) → Comes (fits_member passes at) s (Err stop) new → Comes (is_member passes at) s (Err stop) new
-    unfolding Comes ◌▷◌ gives_some
-    member-refused Memory new h = tt
-    member-refused (OwnFault f) new (inl h) = absurd h
-    member-refused (OwnFault f) new (inr (c, m1, lc, inl h)) = absurd h
-    member-refused (OwnFault f) new (inr (c, m1, lc, inr (e, m2, le, inl h))) = absurd h
-    member-refused (OwnFault f) new (inr (c, m1, lc, inr (e, m2, le, inr (w, m3, lw, inl below)))) = inr (c, m1, lc, inr (e, m2, le, inr (w, m3, lw, inl below)))
-    member-refused (OwnFault f) new (inr (c, m1, lc, inr (e, m2, le, inr (w, m3, lw, inr (a, m4, below, inl key))))) =
-        inr (c, m1, lc, inr (e, m2, le, inr (w, m3, lw, inr (a, m4, below, inl key))))
-    member-refused (OwnFault f) new (inr (c, m1, lc, inr (e, m2, le, inr (w, m3, lw, inr (a, m4, below, inr (k, m7, key, inl may)))))) =
-        inr (c, m1, lc, inr (e, m2, le, inr (w, m3, lw, inr (a, m4, below, inr (k, m7, key, inl may)))))
-    member-refused (OwnFault f) new (inr (c, m1, lc, inr (e, m2, le, inr (w, m3, lw, inr (a, m4, below, inr (k, m7, key, inr (b, m5, may, inl added))))))) =
-        inr (c, m1, lc, inr (e, m2, le, inr (w, m3, lw, inr (a, m4, below, inr (k, m7, key, inr (b, m5, may, inl (inl added)))))))
-    member-refused (OwnFault f) new (inr (c, m1, lc, inr (e, m2, le, inr (w, m3, lw, inr (a, m4, below, inr (k, m7, key, inr (b, m5, may, inr (u, m6, added, copy)))))))) = absurd copy
 
     pub detail-taken : (t : Ty) (cs : List ConstructorAtWork) → Comes (fits_detail passes at) s (Ok t) over → IsChanged (with_member t) s.constructors cs
         → Comes (is_detail passes at) s (Ok tt) (record over { constructors = cs })

@@ -1,6 +1,5 @@
 pub mod Answering
 pub mod Asking
-pub mod Chosen
 pub mod Fitting
 pub mod Implied
 pub mod Made

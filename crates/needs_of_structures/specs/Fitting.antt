@@ -1,28 +1,21 @@
 -- What is asked of a member, step by step.
-use Rattle.std.specs.Prelude.{◌≡◌, ℕ, List, Option, Some, None, length, slice_get, unwrap_or}
+use Rattle.std.specs.Prelude.{◌≡◌, ℕ, List, Option, Some}
 use Rattle.bal_base.specs.declared.place.Place.{Place}
-use Rattle.bal_base.specs.declared.shape.Shape.{Str}
-use Rattle.bal_base.specs.declared.text.Text.{Text}
-use Rattle.checks.specs.Checks.{Check, gives_some, ◌▷◌}
-use Rattle.descriptors.specs.Described.{IsCopy, plain}
-use Rattle.operations.specs.Structures.{IsListAtom, IsMappingAtom}
+use Rattle.checks.specs.Checks.{Check, ◌▷◌}
+use Rattle.descriptors.specs.Described.{IsCopy}
+use Rattle.operations.specs.Structures.{IsListAtom}
 use Rattle.type_model.specs.declared.answers.TypeLimit.{TypeLimit}
 use Rattle.type_model.specs.declared.atoms.AtomDef.{AtomDef}
 use Rattle.type_model.specs.declared.atoms.AtomDef.TheVariants.{List as ListAtom, Mapping as MappingAtom, Arrow, Error as ErrorAtom, Future as FutureAtom}
-use Rattle.type_model.specs.declared.basic.BasicSet.TheVariants.{Never}
-use Rattle.type_model.specs.declared.atoms.FieldDef.{FieldDef}
-use Rattle.type_model.specs.declared.basic.SemType.{Basic, SemType}
 use Rattle.type_model.specs.declared.basic.Ty.{Ty}
 use Rattle.type_model.specs.Calls.{Asked}
-use Rattle.type_model.specs.Membership.{In}
 use Rattle.type_model.specs.Places.{item_type}
-use Rattle.type_model.specs.SameType.{IsSameType}
 use Rattle.typed_tree.specs.declared.expr.TypedExpr.{TypedExpr}
 use Rattle.typed_tree.specs.Exprs.{type_of}
 use Rattle.typed_tree.specs.SharedTypes.{Shared}
-use Rattle.check_words.specs.Constructors.{IsLastKey, IsWantCopy, added_type, fields_of_choice, fits_fields, fits_keys, is_frozen, may_stand, member_type, with_member}
+use Rattle.check_words.specs.Constructors.{added_type, is_frozen, may_stand, with_member}
 use Rattle.check_words.specs.State.{ConstructorAtWork, State, all_but}
-use Rattle.check_words.specs.Words.{Atoms, Step, below_if, last_constructor, last_part, last_two, last_want, sem, some_over}
+use Rattle.check_words.specs.Words.{Atoms, below_if, last_constructor, last_part, last_want, some_over}
 use Rattle.needs_of_structures.specs.Changed.{IsChanged}
 
 -- the type at a place of these lists
@@ -36,49 +29,6 @@ IsItemIn (FutureAtom outcome) place t = ⊥
 -- the same of an atom
 abbrev pub IsItemOf : Atoms → ℕ → ℕ → Ty → Type 0
 IsItemOf env atom place t = IsListAtom env atom (λ fixed rest. item_type fixed rest place ≡ Some t)
-
--- what is wanted is a copy of the type at the key of these mappings, or of `never` where there is none
-abbrev pub IsKeyCopy : AtomDef → Option Text → Option Shared → Type 0
-IsKeyCopy (MappingAtom fields rest) key w = IsWantCopy (unwrap_or (member_type fields rest key) (plain (Basic Never))) w
-IsKeyCopy (ListAtom fixed rest) key w = ⊥
-IsKeyCopy (Arrow args outcome alone) key w = ⊥
-IsKeyCopy (ErrorAtom detail) key w = ⊥
-IsKeyCopy (FutureAtom outcome) key w = ⊥
-
--- the same of an atom
-abbrev pub IsKeyCopyOf : Atoms → ℕ → Option Text → Option Shared → Type 0
-IsKeyCopyOf env atom key w = IsMappingAtom env atom (λ fields rest. IsWantCopy (unwrap_or (member_type fields rest key) (plain (Basic Never))) w)
-
--- ---- fields
-
--- the fields of the mappings of an atom, the one at a place, and how many there are
-abbrev pub IsFieldsOf : Atoms → ℕ → List FieldDef → Type 0
-IsFieldsOf env atom fields = IsMappingAtom env atom (λ fs rest. fields ≡ fs)
-
-abbrev pub IsFieldIn : AtomDef → ℕ → FieldDef → Type 0
-IsFieldIn (MappingAtom fields rest) place f = slice_get fields place ≡ Some f
-IsFieldIn (ListAtom fixed rest) place f = ⊥
-IsFieldIn (Arrow args outcome alone) place f = ⊥
-IsFieldIn (ErrorAtom detail) place f = ⊥
-IsFieldIn (FutureAtom outcome) place f = ⊥
-
-abbrev pub IsFieldAt : Atoms → ℕ → ℕ → FieldDef → Type 0
-IsFieldAt env atom place f = IsMappingAtom env atom (λ fields rest. slice_get fields place ≡ Some f)
-
-abbrev pub HasCount : AtomDef → ℕ → Type 0
-HasCount (MappingAtom fields rest) n = n ≡ length fields
-HasCount (ListAtom fixed rest) n = ⊥
-HasCount (Arrow args outcome alone) n = ⊥
-HasCount (ErrorAtom detail) n = ⊥
-HasCount (FutureAtom outcome) n = ⊥
-
-abbrev pub IsCountOf : Atoms → ℕ → ℕ → Type 0
-IsCountOf env atom n = IsMappingAtom env atom (λ fields rest. n ≡ length fields)
-
--- the field's type, if the key may be its name
-abbrev pub IsAsked : Atoms → SemType → FieldDef → Option SemType → Type 0
-IsAsked env key f None = ¬ In env (Str f.name) key
-IsAsked env key f (Some t) = In env (Str f.name) key × IsSameType f.ty.sem t
 
 -- ---- members
 
@@ -104,25 +54,6 @@ module _ (passes : List AtomDef → Asked → TypeLimit → Type 0) where
 
   abbrev pub fits_item : Place → Check State Ty
   fits_item at = last_constructor ▷ λ c. last_part ▷ λ e. last_want ▷ λ w. fits_so c e w at
-
-  -- each field of the atom whose name the key may be
-  abbrev pub all_fields_fit : TypedExpr → TypedExpr → ℕ → Place → Step
-  all_fields_fit key e atom at = fields_of_choice passes atom ▷ λ fields. fits_fields passes (sem key) e at fields
-
-  abbrev pub computed_fits : ℕ → Place → Step
-  computed_fits atom at = last_two ▷ λ p. all_fields_fit p.0 p.1 atom at
-
-  abbrev pub has_right_key : ConstructorAtWork → Place → Step
-  has_right_key c at = gives_some (λ s key. IsLastKey c key) ▷ λ key. fits_keys passes c.choice key at
-
-  abbrev pub keyed_so : ConstructorAtWork → TypedExpr → Place → Check State Ty
-  keyed_so c e at = has_right_key c at ▷ λ u. stands_so c e at
-
-  abbrev pub member_so : ConstructorAtWork → TypedExpr → Option Shared → Place → Check State Ty
-  member_so c e w at = below_if passes w e at ▷ λ u. keyed_so c e at
-
-  abbrev pub fits_member : Place → Check State Ty
-  fits_member at = last_constructor ▷ λ c. last_part ▷ λ e. last_want ▷ λ w. member_so c e w at
 
   -- the type that the detail adds
   abbrev pub frozen_so : TypedExpr → Place → Check State Ty

@@ -1,4 +1,3 @@
 pub mod Changed
-pub mod Choosing
 pub mod Fitting
 pub mod Making

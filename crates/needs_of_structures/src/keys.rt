@@ -27,7 +27,7 @@ use std::alloc::Global;
 use type_model::Types;
 
 /// A constructor that has neither keys nor members.
-pub(crate) fn new_constructor(alloc: Global, choice: Option<u32>, immutable: bool) -> Constructor
+pub fn new_constructor(alloc: Global, choice: Option<u32>, immutable: bool) -> Constructor
     ensures { constructor_of result ≡ at_work choice immutable }
 {
     Constructor {

@@ -8,6 +8,8 @@
 //! - [`expects_item`]: what is expected of members.
 //! - [`is_item`], [`is_detail`]: members that were found.
 //! - [`lacks_cause`], [`makes_list`], [`makes_mapping`], [`makes_error`]: what they make.
+//! - [`new_constructor`], [`want_copy`]; [`Found`], [`last_member`], [`below_want`], [`stood`], [`take_member`]: what further needs of
+//!   constructors are put together of.
 #![tactic(auto)]
 
 mod keys;
@@ -16,7 +18,7 @@ mod members;
 mod parts;
 mod wants;
 
-pub use keys::{begins_keys, computes_key, gives_key, takes_key};
+pub use keys::{begins_keys, computes_key, gives_key, new_constructor, takes_key};
 pub use making::{lacks_cause, makes_error, makes_list, makes_mapping};
-pub use members::{is_detail, is_item};
-pub use wants::expects_item;
+pub use members::{Found, below_want, is_detail, is_item, last_member, stood, take_member};
+pub use wants::{expects_item, want_copy};

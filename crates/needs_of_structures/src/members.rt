@@ -37,8 +37,9 @@ use typed_tree::{SharedTy, TypedExpr};
 
 // ---- what is asked
 
-/// The member is below what is wanted, if something is: else `NotSubtype` at the place.
-pub(crate) fn below_want<T: Types>(
+/// The member is below what is wanted, if something is: else `NotSubtype` at the place, or `TypeLimit` where the question is too large. It is
+/// one question of the decider.
+pub fn below_want<T: Types>(
     alloc: Global,
     types: &mut T,
     want: &Option<SharedTy>,
@@ -162,8 +163,12 @@ fn added<T: Types>(
     }
 }
 
-/// The type that the member adds, where it may stand in the structure.
-pub(crate) fn stood<T: Types>(
+/// The type that the member adds to those of the construct, where it may stand in the structure: where nothing was chosen it is widened.
+/// Some four questions at most, and a copy of the type.
+///
+/// - `ReadOnlyHolds` at the place: the structure is immutable, and the member isn't immutable data.
+/// - `TypeLimit` at the place: a question is too large.
+pub fn stood<T: Types>(
     alloc: Global,
     types: &mut T,
     own: &OwnTypes,
@@ -185,14 +190,14 @@ pub(crate) fn stood<T: Types>(
 
 /// A member that was found: the constructor, the part, and what was expected of it.
 #[derive(Clone, Copy)]
-pub(crate) struct Found<'a> {
-    pub(crate) constructor: &'a Constructor,
-    pub(crate) part: &'a TypedExpr,
-    pub(crate) want: &'a Option<SharedTy>,
+pub struct Found<'a> {
+    pub constructor: &'a Constructor,
+    pub part: &'a TypedExpr,
+    pub want: &'a Option<SharedTy>,
 }
 
-/// The last ones.
-pub(crate) fn last_member<'a>(work: &'a Work<'_>) -> Option<Found<'a>>
+/// The last constructor, part and want, where there are all three. It costs the same however many there are.
+pub fn last_member<'a>(work: &'a Work<'_>) -> Option<Found<'a>>
     ensures constructor { IfSome result (λ f. IsLast (map constructor_of work.now.constructors.items) (constructor_of f.constructor.now)) }
     ensures part { IfSome result (λ f. IsLast work.now.found.items f.part.now) }
     ensures want { IfSome result (λ f. IsLast work.now.wants.items f.want.now) }
@@ -260,8 +265,9 @@ fn add_member(constructors: &mut Vec<Constructor>, ty: Ty) -> Result<(), Memory>
     Ok(())
 }
 
-/// A member more, of this type; nothing is expected of it any more.
-pub(crate) fn take_member(work: &mut Work<'_>, ty: Ty) -> Result<(), Memory>
+/// A member more of the constructor at hand, of this type; nothing is expected of it any more. Where no constructor is open it is as if
+/// memory were wanted.
+pub fn take_member(work: &mut Work<'_>, ty: Ty) -> Result<(), Memory>
     ensures { (env : List Atom) → OnOk result (IsTaken ty (state_of env work.old) (state_of env work.new)) }
 {
     add_member(&mut work.constructors, ty)?;

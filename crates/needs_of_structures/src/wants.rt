@@ -24,8 +24,8 @@ use std::rc::Rc;
 use type_model::{AtomDef, Ty, Types};
 use typed_tree::SharedTy;
 
-/// A copy of the type, to be wanted.
-pub(crate) fn want_copy(alloc: Global, t: &Ty) -> Result<Option<SharedTy>, Memory>
+/// A copy of the type, to be wanted. It costs by how much is written of the type.
+pub fn want_copy(alloc: Global, t: &Ty) -> Result<Option<SharedTy>, Memory>
     ensures { IfOk result (IsWantCopy t.now) }
 {
     let t = copy(alloc, t)?;

@@ -11,10 +11,10 @@ use Rattle.type_model.specs.declared.basic.Ty.{Ty}
 use Rattle.type_model.specs.Calls.{Asked}
 use Rattle.typed_tree.specs.SharedTypes.{Shared}
 use Rattle.expr_needs.specs.declared.expected.Expected.{Expected}
-use Rattle.expr_needs.specs.declared.expected.Expected.TheVariants as expected
 use Rattle.check_words.specs.Constructors.{IsReadonlyType, first_fit}
 use Rattle.check_words.specs.State.{State}
 use Rattle.check_words.specs.Words.{Atoms, last_want, whether_within}
+use Rattle.expr_needs.specs.declared.expected.Expected.TheVariants as expected
 
 abbrev pub Chosen : Type 0
 Chosen = Option ℕ × Bool

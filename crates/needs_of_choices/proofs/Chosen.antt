@@ -1,5 +1,6 @@
 -- What was chosen is what a constructor is opened with.
-use Rattle.std.proofs.Common.{◌≡◌, ◌<◌, ◌++◌, ℕ, true, false, List, [], ◌∷◌, Option, Some, None, IfOk, IfSome, Result, Ok, Err, inl, inr, refl, sym, subst}
+use Rattle.std.proofs.Common.{◌≡◌, ◌==◌, ◌∙◌, Bool, ◌<◌, ◌++◌, ℕ, true, false, List, [], ◌∷◌, Option, Some, None, IfOk, IfSome, Result, Ok, Err, inl, inr, refl, sym, subst, length}
+use Rattle.std.proofs.lemmas.Bool.{false≢true}
 use Rattle.bal_base.specs.declared.fault.Fault.{Fault}
 use Rattle.bal_base.specs.declared.place.Place.{Place}
 use Rattle.bal_base.specs.declared.stop.Stop.{Stop}
@@ -12,13 +13,14 @@ use Rattle.type_model.specs.declared.basic.Ty.{Ty}
 use Rattle.type_model.specs.Calls.{Asked}
 use Rattle.typed_tree.specs.SharedTypes.{Shared}
 use Rattle.expr_needs.specs.declared.expected.Expected.{Expected}
-use Rattle.expr_needs.specs.declared.expected.Expected.TheVariants as expected
 use Rattle.check_kinds.specs.Over.{ComesOver}
 use Rattle.check_kinds.proofs.Over.{over-on, over-some, over-stops}
 use Rattle.check_words.specs.Constructors.{IsReadonlyType, at_work, chooses_by, chooses_constructor, chooses_for, first_fit}
 use Rattle.check_words.specs.State.{State}
 use Rattle.check_words.specs.Words.{Atoms, Step, last_want, opens_constructor, whether_within}
-use Rattle.needs_of_structures.specs.Choosing.{Chosen, HasSome, IsFromFirst, chosen, chosen_by, chosen_for, unchosen}
+use Rattle.needs_of_choices.specs.Choosing.{Chosen, HasSome, IsFromFirst, chosen, chosen_by, chosen_for, unchosen}
+use Rattle.check_words.proofs.Coming.{given}
+use Rattle.expr_needs.specs.declared.expected.Expected.TheVariants as expected
 
 abbrev pub opens : Chosen → Step
 opens p = opens_constructor (at_work p.0 p.1)
@@ -92,3 +94,12 @@ module _ (n : ℕ) where
   pub none-below : (r : Result Chosen (Stop Fault)) → IfOk r (λ p. p.0 ≡ None) → ChosenBelow r
   none-below (Ok p) h = subst (λ o. IfSome o (λ atom. atom < n)) (sym h) tt
   none-below (Err stop) h = tt
+
+-- over atoms that stayed as they were
+pub chosen-below : (atom : Option ℕ) (old new : List AtomDef) → new ≡ old → IfSome atom (λ a. a < length old) → IfSome atom (λ a. a < length new)
+chosen-below atom old new e h = subst (λ (n : List AtomDef). IfSome atom (λ a. a < length n)) (sym e) h
+
+-- a list that isn't empty has one
+pub some-first : (xs ys : List Choice) (b : Bool) → b ≡ (length xs == 0) → b ≡ false → HasSome (xs ++ ys)
+some-first [] ys b e is = absurd (false≢true (sym is ∙ e))
+some-first (x ∷ xs) ys b e is = tt

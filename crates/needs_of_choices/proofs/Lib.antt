@@ -1,0 +1,4 @@
+pub mod Chosen
+pub mod FieldByField
+pub mod MembersByKeys
+pub mod WantedByKeys
