@@ -1,0 +1,4 @@
+pub mod ClauseSteps
+pub mod EndSteps
+pub mod MatchSteps
+pub mod PatternSteps
