@@ -80,7 +80,7 @@ parameter-put u m name t declared slot p w g e at same more made added =
               (with-same u.flow (parameter name (length u.slots) t false) (parameter name slot declared false) variable);
         }
 
-with-parameter-below : (n : ℕ) (name : Name) (t : Shared) (u : UnitAtWork) → SharedBelow n t → UnitBelow n u → UnitBelow n (with_parameter name t u)
+pub with-parameter-below : (n : ℕ) (name : Name) (t : Shared) (u : UnitAtWork) → SharedBelow n t → UnitBelow n u → UnitBelow n (with_parameter name t u)
 with-parameter-below n name t u below h =
     record {
       slots = also-has (SharedBelow n) u.slots t h.slots below;

@@ -61,8 +61,8 @@ pub fn begins_anonymous<T: Types>(checker: &mut Checker<'_, T>)
     note_made(&checker.types, &mut checker.work, made);
 }
 
-/// A parameter more, in the next slot of the unit.
-fn put_parameter(unit: &mut Unit, name: &Name, t: SharedTy) -> Result<(), Memory>
+/// A parameter more, in the next slot of the unit. Where it has too many it is as if memory were wanted.
+pub fn put_parameter(unit: &mut Unit, name: &Name, t: SharedTy) -> Result<(), Memory>
     ensures { OnOk result (SameUnit (with_parameter name.now t (unit_of unit.old)) (unit_of unit.new)) }
 {
     if unit.params == u32::MAX {

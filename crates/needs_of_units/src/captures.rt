@@ -20,9 +20,9 @@ use typed_tree::{Captured, SharedTy};
 
 /// A variable that a body captures, and the place of its first use.
 #[derive(Clone, Copy)]
-pub(crate) struct Capture<'v> {
-    pub(crate) variable: &'v Variable,
-    pub(crate) at: Place,
+pub struct Capture<'v> {
+    pub variable: &'v Variable,
+    pub at: Place,
 }
 
 fn is_captured(captures: &[Capture<'_>], name: &Name) -> bool
@@ -67,7 +67,7 @@ fn capture_named<'v>(
 }
 
 /// Of the variables those that the words use, each once, at its first use. It costs by the variables for each of the words.
-pub(crate) fn captures<'v>(
+pub fn find_captures<'v>(
     alloc: Global,
     variables: &'v [Variable],
     uses: &[Word],
@@ -162,11 +162,7 @@ fn capture_into(unit: &mut Unit, c: &Capture<'_>, in_worker: bool) -> Result<(),
 }
 
 /// The captured variables stand in the next slots of the unit.
-pub(crate) fn capture_all(
-    unit: &mut Unit,
-    cs: &[Capture<'_>],
-    in_worker: bool,
-) -> Result<(), Memory>
+pub fn capture_all(unit: &mut Unit, cs: &[Capture<'_>], in_worker: bool) -> Result<(), Memory>
     ensures { OnOk result (SameUnit (with_captures in_worker (map capture_of cs.now) (unit_of unit.old)) (unit_of unit.new)) }
 {
     for c in cs {

@@ -8,9 +8,8 @@
 //! - [`names_parameter`], [`ends_function`], [`ends_value_function`]: functions.
 //! - [`begins_worker`], [`ends_worker`]: workers, which capture variables of the initial part (`specs/Captures.antt`).
 //! - [`begins_anonymous`], [`has_parameter`]: anonymous functions.
-//!
-//! Needs that have no call yet: those of initial values and constants, the beginning of a function, and of anonymous functions the rest
-//! parameter, the value and the end.
+//! - [`new_number`], [`empty_unit`], [`open_unit`], [`close_unit`], [`finished`], [`put_parameter`], [`Capture`], [`find_captures`], [`capture_all`]:
+//!   units as they are opened, filled and closed, for the needs of `needs_of_functions` too.
 #![tactic(auto)]
 
 mod anonymous;
@@ -22,8 +21,10 @@ mod parameters;
 mod units;
 mod workers;
 
-pub use anonymous::{begins_anonymous, has_parameter};
+pub use anonymous::{begins_anonymous, has_parameter, put_parameter};
+pub use captures::{Capture, capture_all, find_captures};
 pub use functions::{ends_function, ends_value_function};
 pub use modules::{ends_module, enters_file};
 pub use parameters::names_parameter;
+pub use units::{close_unit, empty_unit, finished, new_number, open_unit};
 pub use workers::{begins_worker, ends_worker};

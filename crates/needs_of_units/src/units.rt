@@ -29,7 +29,7 @@ fn put_in(around: &mut Vec<Unit>, at_hand: &mut Option<Unit>, unit: Unit) -> Res
 }
 
 /// The unit is at hand, and what was at hand stands around it.
-pub(crate) fn open_unit(work: &mut Work<'_>, unit: Unit) -> Result<(), Memory>
+pub fn open_unit(work: &mut Work<'_>, unit: Unit) -> Result<(), Memory>
     ensures stands { (env : List Atom) → UnitBelow (length env) (unit_of unit) → Stands (state_of env work.old) → OnOk result (Stands (state_of env work.new)) }
     ensures comes { (env : List Atom) (u : UnitAtWork) → SameUnit u (unit_of unit) → OnOk result (Comes (opens_unit u) (state_of env work.old) (Given tt) (state_of env work.new)) }
 {
@@ -49,7 +49,7 @@ fn outer(around: &mut Vec<Unit>) -> Option<Unit>
 }
 
 /// The unit at hand is taken, and the one around it is at hand. Where there is none it is as if memory were wanted.
-pub(crate) fn close_unit(work: &mut Work<'_>) -> Result<Unit, Memory>
+pub fn close_unit(work: &mut Work<'_>) -> Result<Unit, Memory>
     ensures stands { (env : List Atom) → Stands (state_of env work.old) → OnOk result (Stands (state_of env work.new)) }
     ensures below { (env : List Atom) → Stands (state_of env work.old) → IfOk result (λ u. UnitBelow (length env) (unit_of u)) }
     ensures comes { (env : List Atom) → IfOk result (λ u. Comes closes_unit (state_of env work.old) (Given (unit_of u)) (state_of env work.new)) }
@@ -71,13 +71,7 @@ pub(crate) fn small(number: usize) -> Result<u32, Memory>
 }
 
 /// A unit with this number of the worker, in which nothing is yet.
-pub(crate) fn empty_unit(
-    alloc: Global,
-    number: u32,
-    worker: u32,
-    gives: SharedTy,
-    reached: bool,
-) -> Unit
+pub fn empty_unit(alloc: Global, number: u32, worker: u32, gives: SharedTy, reached: bool) -> Unit
     ensures { unit_of result ≡ bare_unit number worker gives reached }
 {
     Unit {
@@ -99,7 +93,7 @@ pub(crate) fn empty_unit(
 }
 
 /// The number of a new unit. Where there are too many it is as if memory were wanted.
-pub(crate) fn new_number(work: &mut Work<'_>) -> Result<u32, Memory>
+pub fn new_number(work: &mut Work<'_>) -> Result<u32, Memory>
     ensures stands { (env : List Atom) → Stands (state_of env work.old) → OnOk result (Stands (state_of env work.new)) }
     ensures units { units_of work.new.around.items work.new.unit ≡ units_of work.old.around.items work.old.unit }
     ensures comes { (env : List Atom) → IfOk result (λ n. Comes new_number_of (state_of env work.old) (Given n) (state_of env work.new)) }
@@ -113,7 +107,7 @@ pub(crate) fn new_number(work: &mut Work<'_>) -> Result<u32, Memory>
 }
 
 /// The unit as typed trees have it, with these atoms of its own, and what it captures.
-pub(crate) fn finished(unit: Unit, arrow: u32, future: u32) -> (TypedUnit, Row<Captured>)
+pub fn finished(unit: Unit, arrow: u32, future: u32) -> (TypedUnit, Row<Captured>)
     ensures made { result.0 ≡ typed_unit_of (unit_of unit) arrow future }
     ensures captured { result.1 ≡ (unit_of unit).captured }
 {

@@ -24,7 +24,7 @@ ghost use Rattle.check_words.specs.Units.{begins_worker as begins_worker_of, end
 ghost use Rattle.check_work.specs.Views.{Holds, going, state_of, unit_of};
 ghost use Rattle.needs_of_units.specs.Parts.{GivesShared, IsKnown, IsSameStop, adds_worker, is_taken as is_taken_of, opens_worker};
 
-use crate::captures::{capture_all, captures};
+use crate::captures::{capture_all, find_captures};
 use crate::endings::end_by;
 use crate::units::{close_unit, empty_unit, finished, new_number, open_unit, small};
 use bal_base::{Fault, FaultCode, Kept, Memory, Name, Place, Stop};
@@ -153,7 +153,7 @@ fn worker_unit(
 {
     let own = small(worker)?;
     let variables = around.here.variables.as_slice();
-    let found = captures(alloc, variables, uses)?;
+    let found = find_captures(alloc, variables, uses)?;
     let mut unit = empty_unit(alloc, number, own, gives, around.here.reached);
     let all = found.as_slice();
     capture_all(&mut unit, all, true)?;
@@ -200,16 +200,16 @@ fn begin_worker(
 ///
 /// - `Duplicate` at its name: a variable that is seen or a worker before it has it.
 /// - The fault of the descriptor of its result, if that has one.
-pub fn begins_worker<T: Types>(checker: &mut Checker<'_, T>, w: &Worker, number: usize)
+pub fn begins_worker<T: Types>(checker: &mut Checker<'_, T>, worker: &Worker, number: usize)
     requires { Holds (T.atoms checker.old.types) checker.old.names.now checker.old.work }
     ensures holds { Holds (T.atoms checker.new.types) checker.new.names.now checker.new.work }
     ensures names { checker.new.names.now ≡ checker.old.names.now }
-    ensures met { Runs (meets T.passes checker.old.names.now) (one (BeginsWorker w.now number (members (used_in_block w.now.body)))) (going (T.atoms checker.old.types) checker.old.work) (going (T.atoms checker.new.types) checker.new.work) }
+    ensures met { Runs (meets T.passes checker.old.names.now) (one (BeginsWorker worker.now number (members (used_in_block worker.now.body)))) (going (T.atoms checker.old.types) checker.old.work) (going (T.atoms checker.new.types) checker.new.work) }
 {
     if has_stopped(&checker.work) {
         return;
     }
-    let answer = begin_worker(checker.alloc, &mut checker.work, w, number);
+    let answer = begin_worker(checker.alloc, &mut checker.work, worker, number);
     note(&checker.types, &mut checker.work, answer);
 }
 
@@ -266,11 +266,11 @@ fn end_worker<T: Types>(
 ///
 /// - `MissingReturn` at the brace: its end is reached, and nil isn't of its result.
 /// - `TypeLimit` there: the question is too large.
-pub fn ends_worker<T: Types>(checker: &mut Checker<'_, T>, w: &Worker)
+pub fn ends_worker<T: Types>(checker: &mut Checker<'_, T>, worker: &Worker)
     requires { Holds (T.atoms checker.old.types) checker.old.names.now checker.old.work }
     ensures holds { Holds (T.atoms checker.new.types) checker.new.names.now checker.new.work }
     ensures names { checker.new.names.now ≡ checker.old.names.now }
-    ensures met { Runs (meets T.passes checker.old.names.now) (one (EndsWorker w.now (out-Block w.now.body).close)) (going (T.atoms checker.old.types) checker.old.work) (going (T.atoms checker.new.types) checker.new.work) }
+    ensures met { Runs (meets T.passes checker.old.names.now) (one (EndsWorker worker.now (out-Block worker.now.body).close)) (going (T.atoms checker.old.types) checker.old.work) (going (T.atoms checker.new.types) checker.new.work) }
 {
     if has_stopped(&checker.work) {
         return;
@@ -280,7 +280,7 @@ pub fn ends_worker<T: Types>(checker: &mut Checker<'_, T>, w: &Worker)
         &mut checker.types,
         &checker.names.own,
         &mut checker.work,
-        w,
+        worker,
     );
     note(&checker.types, &mut checker.work, answer);
 }

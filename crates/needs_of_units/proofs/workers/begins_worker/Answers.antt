@@ -15,5 +15,5 @@ returns-clause-holds g c =
 pub returns-clause-met : goal.returns-clause-met
 returns-clause-met g c =
     let env = g.T.Types.atoms c.args.checker.now.types in
-    c.note.ensures.runs env c.args.checker.now.names.now (BeginsWorker c.args.w.now c.args.number (members (used_in_block c.args.w.now.body))) (going env c.args.checker.now.work) refl (c.has_stopped.ensures.goes_on c.if-has_stopped.false)
+    c.note.ensures.runs env c.args.checker.now.names.now (BeginsWorker c.args.worker.now c.args.number (members (used_in_block c.args.worker.now.body))) (going env c.args.checker.now.work) refl (c.has_stopped.ensures.goes_on c.if-has_stopped.false)
     (c.begin_worker-answer.ensures.comes env)

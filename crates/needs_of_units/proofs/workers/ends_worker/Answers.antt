@@ -18,5 +18,5 @@ returns-clause-holds g c =
 
 pub returns-clause-met : goal.returns-clause-met
 returns-clause-met g c =
-    c.note.ensures.runs _ c.args.checker.now.names.now (EndsWorker c.args.w.now (out-Block c.args.w.now.body).close) (going (g.T.Types.atoms c.args.checker.now.types) c.args.checker.now.work) refl
+    c.note.ensures.runs _ c.args.checker.now.names.now (EndsWorker c.args.worker.now (out-Block c.args.worker.now.body).close) (going (g.T.Types.atoms c.args.checker.now.types) c.args.checker.now.work) refl
     (c.has_stopped.ensures.goes_on c.if-has_stopped.false) c.end_worker-answer.ensures.comes

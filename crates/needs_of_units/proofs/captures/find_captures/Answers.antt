@@ -1,6 +1,6 @@
 use Rattle.std.proofs.Common.{arith}
 use Rattle.needs_of_units.proofs.Capturing.{captures-more}
-use Rattle.needs_of_units.proofs.captures.captures.Goals as goal
+use Rattle.needs_of_units.proofs.captures.find_captures.Goals as goal
 
 pub loop-word-preserved : goal.loop-word-preserved
 loop-word-preserved c =
