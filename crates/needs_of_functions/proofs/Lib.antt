@@ -1,0 +1,11 @@
+pub mod AtomsAdded
+pub mod Copying
+pub mod Defining
+pub mod Fitting
+pub mod FunctionsBegun
+pub mod FunctionsMade
+pub mod InTurn
+pub mod Initialising
+pub mod Resting
+pub mod Storing
+pub mod Zipping
