@@ -1,1 +1,3 @@
+pub mod Applied
 pub mod Expected
+pub mod Making

@@ -5,10 +5,17 @@
 //! of needs brings about, it is as if memory were wanted.
 //!
 //! - [`expects_argument`]: what the next argument of the call at hand has to be.
-//!
-//! Calls as they are made and started (`MakesCall`, `Starts`) aren't here yet.
+//! - [`makes_call`]: the call at hand is made.
+//! - [`starts`]: the call at hand is started.
 #![tactic(auto)]
 
+mod applied;
 mod expected;
+mod library;
+mod made;
+mod makers;
+mod started;
 
 pub use expected::expects_argument;
+pub use made::makes_call;
+pub use started::starts;

@@ -1,0 +1,15 @@
+use Rattle.std.proofs.Common.{◌⊎◌, None, length}
+use Rattle.descriptors.specs.Described.{IsPlain}
+use Rattle.operations.specs.Kinds.{IsError, IsInteger}
+use Rattle.typed_tree.specs.declared.form.StrictForm.TheVariants as form
+use Rattle.check_work.specs.Views.{state_of}
+use Rattle.needs_of_made_calls.proofs.Giving.{so-then-on}
+use Rattle.needs_of_made_calls.proofs.library.give_int_or_error.Goals as goal
+
+pub returns-in-Ok-clause-stands : goal.returns-in-Ok-clause-stands
+returns-in-Ok-clause-stands c = λ env h. c.give.ensures.stands env (c.in-Ok.ensures.defined (length env)) h
+
+pub returns-in-Ok-clause-comes : goal.returns-in-Ok-clause-comes
+returns-in-Ok-clause-comes c = λ env.
+    so-then-on c.args.what.count (form.Library c.args.what.call None None) c.args.what.at (λ e. IsPlain (λ x. IsInteger x ⊎ IsError x) e) c.in-Ok.ty (state_of env c.args.work.now) _
+    (c.in-Ok.ensures.is env) c.give.result (c.give.ensures.comes env)
