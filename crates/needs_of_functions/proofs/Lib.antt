@@ -8,4 +8,6 @@ pub mod InTurn
 pub mod Initialising
 pub mod Resting
 pub mod Storing
+pub mod UsedWords
+pub mod ValuesBegun
 pub mod Zipping

@@ -7,11 +7,12 @@
 //! - [`begins_initial`], [`ends_initial`]: variables of modules (`specs/Initials.antt`).
 //! - [`is_constant`]: constants with a type of their own.
 //! - [`begins_function`]: functions, and what their workers give (`specs/Results.antt`).
-//! - [`has_rest`], [`makes_anonymous`]: the rest parameter of an anonymous function, and its end
+//! - [`has_rest`], [`begins_value`], [`makes_anonymous`]: the rest parameter of an anonymous function, its value with what it captures, and its end
 //!   (`specs/Rests.antt`, `specs/Anonymous.antt`).
 #![tactic(auto)]
 
 mod anonymous;
+mod captured;
 mod constants;
 mod copies;
 mod described;
@@ -24,6 +25,7 @@ mod results;
 mod values;
 
 pub use anonymous::makes_anonymous;
+pub use captured::begins_value;
 pub use constants::is_constant;
 pub use functions::begins_function;
 pub use initials::begins_initial;
