@@ -8,7 +8,7 @@
 //! - [`is_argument`]: its arguments.
 //! - [`is_ignorable`], [`performs`]: statements that evaluate something.
 //!
-//! What an argument has to be (`ExpectsArgument`), and calls as they are made and started (`MakesCall`, `Starts`), aren't here yet.
+//! What an argument has to be, and calls as they are made and started, stand in `needs_of_made_calls`.
 #![tactic(auto)]
 
 mod arguments;
