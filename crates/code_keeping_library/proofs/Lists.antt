@@ -101,7 +101,7 @@ module _ (fillers : ℕ → List Filler) (code : Code) (t : WellTyped code) (pla
   int-fits n int s has = (good.nearly.heap.closed, (tt, int, tt), (λ y ok st. has y ok (n, its-shape code c (IntConstant n) y st)))
 
 module _ (fillers : ℕ → List Filler) (code : Code) (t : WellTyped code) (place : Surroundings) (c : Common) where
-  abbrev Row : LibraryCall → Type 0
+  abbrev pub Row : LibraryCall → Type 0
   Row call = (atom : Option ℕ) (count : ℕ) → NamesWell code (op.Library call atom count) → RowHolds code fillers LibraryAnswers c place (op.Library call atom count)
 
   -- the keys of a mapping
@@ -133,7 +133,7 @@ module _ (fillers : ℕ → List Filler) (code : Code) (t : WellTyped code) (pla
       let (x, ex, same) = from-map (λ (c : ℕ). Int (pos c)) s i v ev in
       subst (λ z. Fits code c z r) same (int-fits fillers code t place c good (pos x) (char-int s i x ex fs.1.1) r items)))) f)
 
-of-row : (call : LibraryCall) → ((fillers : ℕ → List Filler) (code : Code) (t : WellTyped code) (place : Surroundings) (c : Common) → Row fillers code t place c call) → CallIsDone call
+pub of-row : (call : LibraryCall) → ((fillers : ℕ → List Filler) (code : Code) (t : WellTyped code) (place : Surroundings) (c : Common) → Row fillers code t place c call) → CallIsDone call
 of-row call row fillers atom count code c t =
     row-done-at LibraryAnswers fillers code c t (op.Library call atom count) refl (λ h. h) (takes-all count (op.Library call atom count) (λ captured l. refl) (λ code place os r h. h.0))
     (λ u station names. row fillers code t (surroundings code u station) c atom count names)

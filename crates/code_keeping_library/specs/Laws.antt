@@ -1,7 +1,7 @@
 -- What steps of well-typed code keep that call the library, as laws.
 use Rattle.std.specs.Prelude.{ℕ, List, Option}
 use Rattle.operations.specs.declared.library.LibraryCall.{LibraryCall}
-use Rattle.operations.specs.declared.library.LibraryCall.TheVariants.{Abs, Cause, HasKey, Keys, ListLength, MappingLength, Message, Print, Println, Readln, StartsWith, Substring, ToCodePointInts, ToLowerAscii, ToUpperAscii, Trim}
+use Rattle.operations.specs.declared.library.LibraryCall.TheVariants.{Abs, Cause, Detail, FromString, Get, HasKey, Keys, ListLength, MappingLength, Message, Print, Println, Readln, Reverse, Slice, StartsWith, Substring, ToCodePointInts, ToLowerAscii, ToString, ToUpperAscii, Trim}
 use Rattle.operations.specs.declared.operation.Operation.TheVariants as op
 use Rattle.value_model.specs.declared.filler.Filler.{Filler}
 use Rattle.run_model.specs.Library.{LibraryAnswers}
@@ -34,3 +34,15 @@ InputIsDone = CallIsDone Readln
 -- lists are made: of the keys of a mapping, and of the characters of a string
 abbrev pub ListsAreMade : Type 0
 ListsAreMade = CallIsDone Keys × CallIsDone ToCodePointInts
+
+-- what stands in a structure is given: a value of a mapping, and lists of items of a list
+abbrev pub MembersAreGiven : Type 0
+MembersAreGiven = CallIsDone Get × CallIsDone Slice × CallIsDone Reverse
+
+-- the detail of an error, and the int that a string writes or an error
+abbrev pub ErrorsAreGiven : Type 0
+ErrorsAreGiven = CallIsDone Detail × CallIsDone FromString
+
+-- the text of any value
+abbrev pub ValuesArePrinted : Type 0
+ValuesArePrinted = CallIsDone ToString

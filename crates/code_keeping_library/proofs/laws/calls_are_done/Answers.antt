@@ -1,5 +1,8 @@
 use Rattle.code_keeping_library.proofs.Calls.{input-is-done, measures-are-done, output-is-done, text-calls-are-done, texts-are-made}
 use Rattle.code_keeping_library.proofs.Lists.{lists-are-made}
+use Rattle.code_keeping_library.proofs.Errors.{errors-are-given}
+use Rattle.code_keeping_library.proofs.Members.{members-are-given}
+use Rattle.code_keeping_library.proofs.Printed.{values-are-printed}
 use Rattle.code_keeping_library.proofs.laws.calls_are_done.Goals as goal
 
 pub returns-clause-output : goal.returns-clause-output
@@ -19,3 +22,12 @@ returns-clause-input c = input-is-done
 
 pub returns-clause-lists : goal.returns-clause-lists
 returns-clause-lists c = lists-are-made
+
+pub returns-clause-members : goal.returns-clause-members
+returns-clause-members c = members-are-given
+
+pub returns-clause-errors : goal.returns-clause-errors
+returns-clause-errors c = errors-are-given
+
+pub returns-clause-printed : goal.returns-clause-printed
+returns-clause-printed c = values-are-printed
