@@ -1,0 +1,6 @@
+mod Layered
+mod Order
+mod Pieces
+mod Rows
+mod StmtPieces
+mod Worked

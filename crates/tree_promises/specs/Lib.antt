@@ -1,0 +1,10 @@
+pub mod Cases
+pub mod Flows
+pub mod Known
+pub mod Layers
+pub mod Laws
+pub mod Made
+pub mod MadeStmts
+pub mod Placed
+pub mod Types
+pub mod WellTyped
