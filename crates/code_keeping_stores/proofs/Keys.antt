@@ -49,11 +49,11 @@ use Rattle.code_keeping_stores.proofs.Storing.{IsFine, d, grows, store-typed, wo
 
 -- ---- values of entries
 
-values-all : (P : Value → Type 0) (es : List (Text × Value)) → All (λ e. P e.1) es → All P (map (λ e. e.1) es)
+pub values-all : (P : Value → Type 0) (es : List (Text × Value)) → All (λ e. P e.1) es → All P (map (λ e. e.1) es)
 values-all P [] h = All-nil P
 values-all P (e ∷ es) h = All-cons P e.1 (map (λ e. e.1) es) (All-head (λ (e : Text × Value). P e.1) e es h) (values-all P es (All-tail (λ (e : Text × Value). P e.1) e es h))
 
-entries-so : (P : Value → Type 0) (es : List (Text × Value)) → All P (map (λ e. e.1) es) → All (λ e. P e.1) es
+pub entries-so : (P : Value → Type 0) (es : List (Text × Value)) → All P (map (λ e. e.1) es) → All (λ e. P e.1) es
 entries-so P [] h = All-nil _
 entries-so P (e ∷ es) h = All-cons (λ (e : Text × Value). P e.1) e es (All-head P e.1 (map (λ e. e.1) es) h) (entries-so P es (All-tail P e.1 (map (λ e. e.1) es) h))
 

@@ -1,3 +1,4 @@
 pub mod Done
+pub mod Items
 pub mod Keys
 pub mod Storing

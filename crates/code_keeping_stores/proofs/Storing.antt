@@ -1,5 +1,5 @@
 -- A structure in the heap gets other members, and structures are made behind all that are there.
-use Rattle.std.proofs.Common.{◌≡◌, ◌≢◌, ◌<◌, ◌≤◌, ◌+◌, ◌^◌, ◌∙◌, ℕ, List, [], ◌++◌, Option, Some, inl, inr, length, refl, sym, ap, subst, arith}
+use Rattle.std.proofs.Common.{◌≡◌, ◌≢◌, ◌<◌, ◌≤◌, ◌+◌, ◌^◌, ◌∙◌, ℕ, true, List, [], ◌++◌, Option, Some, inl, inr, length, refl, sym, ap, subst, arith}
 use Rattle.std.proofs.Math.Nat.{le-max_right}
 use Rattle.std.proofs.lemmas.List.{append-nil}
 use Rattle.std.specs.Prelude.{◌⊎◌, All, IsSomeAnd, IsTrue, max, option_to_list, slice_get, slice_set, sum_by}
@@ -12,7 +12,8 @@ use Rattle.operations.specs.Rows.{NoResult}
 use Rattle.value_model.specs.Heap.{AreAlike, Grows, Heap, Members, Stays, Structure, IsThere, cells, values_of}
 use Rattle.value_model.specs.Stands.{IsUnmarked, MembersBelong}
 use Rattle.value_model.specs.Valid.{AreValidMembers}
-use Rattle.value_model.specs.World.{World}
+use Rattle.value_model.specs.declared.value.Value.{Value}
+use Rattle.value_model.specs.World.{Gave, World}
 use Rattle.run_model.specs.Common.{Common}
 use Rattle.run_model.specs.Effects.{lifted, with_world}
 use Rattle.run_model.specs.Limits.{most_cells}
@@ -27,7 +28,7 @@ use Rattle.stack_code.specs.Values.{AllFit, GoodHeap, IsMade, IsWithinAtom, code
 use Rattle.code_keeping.specs.Rows.{EffectTyped}
 use Rattle.code_keeping.proofs.Changing.{get-set-other, get-set-same, length-set, same-or-not}
 use Rattle.code_keeping.proofs.Growing.{IsGrown, IsNewStructure, front-or-behind, gave-typed, get-front, within-gave, within-so}
-use Rattle.code_keeping.proofs.Lists.{all-at, at-some, some-there}
+use Rattle.code_keeping.proofs.Lists.{all-at, at-some, of-some, some-there}
 use Rattle.code_keeping.proofs.Staying.{stays-same}
 use Rattle.code_keeping_heap.proofs.Adding.{greatest-at}
 
@@ -93,9 +94,9 @@ module _ (code : Code) (c : Common) (all : GoodCommon code c Running) (n : ℕ) 
   abbrev pub AreNew : Type 0
   AreNew = (j : ℕ) (x : Structure) → slice_get more j ≡ Some x → IsNewStructure code c world-then good grows (length heap.structures + j) x
 
-  module _ (fine : IsFine) (small : IsSmall) (news : AreNew) where
+  module _ (fine : IsFine) (few : size_of m < 2 ^ 63) (news : AreNew) where
     changed-so : IsNewStructure code c world-then good grows n changed
-    changed-so = record { mutable = λ f. within; frozen = λ f. absurd (let q : ⊥ = cc in q); made = fine.made; valid = fine.valid; short = short small }
+    changed-so = record { mutable = λ f. within; frozen = λ f. absurd (let q : ⊥ = cc in q); made = fine.made; valid = fine.valid; short = few }
       where
         within : IsSomeAnd s.atom (IsOfAtom m)
         within =
@@ -103,7 +104,7 @@ module _ (code : Code) (c : Common) (all : GoodCommon code c Running) (n : ℕ) 
             let (definition, ed, old) = some-there (MembersBelong (code_types code) world-then.heap s.members) (slice_get code.atoms a) belong in
             at-some (IsOfAtom m) s.atom a ea (known, shape, at-some (MembersBelong (code_types code) world-then.heap m) (slice_get code.atoms a) definition ed (fine.belong a definition ea ed old))
 
-    grown : IsGrown code c world-then good grows
+    pub grown : IsGrown code c world-then good grows
     grown = record { structures = λ k x ex. by k x (front-or-behind set more k x ex); errors = λ k x ex. inl ex; functions = λ k x ex. inl ex }
       where
         at-set : (k : ℕ) (x : Structure) → slice_get set k ≡ Some x → (n ≡ k) ⊎ (n ≢ k) → (slice_get heap.structures k ≡ Some x) ⊎ IsNewStructure code c world-then good grows k x
@@ -116,7 +117,20 @@ module _ (code : Code) (c : Common) (all : GoodCommon code c Running) (n : ℕ) 
         by k x (inl ex) = at-set k x ex (same-or-not n k)
         by k x (inr (j, at, ex)) = inr (subst (λ i. IsNewStructure code c world-then good grows i x) (let long = length-set heap.structures n changed in let q : length heap.structures + j ≡ k = omega (arith, at, long) in q) (news j x ex))
 
+  -- values that fit there may be given
+  pub given-typed : IsFine → size_of m < 2 ^ 63 → AreNew → (vs : List Value) (result : Option SemType) → AllFit code d vs (option_to_list result) → EffectTyped code c result (lifted c (Gave vs world-then))
+  given-typed fine few news vs result fit = gave-typed code c result vs world-then all good grows (grown fine few news) fit
+
   pub store-typed : IsFine → (IsSmall → AreNew) → (result : Option SemType) → NoResult result → EffectTyped code c result (lifted c (within (gives_nothing world-then)))
   store-typed fine news result none =
       within-gave code c result [] world-then
-      (λ small. gave-typed code c result [] world-then all good grows (grown fine small (news small)) (subst (λ r. AllFit code d [] (option_to_list r)) (sym none) tt))
+      (λ small. given-typed fine (short small) (news small) [] result (subst (λ r. AllFit code d [] (option_to_list r)) (sym none) tt))
+
+  -- members that belonged to an atom belong to it there
+  pub members-then : (a : ℕ) (definition : AtomDef) → s.atom ≡ Some a → slice_get code.atoms a ≡ Some definition → All (IsThere heap) (values_of m) → MembersBelong (code_types code) heap m definition → MembersBelong (code_types code) world-then.heap m definition
+  members-then a definition ea ed there belong =
+      let (known, shape, old) = of-some (λ a. IsInherent code a × ((x : Shape) × IsValid x × IsUnmarked x × In code.atoms x (Atom a)) × IsSomeAnd (slice_get code.atoms a) (MembersBelong (code_types code) heap s.members)) s.atom a ea (all-at (IsWithinAtom code c) heap.structures n s good.mutable e mutable) in
+      let then : IsSomeAnd (slice_get code.atoms a) (MembersBelong (code_types code) world-then.heap m) =
+      (within-so code c world-then good grows (record { atom = Some a; mutable = true; members = m; greatest = 0 }) there
+      (λ is. (known, shape, at-some (MembersBelong (code_types code) heap m) (slice_get code.atoms a) definition ed belong)) refl).2 in
+      of-some (MembersBelong (code_types code) world-then.heap m) (slice_get code.atoms a) definition ed then
