@@ -1,6 +1,7 @@
 pub mod Written
 pub mod Texts
 pub mod Calls
+pub mod Lengths
 pub mod Lists
 pub mod Errors
 pub mod Members
