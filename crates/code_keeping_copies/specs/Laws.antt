@@ -1,0 +1,7 @@
+-- What steps of well-typed code keep that call the library to copy values, as laws.
+use Rattle.operations.specs.declared.library.LibraryCall.TheVariants.{Clone}
+use Rattle.code_keeping_library.specs.Laws.{CallIsDone}
+
+-- a value is cloned, and each mutable structure that it reaches
+abbrev pub ClonesAreDone : Type 0
+ClonesAreDone = CallIsDone Clone

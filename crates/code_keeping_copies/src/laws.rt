@@ -1,0 +1,7 @@
+//! Laws of steps that call the library to copy values. These calls do nothing: their clauses are laws.
+ghost use Rattle.code_keeping_copies.specs.Laws.{ClonesAreDone};
+
+/// What a frame of well-typed code asks for fits, whatever comes, and something comes, where it calls the library to clone a value.
+pub fn copies_are_done()
+    ensures { ClonesAreDone }
+{}
