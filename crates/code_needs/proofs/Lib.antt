@@ -1,0 +1,11 @@
+mod Codes
+mod Combined
+mod Counted
+mod Ends
+mod FieldsDecided
+mod LibraryRows
+mod Places
+mod Rows
+mod Shaped
+mod Widened
+mod Words
