@@ -36,7 +36,7 @@ use Rattle.code_keeping_talk.proofs.Ending.{ending-keeps}
 use Rattle.code_keeping_talk.proofs.Following.{later-follows}
 use Rattle.code_keeping_talk.proofs.Lasting.{what-held-holds}
 use Rattle.code_keeping_talk.proofs.Picking.{picking-keeps}
-use Rattle.code_keeping_all.specs.Laws.{CodeGoesOn, CodeIsKept, ReachedCodeIsGood, RestIsDone, RestIsNotThere, kept_invariant}
+use Rattle.code_keeping_all.specs.Laws.{CallsAreNotThere, CodeGoesOn, CodeIsKept, FillersAreKnown, LibraryIsDone, ReachedCodeIsGood, kept_invariant}
 use Rattle.code_keeping_all.proofs.Operations.{asks-done}
 
 module _ (natives : Answers) (fillers : ℕ → List Filler) (code : Code) where
@@ -112,11 +112,11 @@ module _ (natives : Answers) (fillers : ℕ → List Filler) (code : Code) where
   end-so c (Returned v) h = h
   end-so c (Panicked e) h = h.1
 
-  module _ (t : WellTyped code) (rest : RestIsDone fillers natives code) where
+  module _ (t : WellTyped code) (knows : FillersAreKnown fillers code) (library : LibraryIsDone fillers natives code) where
     kept : IsKept natives (codes fillers code) J
     kept =
         record {
-          asks = λ c depth f good fits. ask-kept c depth f ((codes fillers code).look f.unit f.control) (asks-done natives fillers code t c rest depth good f fits).0;
+          asks = λ c depth f good fits. ask-kept c depth f ((codes fillers code).look f.unit f.control) (asks-done natives fillers code t c knows library depth good f fits).0;
           stays = λ q c. same q c;
           follows = λ q c d e. later-follows q c d e;
           resumes = λ c n depth f callee v awaits holds. (awaited-comes code fillers c f callee t awaits).0 v holds;
@@ -175,20 +175,18 @@ module _ (natives : Answers) (fillers : ℕ → List Filler) (code : Code) where
     goes-on : (words : List Text) (input : List ℕ) (ticks : ℕ) (s : State Standing) (f : Frame Standing) (fs : List (Frame Standing)) → AreWords words → IsReached natives (codes fillers code) words input ticks Running s → s.frames ≡ f ∷ fs →
         AskComes natives (code_facts fillers code) s.common (length (f ∷ fs)) f ((codes fillers code).look f.unit f.control)
     goes-on words input ticks s f fs words-are r frames =
-        (asks-done natives fillers code t s.common rest (length (f ∷ fs)) (reached words input ticks Running s words-are r).good f (top-fits words input ticks s f fs words-are r frames)).1
+        (asks-done natives fillers code t s.common knows library (length (f ∷ fs)) (reached words input ticks Running s words-are r).good f (top-fits words input ticks s f fs words-are r frames)).1
 
 pub code-is-kept : (natives : Answers) → CodeIsKept natives
-code-is-kept natives fillers code t rest = kept natives fillers code t rest
+code-is-kept natives fillers code t knows library = kept natives fillers code t knows library
 
 pub reached-code-is-good : (natives : Answers) → ReachedCodeIsGood natives
-reached-code-is-good natives fillers code t rest words input ticks phase s words-are r =
-    (good-state natives fillers code t rest words input ticks phase s words-are r, strands natives fillers code t rest words input ticks phase s words-are r)
+reached-code-is-good natives fillers code t knows library words input ticks phase s words-are r =
+    (good-state natives fillers code t knows library words input ticks phase s words-are r, strands natives fillers code t knows library words input ticks phase s words-are r)
 
 pub code-goes-on : (natives : Answers) → CodeGoesOn natives
-code-goes-on natives fillers code t rest words input ticks s f fs words-are r frames = goes-on natives fillers code t rest words input ticks s f fs words-are r frames
+code-goes-on natives fillers code t knows library words input ticks s f fs words-are r frames = goes-on natives fillers code t knows library words input ticks s f fs words-are r frames
 
-pub rest-is-not-there : (natives : Answers) → RestIsNotThere natives
-rest-is-not-there natives fillers code none c = (
-  ((λ depth f good fits ec. absurd ((none f.control.place).0 ec)), (λ depth f good fits ec. absurd ((none f.control.place).0 ec))),
-  (λ call atom count. ((λ depth f good fits ec. absurd ((none f.control.place).1 call atom count ec)), (λ depth f good fits ec. absurd ((none f.control.place).1 call atom count ec)))),
-)
+pub calls-are-not-there : (natives : Answers) → CallsAreNotThere natives
+calls-are-not-there natives fillers code none c call atom count =
+    ((λ depth f good fits ec. absurd (none f.control.place call atom count ec)), (λ depth f good fits ec. absurd (none f.control.place call atom count ec)))

@@ -1,3 +1,4 @@
 pub mod Operations
 pub mod Kept
 pub mod Plain
+pub mod GoingOn

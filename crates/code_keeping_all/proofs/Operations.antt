@@ -32,13 +32,14 @@ use Rattle.code_keeping_calls.proofs.Calls.{values-are-called, values-are-starte
 use Rattle.code_keeping_heap.proofs.Done.{constructors-are-done, reads-are-done}
 use Rattle.code_keeping_sends.proofs.Done.{sends-are-done}
 use Rattle.code_keeping_starts.proofs.Starting.{starts-are-done}
+use Rattle.code_keeping_fillers.proofs.Done.{item-stores-are-done}
 use Rattle.code_keeping_stores.proofs.Done.{key-stores-are-done}
 use Rattle.code_keeping_talk.proofs.Done.{receives-are-done}
 use Rattle.code_keeping_waits.proofs.All.{multiple-waits-are-done}
 use Rattle.code_keeping_waits.proofs.Any.{alternate-waits-are-done}
 use Rattle.code_keeping_waits.proofs.One.{single-waits-are-done}
 use Rattle.code_keeping_workers.proofs.Named.{workers-are-started}
-use Rattle.code_keeping_all.specs.Laws.{RestIsDone}
+use Rattle.code_keeping_all.specs.Laws.{FillersAreKnown, LibraryIsDone}
 
 module _ (natives : Answers) (fillers : ℕ → List Filler) (code : Code) (t : WellTyped code) (c : Common) where
   -- a unit is entered, and a value is returned
@@ -53,7 +54,7 @@ module _ (natives : Answers) (fillers : ℕ → List Filler) (code : Code) (t : 
       (λ u station names operands result vs asker good typed fit.
       one-fit code c (λ us. Comes (Performs (code_facts fillers code) natives op.Return us asker c)) operands vs _ typed.0 fit (λ a v below f never. never (Leaves v) refl))
 
-  module _ (rest : RestIsDone fillers natives code) (depth : ℕ) (good : GoodCommon code c Running) (f : Frame Standing) (fits : TopFits code c f) where
+  module _ (knows : FillersAreKnown fillers code) (library : LibraryIsDone fillers natives code) (depth : ℕ) (good : GoodCommon code c Running) (f : Frame Standing) (fits : TopFits code c f) where
     abbrev p : ℕ
     p = f.control.place
 
@@ -103,11 +104,11 @@ module _ (natives : Answers) (fillers : ℕ → List Filler) (code : Code) (t : 
     of-operation op.GetKey ec = done op.GetKey (reads-are-done natives fillers).1 ec
     of-operation (op.GetField name) ec = done (op.GetField name) ((reads-are-done natives fillers).2 name) ec
     of-operation (op.GetOptional name) ec = done (op.GetOptional name) ((reads-are-done natives fillers).3 name) ec
-    of-operation op.SetItem ec = done-at op.SetItem (rest c).0 ec
+    of-operation op.SetItem ec = done-at op.SetItem (item-stores-are-done natives fillers code c t knows) ec
     of-operation op.SetKey ec = done op.SetKey (key-stores-are-done natives fillers) ec
     of-operation (op.Call unit count) ec = (calls-keep natives fillers unit count code c t depth f good fits ec, call-comes unit count depth f good fits ec)
     of-operation (op.CallValue count) ec = done (op.CallValue count) (values-are-called natives fillers count) ec
-    of-operation (op.Library call atom count) ec = done-at (op.Library call atom count) ((rest c).1 call atom count) ec
+    of-operation (op.Library call atom count) ec = done-at (op.Library call atom count) (library c call atom count) ec
     of-operation op.Return ec = (returns-keep natives fillers code c t depth f good fits ec, return-comes depth f good fits ec)
     of-operation op.Panic ec = done op.Panic (panics-are-done natives fillers) ec
     of-operation (op.Start unit count) ec = done (op.Start unit count) (starts-are-done natives fillers unit count) ec

@@ -3,4 +3,4 @@
 
 mod laws;
 
-pub use laws::{code_is_kept, plain_calls_are_done};
+pub use laws::{code_is_kept, plain_calls_are_done, well_typed_code_goes_on};
