@@ -1,6 +1,11 @@
+mod FlowPieces
 mod Layered
+mod LoopPieces
+mod MatchFlows
 mod Order
 mod Pieces
 mod Rows
+mod Sets
+mod StmtFlows
 mod StmtPieces
 mod Worked

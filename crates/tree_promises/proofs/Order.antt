@@ -41,7 +41,7 @@ module _ (env : List AtomDef) where
 
   -- ---- what is known of slots
 
-  slot-itself : (k : Option SemType) → SlotBelow env k k
+  pub slot-itself : (k : Option SemType) → SlotBelow env k k
   slot-itself (Some t) = λ x valid is. is
   slot-itself None = tt
 
@@ -75,7 +75,7 @@ module _ (env : List AtomDef) where
   slot-impossible None (Some t) f none = absurd f
   slot-impossible i None f none = absurd none
 
-  known-impossible : (is js : Known) → KnownBelow env is js → IsImpossible env js → IsImpossible env is
+  pub known-impossible : (is js : Known) → KnownBelow env is js → IsImpossible env js → IsImpossible env is
   known-impossible (i ∷ is) (j ∷ js) f e =
       ⊎_elim (λ here. inl (slot-impossible i j f.0 here)) (λ later. inr (known-impossible is js f.1 later)) e
   known-impossible [] [] f e = absurd e

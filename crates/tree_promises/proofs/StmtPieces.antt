@@ -57,7 +57,7 @@ module _ (env : List AtomDef) (place : Surroundings) (inside : Bool) where
   returns t end under =
       record { below = []; operands = t ∷ []; result = None; are = refl; row = ((λ x i. under x i.0 i.1), refl); behind = λ goes. absurd (goes tt) }
 
-  ticks : DoesTypes env place Tick [] []
+  pub ticks : DoesTypes env place Tick [] []
   ticks = record { below = []; operands = []; result = None; are = refl; row = (refl, refl); behind = λ goes. tt }
 
   -- ---- variables that are read

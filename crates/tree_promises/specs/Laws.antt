@@ -9,8 +9,13 @@ use Rattle.typed_tree.specs.declared.stmt.TypedStmt.{TypedStmt, out-TypedStmt}
 use Rattle.eval_model.specs.Walk.{ExprOver, StmtOver}
 use Rattle.eval_model.specs.Ways.{AreWays, Turns, Ways}
 use Rattle.tree_promises.specs.Flows.{Around, flow_ways}
+use Rattle.tree_promises.specs.Known.{Flow}
 use Rattle.tree_promises.specs.Layers.{ExprLayerOver, StmtLayerOver}
 use Rattle.tree_promises.specs.Made.{MadeIsTyped}
+use Rattle.tree_promises.specs.MadeFlows.{MadeKeepsFlow}
+use Rattle.tree_promises.specs.MadeLoops.{MadeLoopIsTyped}
+use Rattle.tree_promises.specs.MadeMatchFlows.{MadeMatchKeepsFlow}
+use Rattle.tree_promises.specs.MadeStmtFlows.{LoopFlow, MadeBlocksKeepFlow, MadeStmtKeepsFlow}
 use Rattle.tree_promises.specs.MadeStmts.{MadeStmtIsTyped, MadeStmtsAreTyped}
 use Rattle.tree_promises.specs.Types.{type_ways}
 
@@ -38,3 +43,23 @@ abbrev pub MadeStatementsAreTyped : Type 0
 MadeStatementsAreTyped =
     (env : List AtomDef) (place : Surroundings) (inside : Bool) (truth : SemType) (s : TypedStmt) (at : Place)
     → MadeStmtIsTyped env place truth inside s at × MadeStmtsAreTyped env place inside
+
+-- what an expression leaves of the flow follows from what its parts do
+abbrev pub MadeExprsKeepFlows : Type 0
+MadeExprsKeepFlows = (env : List AtomDef) (around : Around) (base : Option Flow) → MadeKeepsFlow env around base
+
+-- and loops and updates of members are typed
+abbrev pub MadeLoopsAreTyped : Type 0
+MadeLoopsAreTyped =
+    (env : List AtomDef) (place : Surroundings) (inside : Bool) (truth : SemType) (s : TypedStmt) (at : Place) → MadeLoopIsTyped env place truth inside s at
+
+-- and so it is of statements, and of statements one behind another
+abbrev pub MadeStatementsKeepFlows : Type 0
+MadeStatementsKeepFlows =
+    (env : List AtomDef) (around : Around) (loop : Option LoopFlow) (s : TypedStmt) (at : Place)
+    → MadeStmtKeepsFlow env around loop s at × MadeBlocksKeepFlow env around loop
+
+-- and of matches
+abbrev pub MadeMatchesKeepFlows : Type 0
+MadeMatchesKeepFlows =
+    (env : List AtomDef) (around : Around) (loop : Option LoopFlow) (s : TypedStmt) (at : Place) → MadeMatchKeepsFlow env around loop s at

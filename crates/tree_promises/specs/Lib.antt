@@ -4,6 +4,10 @@ pub mod Known
 pub mod Layers
 pub mod Laws
 pub mod Made
+pub mod MadeFlows
+pub mod MadeLoops
+pub mod MadeMatchFlows
+pub mod MadeStmtFlows
 pub mod MadeStmts
 pub mod Placed
 pub mod Types

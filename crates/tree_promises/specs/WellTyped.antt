@@ -61,5 +61,7 @@ module _ (env : List AtomDef) where
     pub each : (n : ℕ) → n < p.units → Contains (map (λ u. u.unit.number) (units_of p)) n
 
   pub record WellTypedPackage (p : TypedPackage) : Type 0 where
+    -- each unit is placed
+    pub covered : map (λ u. u.tree) (placed_units p) ≡ units_of p
     pub units : All (IsWellTyped p) (placed_units p)
     pub numbered : AreNumbered p

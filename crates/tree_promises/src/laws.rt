@@ -1,5 +1,5 @@
 //! Laws of well-typed trees. These calls do nothing: their clauses are laws.
-ghost use Rattle.tree_promises.specs.Laws.{ExprsGoByLayers, FlowsAreWays, MadeExprsAreTyped, MadeStatementsAreTyped, StmtsGoByLayers, TypesAreWays};
+ghost use Rattle.tree_promises.specs.Laws.{ExprsGoByLayers, FlowsAreWays, MadeExprsAreTyped, MadeExprsKeepFlows, MadeLoopsAreTyped, MadeMatchesKeepFlows, MadeStatementsAreTyped, MadeStatementsKeepFlows, StmtsGoByLayers, TypesAreWays};
 
 use eval_model::AnyWays;
 
@@ -23,8 +23,24 @@ pub fn made_expressions_are_typed()
     ensures { MadeExprsAreTyped }
 {}
 
-/// And so is a statement, in a loop or outside, but for `foreach` and assignments with an operator to members; `break` and `continue` only in
-/// a loop. Typed statements one behind another are typed.
+/// And so is a statement, each of the eleven, in a loop or outside; `break` and `continue` only in a loop. Typed statements one behind another are typed.
 pub fn made_statements_are_typed()
-    ensures { MadeStatementsAreTyped }
+    ensures simple { MadeStatementsAreTyped }
+    ensures loops { MadeLoopsAreTyped }
+{}
+
+/// What is known behind an expression, and where it is true and where it is false, follows from what is known before it and from what its
+/// parts leave: a test narrows its variable, `!`, `&&`, `||` and `?:` put ways together, `check` and `?:` keep their operand in a slot of
+/// their own, and a trap lands where all is known that was known before it.
+pub fn made_expressions_keep_flows()
+    ensures { MadeExprsKeepFlows }
+{}
+
+/// What is known behind a statement follows from what is known before it and from what its parts leave, but for `foreach` and
+/// assignments with an operator: a store says that the slot holds a value, ways of branches meet, at the head of a loop is known what each
+/// turn leaves, each pattern of a match narrows what is kept and the variable that holds the same, and behind a `return`, a `panic`, a
+/// `break` or a `continue` nothing is reached.
+pub fn made_statements_keep_flows()
+    ensures simple { MadeStatementsKeepFlows }
+    ensures matches { MadeMatchesKeepFlows }
 {}
