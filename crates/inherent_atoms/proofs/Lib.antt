@@ -1,0 +1,7 @@
+mod Adding
+mod Expressions
+mod Filling
+mod Members
+mod Noting
+mod Statements
+pub mod Units

@@ -1,0 +1,3 @@
+pub mod Fillers
+pub mod Found
+pub mod Named
