@@ -1,9 +1,11 @@
 mod FlowPieces
+mod Joined
 mod Layered
+mod LoopFlows
 mod LoopPieces
 mod MatchFlows
 mod Order
-mod Pieces
+pub mod Pieces
 mod Rows
 mod Sets
 mod StmtFlows

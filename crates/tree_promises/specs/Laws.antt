@@ -13,6 +13,7 @@ use Rattle.tree_promises.specs.Known.{Flow}
 use Rattle.tree_promises.specs.Layers.{ExprLayerOver, StmtLayerOver}
 use Rattle.tree_promises.specs.Made.{MadeIsTyped}
 use Rattle.tree_promises.specs.MadeFlows.{MadeKeepsFlow}
+use Rattle.tree_promises.specs.MadeLoopFlows.{MadeLoopKeepsFlow, MadeUpdateKeepsFlow}
 use Rattle.tree_promises.specs.MadeLoops.{MadeLoopIsTyped}
 use Rattle.tree_promises.specs.MadeMatchFlows.{MadeMatchKeepsFlow}
 use Rattle.tree_promises.specs.MadeStmtFlows.{LoopFlow, MadeBlocksKeepFlow, MadeStmtKeepsFlow}
@@ -63,3 +64,9 @@ MadeStatementsKeepFlows =
 abbrev pub MadeMatchesKeepFlows : Type 0
 MadeMatchesKeepFlows =
     (env : List AtomDef) (around : Around) (loop : Option LoopFlow) (s : TypedStmt) (at : Place) → MadeMatchKeepsFlow env around loop s at
+
+-- of loops over lists and ranges, and of assignments with an operator
+abbrev pub MadeLoopsKeepFlows : Type 0
+MadeLoopsKeepFlows =
+    (env : List AtomDef) (around : Around) (loop : Option LoopFlow) (s : TypedStmt) (at : Place)
+    → MadeLoopKeepsFlow env around loop s at × MadeUpdateKeepsFlow env around loop s at

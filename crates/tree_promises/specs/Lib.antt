@@ -1,10 +1,12 @@
 pub mod Cases
 pub mod Flows
 pub mod Known
+pub mod KnownOf
 pub mod Layers
 pub mod Laws
 pub mod Made
 pub mod MadeFlows
+pub mod MadeLoopFlows
 pub mod MadeLoops
 pub mod MadeMatchFlows
 pub mod MadeStmtFlows

@@ -1,5 +1,6 @@
 //! Laws of well-typed trees. These calls do nothing: their clauses are laws.
-ghost use Rattle.tree_promises.specs.Laws.{ExprsGoByLayers, FlowsAreWays, MadeExprsAreTyped, MadeExprsKeepFlows, MadeLoopsAreTyped, MadeMatchesKeepFlows, MadeStatementsAreTyped, MadeStatementsKeepFlows, StmtsGoByLayers, TypesAreWays};
+ghost use Rattle.tree_promises.specs.KnownOf.{JoinsFollow, TestsAgree};
+ghost use Rattle.tree_promises.specs.Laws.{ExprsGoByLayers, FlowsAreWays, MadeExprsAreTyped, MadeExprsKeepFlows, MadeLoopsAreTyped, MadeLoopsKeepFlows, MadeMatchesKeepFlows, MadeStatementsAreTyped, MadeStatementsKeepFlows, StmtsGoByLayers, TypesAreWays};
 
 use eval_model::AnyWays;
 
@@ -36,11 +37,18 @@ pub fn made_expressions_keep_flows()
     ensures { MadeExprsKeepFlows }
 {}
 
-/// What is known behind a statement follows from what is known before it and from what its parts leave, but for `foreach` and
-/// assignments with an operator: a store says that the slot holds a value, ways of branches meet, at the head of a loop is known what each
+/// What is known behind a statement follows from what is known before it and from what its parts leave: a store says that the slot holds a value, ways of branches meet, at the head of a loop is known what each
 /// turn leaves, each pattern of a match narrows what is kept and the variable that holds the same, and behind a `return`, a `panic`, a
 /// `break` or a `continue` nothing is reached.
 pub fn made_statements_keep_flows()
     ensures simple { MadeStatementsKeepFlows }
     ensures matches { MadeMatchesKeepFlows }
+    ensures loops { MadeLoopsKeepFlows }
+{}
+
+/// What a checker knows where two ways of the same variables meet follows from what it knows on each; and the types that a test leaves of a
+/// variable are those by which ways narrow it.
+pub fn checked_flows_agree()
+    ensures joins { JoinsFollow }
+    ensures tests { TestsAgree }
 {}

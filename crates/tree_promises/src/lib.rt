@@ -10,13 +10,14 @@
 //! - `Placed`: the units of a package, with what is known where each begins and where its operations stand.
 //! - `WellTyped`: one unit, and a package.
 //! - `Layers`, the ways through a tree by its layer; `Made`, `MadeStmts` and `MadeLoops`, what the parts of an
-//!   expression and of a statement have to be so that it is typed; `MadeFlows`, `MadeStmtFlows` and `MadeMatchFlows`, what they
-//!   leave of what is known.
+//!   expression and of a statement have to be so that it is typed; `MadeFlows`, `MadeStmtFlows`, `MadeMatchFlows` and
+//!   `MadeLoopFlows`, what they leave of what is known.
+//! - `KnownOf`, what a checker knows, as what is known of slots.
 //! - `Cases`, worked cases; `Laws`.
 //!
 //! Beside them stand [`definitions_come_to_cases`] and the laws: [`promises_are_ways`], [`ways_go_by_layers`],
-//! [`made_expressions_are_typed`], [`made_statements_are_typed`], [`made_expressions_keep_flows`] and
-//! [`made_statements_keep_flows`].
+//! [`made_expressions_are_typed`], [`made_statements_are_typed`], [`made_expressions_keep_flows`],
+//! [`made_statements_keep_flows`] and [`checked_flows_agree`].
 #![tactic(auto)]
 
 mod cases;
@@ -24,6 +25,6 @@ mod laws;
 
 pub use cases::definitions_come_to_cases;
 pub use laws::{
-    made_expressions_are_typed, made_expressions_keep_flows, made_statements_are_typed,
-    made_statements_keep_flows, promises_are_ways, ways_go_by_layers,
+    checked_flows_agree, made_expressions_are_typed, made_expressions_keep_flows,
+    made_statements_are_typed, made_statements_keep_flows, promises_are_ways, ways_go_by_layers,
 };
