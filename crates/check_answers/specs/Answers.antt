@@ -1,0 +1,77 @@
+-- Two runs of needs come to the same: between any two needs their states are twins.
+use Rattle.std.specs.Prelude.{◌≡◌, Bool, List, All, length, ⊤}
+use Rattle.bal_base.specs.declared.place.Place.{Place}
+use Rattle.checks.specs.Checks.{Gives, Outcome, Refuses}
+use Rattle.descriptors.specs.declared.names.Names.{Names}
+use Rattle.flow_narrowing.specs.declared.flow.Flow.{Flow}
+use Rattle.needs.specs.Agreement.{NeedAgrees}
+use Rattle.type_model.specs.declared.answers.TypeLimit.{TypeLimit}
+use Rattle.type_model.specs.declared.atoms.AtomDef.{AtomDef}
+use Rattle.type_model.specs.Calls.{Asked}
+use Rattle.type_model.specs.Defined.{IsEnv}
+use Rattle.expr_needs.specs.Needs.{Conjoins, Disjoins, MakesIf, MakesMatch, Need}
+use Rattle.check_words.specs.Meets.{meets}
+use Rattle.check_words.specs.Stands.{Stands}
+use Rattle.check_words.specs.State.{ChoiceAtWork, IsLast, MatchAtWork, State, UnitAtWork, Ways, ways_or_same}
+use Rattle.check_words.specs.Words.{Step}
+use Rattle.check_answers.specs.TwinStates.{StateTwins}
+use Rattle.check_answers.specs.TwinTypes.{SettledTwins, TwinAtoms, TwinTypes}
+
+-- ---- states between two needs
+
+-- the atoms are twins, and so is all else over them
+pub record TwinsOver (s t : State) : Type 0 where
+  pub atoms : TwinAtoms s.atoms t.atoms
+  pub states : StateTwins (SettledTwins s.atoms t.atoms) (TwinTypes s.atoms t.atoms) s t
+
+-- and in both what is at hand names only atoms that are there
+pub record Twins (s t : State) : Type 0 where
+  pub over : TwinsOver s t
+  pub first : Stands s
+  pub second : Stands t
+  pub first_atoms : IsEnv s.atoms
+  pub second_atoms : IsEnv t.atoms
+
+-- ---- runs in which this is kept
+
+-- what holds of types that are at hand, and of atoms, holds behind too
+abbrev pub KeptBehind : State → Outcome (Unit {0}) → State → Type 0
+KeptBehind old (Gives u) new = (Stands old → Stands new) × (IsEnv old.atoms → IsEnv new.atoms)
+KeptBehind old (Refuses f) new = ⊤
+
+-- the flow of the unit at hand, and where the last part holds and where it doesn't
+abbrev pub IsFlowOf : State → Flow → Type 0
+IsFlowOf s f = (u : UnitAtWork) × IsLast s.units u × (f ≡ u.flow)
+
+abbrev pub AreWaysOf : State → Ways → Type 0
+AreWaysOf s w = (f : Flow) × IsFlowOf s f × (w ≡ ways_or_same s.ways f)
+
+-- two ways know of equally many variables
+abbrev pub AreEven : Flow → Flow → Type 0
+AreEven f g = length g.variables ≡ length f.variables
+
+-- the way of the last choice that wasn't entered, and this one of the last part
+abbrev pub OtherIsEven : (Ways → Flow) → State → Type 0
+OtherIsEven side s = (c : ChoiceAtWork) (w : Ways) → IsLast s.choices c → AreWaysOf s w → AreEven c.other (side w)
+
+-- the two ways of a branch
+abbrev pub BranchIsEven : State → Type 0
+BranchIsEven s = (c : ChoiceAtWork) (f : Flow) → IsLast s.choices c → IsFlowOf s f → AreEven c.first f
+
+-- all ways of a match
+abbrev pub MatchIsEven : State → Type 0
+MatchIsEven s = (m : MatchAtWork) → IsLast s.matches m → All (AreEven m.before) m.ends
+
+-- Where a need joins ways, they know of the same variables: of a join of others nothing is said.
+pub record MeetsEvenly (need : Need) (s : State) : Type 0 where
+  pub conjoined : (at : Place) → need ≡ Conjoins at → OtherIsEven (λ w. w.no) s
+  pub disjoined : (at : Place) → need ≡ Disjoins at → OtherIsEven (λ w. w.yes) s
+  pub branched : (at : Place) → need ≡ MakesIf at → BranchIsEven s
+  pub matched : (any : Bool) (at : Place) → need ≡ MakesMatch any at → MatchIsEven s
+
+abbrev pub keeping : (Need → Step) → Need → Step
+keeping meets need old o new = meets need old o new × KeptBehind old o new × MeetsEvenly need old
+
+-- from twins two runs of the need come to the same
+abbrev pub Agrees : (List AtomDef → Asked → TypeLimit → Type 0) → Names → Need → Type 0
+Agrees passes names need = NeedAgrees Twins (keeping (meets passes names)) need

@@ -1,0 +1,129 @@
+-- What corresponds in two runs.
+use Rattle.std.specs.Prelude.{ℕ, Bool, List, Option}
+use Rattle.bal_base.specs.declared.fault.FaultCode.{FaultCode}
+use Rattle.bal_base.specs.declared.place.Place.{Place}
+use Rattle.bal_base.specs.declared.text.Text.{Text}
+use Rattle.bal_base.specs.declared.text.Name.{Name}
+use Rattle.bal_tree.specs.declared.name.Literal.{Literal}
+use Rattle.bal_tree.specs.declared.name.QualifiedName.{QualifiedName}
+use Rattle.bal_tree.specs.declared.name.Word.{Word}
+use Rattle.bal_tree.specs.declared.stmt.RangeOp.{RangeOp}
+use Rattle.typed_tree.specs.declared.form.Operator.{Operator}
+use Rattle.typed_tree.specs.declared.stmt.PerformForm.{PerformForm}
+use Rattle.expr_needs.specs.declared.kind.Kind.{Kind}
+use Rattle.checks.specs.Agreement.{AreTwins}
+use Rattle.descriptors.specs.declared.names.Names.{Names}
+use Rattle.type_model.specs.declared.answers.TypeLimit.{TypeLimit}
+use Rattle.type_model.specs.declared.atoms.AtomDef.{AtomDef}
+use Rattle.type_model.specs.declared.basic.SemType.{SemType}
+use Rattle.type_model.specs.Calls.{Asked}
+use Rattle.expr_needs.specs.Needs.{Fails, IsOf, IsWanted, Widens, WantsResult, WantsErrorToo, DropsWant, GivesLiteral, Forms, Decides, IsSort, Adds, Compares, Splits, Switches, Turns, Conjoins, Disjoins, Chooses, FillsNil, Tests, Casts, Checks, ChecksPanicking, Traps, Encloses, IsAccessed, IsIndex, ReadsElement, ReadsField, ReadsOptional, HasField, ExpectsStored, ReadsStored, ReadsStoredField, BeginsKeys, GivesKey, TakesKey, ComputesKey, ExpectsItem, ExpectsMember, IsItem, IsDetail, LacksCause, Declares, IsAssignable, Assigns, ReadsName, Stores, IsIgnorable, Performs, Stops, Returns, ReturnsNil, Breaks, Continues, BeginsBlock, EndsBlock, MakesBlock, MakesIf, Heads, OpensLoop, MakesWhile, IsItemOfLoop, WidensItem, IsCounter, WantsCounter, HasItem, MakesForeach, MakesRange}
+use Rattle.check_answers.specs.Answers.{Agrees}
+use Rattle.check_answers.specs.TwinTypes.{TwinAtoms}
+
+-- a type has the same shapes over atoms that are twins
+abbrev pub TwinsOfAtoms : Type 0
+TwinsOfAtoms = (m n : List AtomDef) → TwinAtoms m n → (t : SemType) → AreTwins m t n t
+
+module _ (passes : List AtomDef → Asked → TypeLimit → Type 0) (names : Names) where
+  -- Literals, operators, conditions, and what is wanted: two runs of each need come to the same.
+  pub record ValuesAgree : Type 0 where
+    pub fails : (code : FaultCode) (at : Place) → Agrees passes names (Fails code at)
+    pub is_of : (kind : Kind) (at : Place) → Agrees passes names (IsOf kind at)
+    pub is_wanted : (at : Place) → Agrees passes names (IsWanted at)
+    pub widens : (at : Place) → Agrees passes names (Widens at)
+    pub wants_result : Agrees passes names WantsResult
+    pub wants_error_too : Agrees passes names WantsErrorToo
+    pub drops_want : Agrees passes names DropsWant
+    pub gives_literal : (l : Literal) → Agrees passes names (GivesLiteral l)
+    pub forms : (op : Operator) (count : ℕ) (kind : Kind) (at : Place) → Agrees passes names (Forms op count kind at)
+    pub decides : (at : Place) → Agrees passes names (Decides at)
+    pub is_sort : (at : Place) → Agrees passes names (IsSort at)
+    pub adds : (at : Place) → Agrees passes names (Adds at)
+    pub compares : (op : Operator) (at : Place) → Agrees passes names (Compares op at)
+    pub splits : (way : Bool) → Agrees passes names (Splits way)
+    pub switches : Agrees passes names Switches
+    pub turns : (at : Place) → Agrees passes names (Turns at)
+    pub conjoins : (at : Place) → Agrees passes names (Conjoins at)
+    pub disjoins : (at : Place) → Agrees passes names (Disjoins at)
+    pub chooses : (at : Place) → Agrees passes names (Chooses at)
+    pub fills_nil : (at : Place) → Agrees passes names (FillsNil at)
+    pub tests : (name : Option QualifiedName) (at : Place) → Agrees passes names (Tests name at)
+    pub casts : (at : Place) → Agrees passes names (Casts at)
+    pub checks : (at : Place) → Agrees passes names (Checks at)
+    pub checks_panicking : (at : Place) → Agrees passes names (ChecksPanicking at)
+    pub traps : (at : Place) → Agrees passes names (Traps at)
+    pub encloses : (at : Place) → Agrees passes names (Encloses at)
+
+  -- Reads and stores of members: two runs of each need come to the same.
+  pub record MembersAgree : Type 0 where
+    pub is_accessed : (texts : Bool) (at : Place) → Agrees passes names (IsAccessed texts at)
+    pub is_index : (at : Place) → Agrees passes names (IsIndex at)
+    pub reads_element : (at : Place) → Agrees passes names (ReadsElement at)
+    pub reads_field : (w : Word) (at : Place) → Agrees passes names (ReadsField w at)
+    pub reads_optional : (w : Word) (at : Place) → Agrees passes names (ReadsOptional w at)
+    pub has_field : (w : Word) → Agrees passes names (HasField w)
+    pub expects_stored : (at : Place) → Agrees passes names (ExpectsStored at)
+    pub reads_stored : (at : Place) → Agrees passes names (ReadsStored at)
+    pub reads_stored_field : (w : Word) (at : Place) → Agrees passes names (ReadsStoredField w at)
+
+  -- Constructors, but for those that make atoms: two runs of each need come to the same.
+  pub record ConstructorsAgree : Type 0 where
+    pub begins_keys : Agrees passes names BeginsKeys
+    pub gives_key : (text : Text) (at : Place) → Agrees passes names (GivesKey text at)
+    pub takes_key : (text : Text) (at : Place) → Agrees passes names (TakesKey text at)
+    pub computes_key : Agrees passes names ComputesKey
+    pub expects_item : Agrees passes names ExpectsItem
+    pub expects_member : Agrees passes names ExpectsMember
+    pub is_item : (at : Place) → Agrees passes names (IsItem at)
+    pub is_detail : (at : Place) → Agrees passes names (IsDetail at)
+    pub lacks_cause : (at : Place) → Agrees passes names (LacksCause at)
+
+  -- Statements, but for assignments with an operator, branches and loops: two runs of each need come to the same.
+  pub record StatementsAgree : Type 0 where
+    pub declares : (name : Name) (final assigned : Bool) (at : Place) → Agrees passes names (Declares name final assigned at)
+    pub is_assignable : (q : QualifiedName) → Agrees passes names (IsAssignable q)
+    pub assigns : (q : QualifiedName) (at : Place) → Agrees passes names (Assigns q at)
+    pub reads_name : (q : QualifiedName) → Agrees passes names (ReadsName q)
+    pub stores : (at : Place) → Agrees passes names (Stores at)
+    pub is_ignorable : (at : Place) → Agrees passes names (IsIgnorable at)
+    pub performs : (form : PerformForm) (count : ℕ) (at : Place) → Agrees passes names (Performs form count at)
+    pub stops : Agrees passes names Stops
+    pub returns : (at : Place) → Agrees passes names (Returns at)
+    pub returns_nil : (at : Place) → Agrees passes names (ReturnsNil at)
+    pub breaks : (at : Place) → Agrees passes names (Breaks at)
+    pub continues : (at : Place) → Agrees passes names (Continues at)
+    pub begins_block : Agrees passes names BeginsBlock
+    pub ends_block : Agrees passes names EndsBlock
+    pub makes_block : (at : Place) → Agrees passes names (MakesBlock at)
+
+  -- Branches and loops: two runs of each need come to the same.
+  pub record BranchesAgree : Type 0 where
+    pub makes_if : (at : Place) → Agrees passes names (MakesIf at)
+    pub heads : (assigned : List Word) → Agrees passes names (Heads assigned)
+    pub opens_loop : Agrees passes names OpensLoop
+    pub makes_while : (leaves : Bool) (at : Place) → Agrees passes names (MakesWhile leaves at)
+    pub is_item_of_loop : (at : Place) → Agrees passes names (IsItemOfLoop at)
+    pub widens_item : (at : Place) → Agrees passes names (WidensItem at)
+    pub is_counter : (at : Place) → Agrees passes names (IsCounter at)
+    pub wants_counter : Agrees passes names WantsCounter
+    pub has_item : (name : Name) (assigned : Bool) → Agrees passes names (HasItem name assigned)
+    pub makes_foreach : (at : Place) → Agrees passes names (MakesForeach at)
+    pub makes_range : (op : RangeOp) (at : Place) → Agrees passes names (MakesRange op at)
+
+-- whatever the names of the package stand for
+module _ (passes : List AtomDef → Asked → TypeLimit → Type 0) where
+  abbrev pub ValuesAgreeAlways : Type 0
+  ValuesAgreeAlways = (names : Names) → ValuesAgree passes names
+
+  abbrev pub MembersAgreeAlways : Type 0
+  MembersAgreeAlways = (names : Names) → MembersAgree passes names
+
+  abbrev pub ConstructorsAgreeAlways : Type 0
+  ConstructorsAgreeAlways = (names : Names) → ConstructorsAgree passes names
+
+  abbrev pub StatementsAgreeAlways : Type 0
+  StatementsAgreeAlways = (names : Names) → StatementsAgree passes names
+
+  abbrev pub BranchesAgreeAlways : Type 0
+  BranchesAgreeAlways = (names : Names) → BranchesAgree passes names

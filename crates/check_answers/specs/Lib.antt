@@ -1,0 +1,5 @@
+pub mod Answers
+pub mod Laws
+pub mod Pieces
+pub mod TwinStates
+pub mod TwinTypes

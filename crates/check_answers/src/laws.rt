@@ -1,0 +1,39 @@
+//! Laws of answers. These calls do nothing: their clauses are laws.
+ghost use Rattle.check_answers.specs.Laws.{BranchesAgreeAlways, ConstructorsAgreeAlways, MembersAgreeAlways, StatementsAgreeAlways, TwinsOfAtoms, ValuesAgreeAlways};
+
+use type_model::Types;
+
+/// A type has the same shapes over atoms that are twins, one by one.
+pub fn types_stay_twins()
+    ensures { TwinsOfAtoms }
+{}
+
+/// Of literals, operators, conditions and what is wanted: from states that are twins two runs of each need give states that are twins, or refuse with one fault, but for a limit that
+/// either may meet.
+pub fn values_agree<T: Types>()
+    ensures { ValuesAgreeAlways T.passes }
+{}
+
+/// Of reads and stores of members: from states that are twins two runs of each need give states that are twins, or refuse with one fault, but for a limit that
+/// either may meet.
+pub fn members_agree<T: Types>()
+    ensures { MembersAgreeAlways T.passes }
+{}
+
+/// Of constructors, but for those that make atoms: from states that are twins two runs of each need give states that are twins, or refuse with one fault, but for a limit that
+/// either may meet.
+pub fn constructors_agree<T: Types>()
+    ensures { ConstructorsAgreeAlways T.passes }
+{}
+
+/// Of statements, but for assignments with an operator, branches and loops: from states that are twins two runs of each need give states that are twins, or refuse with one fault, but for a limit that
+/// either may meet.
+pub fn statements_agree<T: Types>()
+    ensures { StatementsAgreeAlways T.passes }
+{}
+
+/// Of branches and loops: from states that are twins two runs of each need give states that are twins, or refuse with one fault, but for a limit that
+/// either may meet.
+pub fn branches_agree<T: Types>()
+    ensures { BranchesAgreeAlways T.passes }
+{}
