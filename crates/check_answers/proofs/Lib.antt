@@ -36,3 +36,12 @@ pub mod EachStatement
 pub mod Keeping
 pub mod Branches
 pub mod EachBranch
+pub mod Calls
+pub mod Actions
+pub mod EachCall
+pub mod EachAction
+pub mod Lines
+pub mod Made
+pub mod EachMadeAtom
+pub mod Named
+pub mod EachName

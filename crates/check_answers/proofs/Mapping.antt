@@ -42,7 +42,7 @@ module _ (D R E Q : Ty → Ty → Type 0) (d : (s t : Ty) → D s t → E s t) (
   choice-map c e h =
       record { before = flow-map c.before e.before h.before; other = flow-map c.other e.other h.other; first = flow-map c.first e.first h.first }
 
-  match-map : (m n : MatchAtWork) → MatchTwins D R m n → MatchTwins E Q m n
+  pub match-map : (m n : MatchAtWork) → MatchTwins D R m n → MatchTwins E Q m n
   match-map m n h =
       record {
         at = h.at;

@@ -95,7 +95,7 @@ module _ (m n : Atoms) where
   sort-leads : Leads B B Equal last_sort last_sort
   sort-leads = leads-some B Equal _ _ (λ s t a b p x y. last-same s.sorts t.sorts a b p.states.sorts x y)
 
-  sorts-leads : (b c : Bool) → c ≡ b → Leads B B Any2 (sorts b) (sorts c)
+  pub sorts-leads : (b c : Bool) → c ≡ b → Leads B B Any2 (sorts b) (sorts c)
   sorts-leads b c e =
       leads-becomes B B _ _ (λ s t p. record {
         first = p.first;

@@ -1,14 +1,21 @@
 -- Two runs of needs come to the same: between any two needs their states are twins.
-use Rattle.std.specs.Prelude.{◌≡◌, Bool, List, All, length, ⊤}
+use Rattle.std.specs.Prelude.{◌≡◌, Bool, List, All, IfOk, length, ⊤}
 use Rattle.bal_base.specs.declared.place.Place.{Place}
+use Rattle.bal_base.specs.declared.shape.Shape.{Shape}
+use Rattle.bal_tree.specs.declared.name.QualifiedName.{QualifiedName}
 use Rattle.checks.specs.Checks.{Gives, Outcome, Refuses}
+use Rattle.descriptors.specs.declared.names.Meaning.{Meaning}
+use Rattle.descriptors.specs.declared.names.Meaning.TheVariants as meaning
 use Rattle.descriptors.specs.declared.names.Names.{Names}
+use Rattle.descriptors.specs.declared.names.Scope.{Scope}
+use Rattle.descriptors.specs.Naming.{meaning_named}
 use Rattle.flow_narrowing.specs.declared.flow.Flow.{Flow}
 use Rattle.needs.specs.Agreement.{NeedAgrees}
 use Rattle.type_model.specs.declared.answers.TypeLimit.{TypeLimit}
 use Rattle.type_model.specs.declared.atoms.AtomDef.{AtomDef}
 use Rattle.type_model.specs.Calls.{Asked}
 use Rattle.type_model.specs.Defined.{IsEnv}
+use Rattle.type_model.specs.Inclusion.{IsShapeOf}
 use Rattle.expr_needs.specs.Needs.{Conjoins, Disjoins, MakesIf, MakesMatch, Need}
 use Rattle.check_words.specs.Meets.{meets}
 use Rattle.check_words.specs.Stands.{Stands}
@@ -75,3 +82,15 @@ keeping meets need old o new = meets need old o new × KeptBehind old o new × M
 -- from twins two runs of the need come to the same
 abbrev pub Agrees : (List AtomDef → Asked → TypeLimit → Type 0) → Names → Need → Type 0
 Agrees passes names need = NeedAgrees Twins (keeping (meets passes names)) need
+
+-- ---- what the names of a package stand for
+
+-- a constant has a value, whatever atoms there are
+abbrev pub IsMeaningValued : Meaning → Type 0
+IsMeaningValued (meaning.Constant t) = (env : List AtomDef) → (x : Shape) × IsShapeOf env t.sem x
+IsMeaningValued (meaning.TypeName t) = ⊤
+IsMeaningValued (meaning.Variable number final t) = ⊤
+IsMeaningValued (meaning.Function f) = ⊤
+
+abbrev pub HaveValues : Names → Type 0
+HaveValues names = (scope : Scope) (q : QualifiedName) → IfOk (meaning_named names scope q) IsMeaningValued

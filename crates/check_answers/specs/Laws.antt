@@ -1,24 +1,31 @@
 -- What corresponds in two runs.
-use Rattle.std.specs.Prelude.{ℕ, Bool, List, Option}
+use Rattle.std.specs.Prelude.{ℕ, Bool, List, All, Option}
 use Rattle.bal_base.specs.declared.fault.FaultCode.{FaultCode}
 use Rattle.bal_base.specs.declared.place.Place.{Place}
 use Rattle.bal_base.specs.declared.text.Text.{Text}
 use Rattle.bal_base.specs.declared.text.Name.{Name}
+use Rattle.bal_tree.specs.declared.action.Peer.{Peer}
 use Rattle.bal_tree.specs.declared.name.Literal.{Literal}
 use Rattle.bal_tree.specs.declared.name.QualifiedName.{QualifiedName}
 use Rattle.bal_tree.specs.declared.name.Word.{Word}
 use Rattle.bal_tree.specs.declared.stmt.RangeOp.{RangeOp}
 use Rattle.typed_tree.specs.declared.form.Operator.{Operator}
 use Rattle.typed_tree.specs.declared.stmt.PerformForm.{PerformForm}
+use Rattle.expr_needs.specs.declared.expected.Expected.{Expected}
 use Rattle.expr_needs.specs.declared.kind.Kind.{Kind}
-use Rattle.checks.specs.Agreement.{AreTwins}
+use Rattle.checks.specs.Agreement.{Alike, AreTwins}
 use Rattle.descriptors.specs.declared.names.Names.{Names}
 use Rattle.type_model.specs.declared.answers.TypeLimit.{TypeLimit}
 use Rattle.type_model.specs.declared.atoms.AtomDef.{AtomDef}
 use Rattle.type_model.specs.declared.basic.SemType.{SemType}
 use Rattle.type_model.specs.Calls.{Asked}
-use Rattle.expr_needs.specs.Needs.{Fails, IsOf, IsWanted, Widens, WantsResult, WantsErrorToo, DropsWant, GivesLiteral, Forms, Decides, IsSort, Adds, Compares, Splits, Switches, Turns, Conjoins, Disjoins, Chooses, FillsNil, Tests, Casts, Checks, ChecksPanicking, Traps, Encloses, IsAccessed, IsIndex, ReadsElement, ReadsField, ReadsOptional, HasField, ExpectsStored, ReadsStored, ReadsStoredField, BeginsKeys, GivesKey, TakesKey, ComputesKey, ExpectsItem, ExpectsMember, IsItem, IsDetail, LacksCause, Declares, IsAssignable, Assigns, ReadsName, Stores, IsIgnorable, Performs, Stops, Returns, ReturnsNil, Breaks, Continues, BeginsBlock, EndsBlock, MakesBlock, MakesIf, Heads, OpensLoop, MakesWhile, IsItemOfLoop, WidensItem, IsCounter, WantsCounter, HasItem, MakesForeach, MakesRange}
-use Rattle.check_answers.specs.Answers.{Agrees}
+use Rattle.needs.specs.Agreement.{BehindTwins}
+use Rattle.needs.specs.Needs.{all_met}
+use Rattle.typed_tree.specs.Listed.{Listed, members}
+use Rattle.check_words.specs.Meets.{meets}
+use Rattle.check_words.specs.State.{State}
+use Rattle.expr_needs.specs.Needs.{Fails, IsOf, IsWanted, Widens, WantsResult, WantsErrorToo, DropsWant, GivesLiteral, Forms, Decides, IsSort, Adds, Compares, Splits, Switches, Turns, Conjoins, Disjoins, Chooses, FillsNil, Tests, Casts, Checks, ChecksPanicking, Traps, Encloses, IsAccessed, IsIndex, ReadsElement, ReadsField, ReadsOptional, HasField, ExpectsStored, ReadsStored, ReadsStoredField, BeginsKeys, GivesKey, TakesKey, ComputesKey, ExpectsItem, ExpectsMember, IsItem, IsDetail, LacksCause, Declares, IsAssignable, Assigns, ReadsName, Stores, IsIgnorable, Performs, Stops, Returns, ReturnsNil, Breaks, Continues, BeginsBlock, EndsBlock, MakesBlock, MakesIf, Heads, OpensLoop, MakesWhile, IsItemOfLoop, WidensItem, IsCounter, WantsCounter, HasItem, MakesForeach, MakesRange, CallsValue, CallsMethod, ExpectsArgument, IsArgument, BeginsAnonymous, HasParameter, BeginsValue, IsNew, WaitsForAny, Receives, Sends, SendsAndWaits, Flushes, MakesList, MakesError, GivesNamed, CallsNamed, Awaits, Need}
+use Rattle.check_answers.specs.Answers.{Agrees, HaveValues, Twins, keeping}
 use Rattle.check_answers.specs.TwinTypes.{TwinAtoms}
 
 -- a type has the same shapes over atoms that are twins
@@ -111,6 +118,42 @@ module _ (passes : List AtomDef → Asked → TypeLimit → Type 0) (names : Nam
     pub makes_foreach : (at : Place) → Agrees passes names (MakesForeach at)
     pub makes_range : (op : RangeOp) (at : Place) → Agrees passes names (MakesRange op at)
 
+  -- Calls and anonymous functions, but for those that add atoms: two runs of each need come to the same.
+  pub record CallsAgree : Type 0 where
+    pub calls_value : Agrees passes names CallsValue
+    pub calls_method : (w : Word) (count : ℕ) (at : Place) → Agrees passes names (CallsMethod w count at)
+    pub expects_argument : (at : Place) → Agrees passes names (ExpectsArgument at)
+    pub is_argument : (at : Place) → Agrees passes names (IsArgument at)
+    pub begins_anonymous : Agrees passes names BeginsAnonymous
+    pub has_parameter : (w : Word) → Agrees passes names (HasParameter w)
+    pub begins_value : (used : List Word) → Agrees passes names (BeginsValue used)
+    pub is_new : (w : Word) → Agrees passes names (IsNew w)
+
+  -- Messages, and waits for one of several workers: two runs of each need come to the same.
+  pub record ActionsAgree : Type 0 where
+    pub waits_for_any : (qs : List QualifiedName) (at : Place) → Agrees passes names (WaitsForAny qs at)
+    pub receives : (e : Expected) (peer : Peer) (at : Place) → Agrees passes names (Receives e peer at)
+    pub sends : (peer : Peer) (at : Place) → Agrees passes names (Sends peer at)
+    pub sends_and_waits : (peer : Peer) (at : Place) → Agrees passes names (SendsAndWaits peer at)
+    pub flushes : (peer : Peer) (at : Place) → Agrees passes names (Flushes peer at)
+
+  -- Lists and errors that are made, with their atoms: two runs of each need come to the same.
+  pub record MadeAtomsAgree : Type 0 where
+    pub makes_list : (count : ℕ) (at : Place) → Agrees passes names (MakesList count at)
+    pub makes_error : (count : ℕ) (at : Place) → Agrees passes names (MakesError count at)
+
+  -- Names as values, in calls and in waits, where constants have values: two runs of each need come to the same.
+  pub record NamesAgree : Type 0 where
+    pub gives_named : HaveValues names → (q : QualifiedName) → Agrees passes names (GivesNamed q)
+    pub calls_named : HaveValues names → (started : Bool) (q : QualifiedName) (count : ℕ) (at : Place) → Agrees passes names (CallsNamed started q count at)
+    pub awaits : HaveValues names → (q : QualifiedName) → Agrees passes names (Awaits q)
+
+  -- all of these needs, one behind another, where two runs of each come to the same
+  abbrev pub LinesAgree : Type 0
+  LinesAgree =
+      (needs : Listed Need) → All (Agrees passes names) (members needs) → (s t : State) → Twins s t
+      → Alike (BehindTwins Twins (keeping (meets passes names))) s t (all_met (keeping (meets passes names)) needs) (all_met (keeping (meets passes names)) needs)
+
 -- whatever the names of the package stand for
 module _ (passes : List AtomDef → Asked → TypeLimit → Type 0) where
   abbrev pub ValuesAgreeAlways : Type 0
@@ -127,3 +170,18 @@ module _ (passes : List AtomDef → Asked → TypeLimit → Type 0) where
 
   abbrev pub BranchesAgreeAlways : Type 0
   BranchesAgreeAlways = (names : Names) → BranchesAgree passes names
+
+  abbrev pub CallsAgreeAlways : Type 0
+  CallsAgreeAlways = (names : Names) → CallsAgree passes names
+
+  abbrev pub ActionsAgreeAlways : Type 0
+  ActionsAgreeAlways = (names : Names) → ActionsAgree passes names
+
+  abbrev pub MadeAtomsAgreeAlways : Type 0
+  MadeAtomsAgreeAlways = (names : Names) → MadeAtomsAgree passes names
+
+  abbrev pub NamesAgreeAlways : Type 0
+  NamesAgreeAlways = (names : Names) → NamesAgree passes names
+
+  abbrev pub LinesAgreeAlways : Type 0
+  LinesAgreeAlways = (names : Names) → LinesAgree passes names

@@ -1,5 +1,5 @@
 //! Laws of answers. These calls do nothing: their clauses are laws.
-ghost use Rattle.check_answers.specs.Laws.{BranchesAgreeAlways, ConstructorsAgreeAlways, MembersAgreeAlways, StatementsAgreeAlways, TwinsOfAtoms, ValuesAgreeAlways};
+ghost use Rattle.check_answers.specs.Laws.{ActionsAgreeAlways, BranchesAgreeAlways, CallsAgreeAlways, ConstructorsAgreeAlways, LinesAgreeAlways, MadeAtomsAgreeAlways, MembersAgreeAlways, NamesAgreeAlways, StatementsAgreeAlways, TwinsOfAtoms, ValuesAgreeAlways};
 
 use type_model::Types;
 
@@ -36,4 +36,33 @@ pub fn statements_agree<T: Types>()
 /// either may meet.
 pub fn branches_agree<T: Types>()
     ensures { BranchesAgreeAlways T.passes }
+{}
+
+/// Of calls and anonymous functions, but for those that add atoms: from states that are twins two runs of each need give states that are twins, or refuse with one fault, but for a limit that
+/// either may meet.
+pub fn calls_agree<T: Types>()
+    ensures { CallsAgreeAlways T.passes }
+{}
+
+/// Of messages, and of waits for one of several workers: from states that are twins two runs of each need give states that are twins, or refuse with one fault, but for a limit that
+/// either may meet.
+pub fn actions_agree<T: Types>()
+    ensures { ActionsAgreeAlways T.passes }
+{}
+
+/// Of lists and errors that are made, with their atoms: from states that are twins two runs of each need give states that are twins, or refuse with one fault, but for a limit that
+/// either may meet.
+pub fn made_atoms_agree<T: Types>()
+    ensures { MadeAtomsAgreeAlways T.passes }
+{}
+
+/// Of names as values, in calls and in waits, where constants have values: from states that are twins two runs of each need give states that are twins, or refuse with one fault, but for a limit that
+/// either may meet.
+pub fn names_agree<T: Types>()
+    ensures { NamesAgreeAlways T.passes }
+{}
+
+/// Needs one behind another: where two runs of each of them come to the same, two runs of all do.
+pub fn lines_agree<T: Types>()
+    ensures { LinesAgreeAlways T.passes }
 {}

@@ -18,6 +18,6 @@
 mod laws;
 
 pub use laws::{
-    branches_agree, constructors_agree, members_agree, statements_agree, types_stay_twins,
-    values_agree,
+    actions_agree, branches_agree, calls_agree, constructors_agree, lines_agree, made_atoms_agree,
+    members_agree, names_agree, statements_agree, types_stay_twins, values_agree,
 };
