@@ -1,7 +1,7 @@
 -- What it means that a package is checked: all that it needs is met, one need behind another, and the typed package is what was found then.
-use Rattle.std.specs.Prelude.{◌≡◌, ℕ, List, [], ◌∷◌, codes, map, sum, Option, Some, None}
+use Rattle.std.specs.Prelude.{◌≡◌, ⊤, ℕ, List, [], ◌∷◌, codes, map, sum, Option, Some, None}
 use Rattle.bal_tree.specs.declared.package.Package.{Package}
-use Rattle.checks.specs.Checks.{Check, Gives, Refuses}
+use Rattle.checks.specs.Checks.{Check, Gives, Outcome, Refuses}
 use Rattle.descriptors.specs.declared.names.Names.{Names}
 use Rattle.descriptors.specs.declared.names.Signature.{Signature}
 use Rattle.descriptors.specs.Naming.{entry_in}
@@ -11,11 +11,15 @@ use Rattle.type_model.specs.declared.answers.TypeLimit.{TypeLimit}
 use Rattle.type_model.specs.declared.atoms.AtomDef.{AtomDef}
 use Rattle.type_model.specs.declared.basic.Ty.{Ty}
 use Rattle.type_model.specs.Calls.{Asked}
+use Rattle.type_model.specs.Defined.{IsEnv}
 use Rattle.typed_tree.specs.declared.package.TypedPackage.{TypedPackage}
+use Rattle.expr_needs.specs.Needs.{Need}
 use Rattle.stmt_needs.specs.PackageTable.{package_needs}
 use Rattle.check_words.specs.Meets.{meets}
+use Rattle.check_words.specs.Stands.{Stands}
 use Rattle.check_words.specs.State.{State}
 use Rattle.check_words.specs.Units.{signature_in}
+use Rattle.check_words.specs.Words.{Step}
 
 -- ---- how it begins
 
@@ -44,6 +48,22 @@ at_first env p =
       done = record { next_unit = functions_of p; functions = []; workers = []; variables = []; initialisers = [] };
     }
 
+-- ---- how it goes on
+
+-- what holds between any two needs: each type that is at hand names atoms that are there, and so do the atoms
+pub record IsAtWork (s : State) : Type 0 where
+  pub env : IsEnv s.atoms
+  pub stands : Stands s
+
+-- where it held before it holds behind
+abbrev pub StaysAtWork : State → Outcome (Unit {0}) → State → Type 0
+StaysAtWork old (Gives u) new = IsAtWork old → IsAtWork new
+StaysAtWork old (Refuses f) new = ⊤
+
+-- needs that mean the same, and keep this
+abbrev pub standing : (Need → Step) → Need → Step
+standing meets need old o new = meets need old o new × StaysAtWork old o new
+
 -- ---- how it ends
 
 -- the list atom of main's arguments, or 0 where it has no parameter
@@ -71,6 +91,6 @@ pub record IsTyped (names : Names) (p : Package) (s : State) (t : TypedPackage) 
 module _ (passes : List AtomDef → Asked → TypeLimit → Type 0) (names : Names) (p : Package) where
   unfoldable pub checked_package : Check (List AtomDef) TypedPackage
   checked_package old (Gives t) new =
-      (s : State) × all_met (meets passes names) (package_needs p) (at_first old p) (Gives tt) s × IsTyped names p s t × (new ≡ s.atoms)
+      (s : State) × all_met (standing (meets passes names)) (package_needs p) (at_first old p) (Gives tt) s × IsTyped names p s t × (new ≡ s.atoms)
   checked_package old (Refuses f) new =
-      (s : State) × all_met (meets passes names) (package_needs p) (at_first old p) (Refuses f) s × (new ≡ s.atoms)
+      (s : State) × all_met (standing (meets passes names)) (package_needs p) (at_first old p) (Refuses f) s × (new ≡ s.atoms)

@@ -13,7 +13,7 @@ use Rattle.typed_tree.specs.Listed.{members}
 use Rattle.check_words.specs.Meets.{meets}
 use Rattle.check_words.specs.State.{State}
 use Rattle.stmt_needs.specs.PackageTable.{package_needs}
-use Rattle.package_checks.specs.Checked.{IsTyped, at_first, checked_package}
+use Rattle.package_checks.specs.Checked.{IsTyped, at_first, checked_package, standing}
 
 module _ (passes : List AtomDef → Asked → TypeLimit → Type 0) where
   -- all needs of the package are met in turn, and the typed package is what was found then
@@ -21,11 +21,11 @@ module _ (passes : List AtomDef → Asked → TypeLimit → Type 0) where
   IsCheckedByNeeds =
       (names : Names) (p : Package) (old : List AtomDef) (t : TypedPackage) (new : List AtomDef)
       → checked_package passes names p old (Gives t) new
-      ↔ ((s : State) × AreMet (meets passes names) (members (package_needs p)) (at_first old p) s × IsTyped names p s t × (new ≡ s.atoms))
+      ↔ ((s : State) × AreMet (standing (meets passes names)) (members (package_needs p)) (at_first old p) s × IsTyped names p s t × (new ≡ s.atoms))
 
   -- those before one need are met, and this one is refused with the fault
   abbrev pub IsRefusedByFirstNeed : Type 0
   IsRefusedByFirstNeed =
       (names : Names) (p : Package) (old : List AtomDef) (f : Fault) (new : List AtomDef)
       → checked_package passes names p old (Refuses f) new
-      ↔ ((s : State) × FirstRefuses (meets passes names) (members (package_needs p)) (at_first old p) f s × (new ≡ s.atoms))
+      ↔ ((s : State) × FirstRefuses (standing (meets passes names)) (members (package_needs p)) (at_first old p) f s × (new ≡ s.atoms))
