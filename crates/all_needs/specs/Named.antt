@@ -9,7 +9,8 @@ use Rattle.type_model.specs.Calls.{Asked}
 use Rattle.expr_needs.specs.Needs.{Need}
 use Rattle.check_words.specs.Meets.{meets}
 use Rattle.check_words.specs.State.{State}
-use Rattle.check_work.specs.Views.{going}
+use Rattle.package_checks.specs.Checked.{standing}
+use Rattle.check_work.specs.Views.{Holds, going}
 use Rattle.check_work.specs.declared.work.Work.{Work}
 
 -- a check that looks at names, which stay
@@ -19,9 +20,14 @@ named check old o new = (new.0 ≡ old.0) × check old.0 old.1 o new.1
 abbrev pub with_names : Names → Going State → Going (Names × State)
 with_names names g = ((names, g.0), g.1)
 
-abbrev pub going_of : List AtomDef → Names → Work → Going (Names × State)
+-- what a checker is at, over these atoms and names
+unfoldable pub going_of : List AtomDef → Names → Work → Going (Names × State)
 going_of env names w = with_names names (going env w)
 
-module _ (passes : List AtomDef → Asked → TypeLimit → Type 0) where
-  abbrev pub meaning_of : Need → Check (Names × State) (Unit {0})
-  meaning_of need = named (λ names. meets passes names need)
+-- what holds of it between any two needs
+unfoldable pub stands_over : List AtomDef → Names → Work → Type 0
+stands_over env names w = Holds env names w
+
+-- what it means that a need is met, which leaves what is at hand so that each of its types names atoms that are there
+unfoldable pub meaning_of : (List AtomDef → Asked → TypeLimit → Type 0) → Need → Check (Names × State) (Unit {0})
+meaning_of passes need = named (λ names. standing (meets passes names) need)

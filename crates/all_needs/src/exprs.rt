@@ -1,296 +1,303 @@
-//! What expressions and actions need, met.
+//! What expressions and actions need, as values.
 #![tactic(auto)]
 
-ghost use Rattle.descriptors.specs.declared.names.Names.{Names as NamesOf};
-ghost use Rattle.check_words.specs.State.{State as StateOf};
-ghost use Rattle.check_work.specs.Views.{Holds};
-ghost use Rattle.all_needs.specs.Named.{going_of, meaning_of};
-
-use crate::checking::Checking;
+use crate::actions::ActionNeed;
+use crate::by_need::ByNeed;
+use crate::calls::CallNeed;
+use crate::meets::Meets;
+use crate::members::MemberNeed;
+use crate::operators::OperatorNeed;
+use crate::structures::StructureNeed;
+use crate::units::UnitNeed;
+use crate::values::ValueNeed;
 use bal_base::{FaultCode, Place, Text};
 use bal_tree::{Expr, Literal, Member, Peer, QualifiedName, TypeTree, WaitMember, Word};
 use expr_needs::{Expected, Kind, MeetsExprs};
-use type_model::Types;
 use typed_tree::Operator;
 
-impl<T: Types> MeetsExprs for Checking<'_, T> {
-    ghost State = { NamesOf × StateOf };
+impl<W: Meets> MeetsExprs for ByNeed<W> {
+    ghost State = { W.State };
 
-    ghost meaning = { meaning_of T.passes };
+    ghost meaning = { W.meaning };
 
-    ghost going = { λ c. going_of (T.atoms c.checker.types) c.checker.names.now c.checker.work };
+    ghost going = { λ b. W.going b.meets };
 
-    ghost stands = { λ c. Holds (T.atoms c.checker.types) c.checker.names.now c.checker.work };
+    ghost stands = { λ b. W.stands b.meets };
 
     // ---- any construct
 
     fn fails(&mut self, code: FaultCode, at: Place) {
-        needs_of_values::fails(&mut self.checker, code, at)
+        self.meets.values(ValueNeed::Fails(code, at))
     }
 
     fn is_of(&mut self, kind: Kind, at: Place) {
-        needs_of_operators::is_of(&mut self.checker, kind, at)
+        self.meets.operators(OperatorNeed::IsOf(kind, at))
     }
 
     fn is_wanted(&mut self, at: Place) {
-        needs_of_values::is_wanted(&mut self.checker, at)
+        self.meets.values(ValueNeed::IsWanted(at))
     }
 
     fn describes(&mut self, tree: &TypeTree) {
-        needs_of_values::describes(&mut self.checker, tree)
+        self.meets.values(ValueNeed::Describes(tree))
     }
 
     fn wants_error_too(&mut self) {
-        needs_of_values::wants_error_too(&mut self.checker)
+        self.meets.values(ValueNeed::WantsErrorToo)
     }
 
     fn drops_want(&mut self) {
-        needs_of_values::drops_want(&mut self.checker)
+        self.meets.values(ValueNeed::DropsWant)
     }
 
     // ---- names, literals and operators
 
     fn gives_literal(&mut self, literal: &Literal) {
-        needs_of_values::gives_literal(&mut self.checker, literal)
+        self.meets.values(ValueNeed::GivesLiteral(literal))
     }
 
     fn gives_named(&mut self, name: &QualifiedName) {
-        needs_of_values::gives_named(&mut self.checker, name)
+        self.meets.values(ValueNeed::GivesNamed(name))
     }
 
     fn forms(&mut self, op: Operator, count: usize, kind: Kind, at: Place) {
-        needs_of_operators::forms(&mut self.checker, op, count, kind, at)
+        self.meets
+            .operators(OperatorNeed::Forms(op, count, kind, at))
     }
 
     fn decides(&mut self, at: Place) {
-        needs_of_values::decides(&mut self.checker, at)
+        self.meets.values(ValueNeed::Decides(at))
     }
 
     fn is_sort(&mut self, at: Place) {
-        needs_of_operators::is_sort(&mut self.checker, at)
+        self.meets.operators(OperatorNeed::IsSort(at))
     }
 
     fn adds(&mut self, at: Place) {
-        needs_of_operators::adds(&mut self.checker, at)
+        self.meets.operators(OperatorNeed::Adds(at))
     }
 
     fn compares(&mut self, op: Operator, at: Place) {
-        needs_of_operators::compares(&mut self.checker, op, at)
+        self.meets.operators(OperatorNeed::Compares(op, at))
     }
 
     fn splits(&mut self, holds: bool) {
-        needs_of_values::splits(&mut self.checker, holds)
+        self.meets.values(ValueNeed::Splits(holds))
     }
 
     fn switches(&mut self) {
-        needs_of_values::switches(&mut self.checker)
+        self.meets.values(ValueNeed::Switches)
     }
 
     fn turns(&mut self, at: Place) {
-        needs_of_values::turns(&mut self.checker, at)
+        self.meets.values(ValueNeed::Turns(at))
     }
 
     fn conjoins(&mut self, at: Place) {
-        needs_of_values::conjoins(&mut self.checker, at)
+        self.meets.values(ValueNeed::Conjoins(at))
     }
 
     fn disjoins(&mut self, at: Place) {
-        needs_of_values::disjoins(&mut self.checker, at)
+        self.meets.values(ValueNeed::Disjoins(at))
     }
 
     fn chooses(&mut self, at: Place) {
-        needs_of_values::chooses(&mut self.checker, at)
+        self.meets.values(ValueNeed::Chooses(at))
     }
 
     fn fills_nil(&mut self, at: Place) {
-        needs_of_values::fills_nil(&mut self.checker, at)
+        self.meets.values(ValueNeed::FillsNil(at))
     }
 
     fn tests(&mut self, operand: &Expr, at: Place) {
-        needs_of_values::tests(&mut self.checker, operand, at)
+        self.meets.values(ValueNeed::Tests(operand, at))
     }
 
     fn casts(&mut self, at: Place) {
-        needs_of_operators::casts(&mut self.checker, at)
+        self.meets.operators(OperatorNeed::Casts(at))
     }
 
     fn checks(&mut self, at: Place) {
-        needs_of_operators::checks(&mut self.checker, at)
+        self.meets.operators(OperatorNeed::Checks(at))
     }
 
     fn checks_panicking(&mut self, at: Place) {
-        needs_of_operators::checks_panicking(&mut self.checker, at)
+        self.meets.operators(OperatorNeed::ChecksPanicking(at))
     }
 
     fn traps(&mut self, at: Place) {
-        needs_of_operators::traps(&mut self.checker, at)
+        self.meets.operators(OperatorNeed::Traps(at))
     }
 
     fn encloses(&mut self, at: Place) {
-        needs_of_values::encloses(&mut self.checker, at)
+        self.meets.values(ValueNeed::Encloses(at))
     }
 
     // ---- members
 
     fn is_accessed(&mut self, texts: bool, at: Place) {
-        needs_of_members::is_accessed(&mut self.checker, texts, at)
+        self.meets.members(MemberNeed::IsAccessed(texts, at))
     }
 
     fn is_index(&mut self, at: Place) {
-        needs_of_members::is_index(&mut self.checker, at)
+        self.meets.members(MemberNeed::IsIndex(at))
     }
 
     fn reads_element(&mut self, at: Place) {
-        needs_of_members::reads_element(&mut self.checker, at)
+        self.meets.members(MemberNeed::ReadsElement(at))
     }
 
     fn reads_field(&mut self, field: &Word, at: Place) {
-        needs_of_members::reads_field(&mut self.checker, field, at)
+        self.meets.members(MemberNeed::ReadsField(field, at))
     }
 
     fn reads_optional(&mut self, field: &Word, at: Place) {
-        needs_of_members::reads_optional(&mut self.checker, field, at)
+        self.meets.members(MemberNeed::ReadsOptional(field, at))
     }
 
     // ---- constructors
 
     fn chooses_list(&mut self, expected: Expected, items: &[Expr], at: Place) {
-        needs_of_choices::chooses_list(&mut self.checker, expected, items, at)
+        self.meets
+            .structures(StructureNeed::ChoosesList(expected, items, at))
     }
 
     fn chooses_mapping(&mut self, expected: Expected, members: &[Member], at: Place) {
-        needs_of_choices::chooses_mapping(&mut self.checker, expected, members, at)
+        self.meets
+            .structures(StructureNeed::ChoosesMapping(expected, members, at))
     }
 
     fn begins_keys(&mut self) {
-        needs_of_structures::begins_keys(&mut self.checker)
+        self.meets.structures(StructureNeed::BeginsKeys)
     }
 
     fn gives_key(&mut self, key: &Text, at: Place) {
-        needs_of_structures::gives_key(&mut self.checker, key, at)
+        self.meets.structures(StructureNeed::GivesKey(key, at))
     }
 
     fn takes_key(&mut self, key: &Text, at: Place) {
-        needs_of_structures::takes_key(&mut self.checker, key, at)
+        self.meets.structures(StructureNeed::TakesKey(key, at))
     }
 
     fn computes_key(&mut self) {
-        needs_of_structures::computes_key(&mut self.checker)
+        self.meets.structures(StructureNeed::ComputesKey)
     }
 
     fn expects_item(&mut self) {
-        needs_of_structures::expects_item(&mut self.checker)
+        self.meets.structures(StructureNeed::ExpectsItem)
     }
 
     fn expects_member(&mut self) {
-        needs_of_choices::expects_member(&mut self.checker)
+        self.meets.structures(StructureNeed::ExpectsMember)
     }
 
     fn is_item(&mut self, at: Place) {
-        needs_of_structures::is_item(&mut self.checker, at)
+        self.meets.structures(StructureNeed::IsItem(at))
     }
 
     fn is_member(&mut self, at: Place) {
-        needs_of_choices::is_member(&mut self.checker, at)
+        self.meets.structures(StructureNeed::IsMember(at))
     }
 
     fn is_detail(&mut self, at: Place) {
-        needs_of_structures::is_detail(&mut self.checker, at)
+        self.meets.structures(StructureNeed::IsDetail(at))
     }
 
     fn lacks_cause(&mut self, at: Place) {
-        needs_of_structures::lacks_cause(&mut self.checker, at)
+        self.meets.structures(StructureNeed::LacksCause(at))
     }
 
     fn makes_list(&mut self, count: usize, at: Place) {
-        needs_of_structures::makes_list(&mut self.checker, count, at)
+        self.meets.structures(StructureNeed::MakesList(count, at))
     }
 
     fn makes_mapping(&mut self, count: usize, at: Place) {
-        needs_of_structures::makes_mapping(&mut self.checker, count, at)
+        self.meets
+            .structures(StructureNeed::MakesMapping(count, at))
     }
 
     fn makes_error(&mut self, count: usize, at: Place) {
-        needs_of_structures::makes_error(&mut self.checker, count, at)
+        self.meets.structures(StructureNeed::MakesError(count, at))
     }
 
     // ---- calls
 
     fn calls_named(&mut self, started: bool, name: &QualifiedName, count: usize, at: Place) {
-        needs_of_calls::calls_named(&mut self.checker, started, name, count, at)
+        self.meets
+            .calls(CallNeed::CallsNamed(started, name, count, at))
     }
 
     fn calls_value(&mut self) {
-        needs_of_calls::calls_value(&mut self.checker)
+        self.meets.calls(CallNeed::CallsValue)
     }
 
     fn calls_method(&mut self, method: &Word, count: usize, at: Place) {
-        needs_of_calls::calls_method(&mut self.checker, method, count, at)
+        self.meets.calls(CallNeed::CallsMethod(method, count, at))
     }
 
     fn expects_argument(&mut self, at: Place) {
-        needs_of_made_calls::expects_argument(&mut self.checker, at)
+        self.meets.calls(CallNeed::ExpectsArgument(at))
     }
 
     fn is_argument(&mut self, at: Place) {
-        needs_of_calls::is_argument(&mut self.checker, at)
+        self.meets.calls(CallNeed::IsArgument(at))
     }
 
     fn makes_call(&mut self, at: Place) {
-        needs_of_made_calls::makes_call(&mut self.checker, at)
+        self.meets.calls(CallNeed::MakesCall(at))
     }
 
     fn starts(&mut self, here: Place, at: Place) {
-        needs_of_made_calls::starts(&mut self.checker, here, at)
+        self.meets.calls(CallNeed::Starts(here, at))
     }
 
     fn begins_anonymous(&mut self) {
-        needs_of_units::begins_anonymous(&mut self.checker)
+        self.meets.units(UnitNeed::BeginsAnonymous)
     }
 
     fn has_parameter(&mut self, name: &Word) {
-        needs_of_units::has_parameter(&mut self.checker, name)
+        self.meets.units(UnitNeed::HasParameter(name))
     }
 
     fn has_rest(&mut self, name: &Word) {
-        needs_of_functions::has_rest(&mut self.checker, name)
+        self.meets.units(UnitNeed::HasRest(name))
     }
 
     fn begins_value(&mut self, value: &Expr) {
-        needs_of_functions::begins_value(&mut self.checker, value)
+        self.meets.units(UnitNeed::BeginsValue(value))
     }
 
     fn makes_anonymous(&mut self, isolated: bool, at: Place) {
-        needs_of_functions::makes_anonymous(&mut self.checker, isolated, at)
+        self.meets.units(UnitNeed::MakesAnonymous(isolated, at))
     }
 
     // ---- actions
 
     fn awaits(&mut self, name: &QualifiedName) {
-        needs_of_actions::awaits(&mut self.checker, name)
+        self.meets.actions(ActionNeed::Awaits(name))
     }
 
     fn waits_for_any(&mut self, names: &[QualifiedName], at: Place) {
-        needs_of_actions::waits_for_any(&mut self.checker, names, at)
+        self.meets.actions(ActionNeed::WaitsForAny(names, at))
     }
 
     fn waits_for_all(&mut self, members: &[WaitMember], at: Place) {
-        needs_of_actions::waits_for_all(&mut self.checker, members, at)
+        self.meets.actions(ActionNeed::WaitsForAll(members, at))
     }
 
     fn receives(&mut self, expected: Expected, peer: &Peer, at: Place) {
-        needs_of_actions::receives(&mut self.checker, expected, peer, at)
+        self.meets.actions(ActionNeed::Receives(expected, peer, at))
     }
 
     fn sends(&mut self, peer: &Peer, at: Place) {
-        needs_of_actions::sends(&mut self.checker, peer, at)
+        self.meets.actions(ActionNeed::Sends(peer, at))
     }
 
     fn sends_and_waits(&mut self, peer: &Peer, at: Place) {
-        needs_of_actions::sends_and_waits(&mut self.checker, peer, at)
+        self.meets.actions(ActionNeed::SendsAndWaits(peer, at))
     }
 
     fn flushes(&mut self, peer: &Peer, at: Place) {
-        needs_of_actions::flushes(&mut self.checker, peer, at)
+        self.meets.actions(ActionNeed::Flushes(peer, at))
     }
 }
