@@ -1,8 +1,8 @@
 //! Programs as rows, each with what the checkers are to say of it: that they accept it, or with which code they refuse it and where.
 //!
-//! Of a row it is tried what can be tried without checkers. The product's lexer, parser and builder of names take its file without a
-//! fault, or with just the one that it wants, at its mark; a row that wants one which only they give gets it; a mark stands before a token of
-//! the file; and a code is one that a file may have. So a row that is misread, or whose program isn't the one that is meant, is told.
+//! The product's lexer, parser, builder of names and checker of bodies take the file of a row without a fault, or with just the one that it
+//! wants, at its mark; a mark stands before a token of the file; and a code is one that a file may have. Isolation isn't asked, and what a
+//! refusal keeps isn't compared. So a row that is misread, or whose program isn't the one that is meant, is told.
 //!
 //! - `row`: the lines of a row, and what it wants.
 //! - `program`: the file of a row, put together of its lines.

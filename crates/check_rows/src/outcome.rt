@@ -6,6 +6,9 @@ use crate::trial::{Refused, Said, tried};
 use row_lines::{Judge, Row, Told};
 use std::alloc::AllocError;
 
+/// The code of a body that breaks its promise of isolation.
+const ISOLATION: u64 = 310;
+
 /// Rows of programs.
 #[derive(Clone, Copy)]
 pub struct Programs;
@@ -77,7 +80,7 @@ fn accepts(came: Option<Refused>, told: &mut Told) {
     }
 }
 
-/// A fault with this code is wanted, at this byte if it has a place. Without checkers most codes don't come.
+/// A fault with this code is wanted, at this byte if it has a place. Isolation isn't asked, so its code doesn't come.
 fn refuses(came: Option<Refused>, code: u64, at: Option<usize>, told: &mut Told) {
     match came {
         Some(refused) => {
@@ -86,17 +89,12 @@ fn refuses(came: Option<Refused>, code: u64, at: Option<usize>, told: &mut Told)
                 told.fails("the fault stands elsewhere");
             }
         }
-        None if is_early(code) => told.fails("the fault that is wanted doesn't come"),
-        None => {}
+        None if code == ISOLATION => {}
+        None => told.fails("the fault that is wanted doesn't come"),
     }
 }
 
-/// Whether a file may be refused by this code, by what is tried here or by the checkers.
+/// Whether a file may be refused by this code.
 fn may_be(code: u64) -> bool {
-    is_early(code) || matches!(code, 203 | 204 | 207 | 208 | 301..=313 | 405)
-}
-
-/// Whether the code comes before bodies are checked, and only then.
-fn is_early(code: u64) -> bool {
-    matches!(code, 102..=105 | 205 | 206 | 309)
+    matches!(code, 102..=105 | 203..=208 | 301..=313 | 405)
 }

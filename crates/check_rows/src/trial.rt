@@ -5,6 +5,7 @@ use bal_lexer::lex;
 use bal_tree::{FileTree, Files, Module, Modules, Package, SourceFile};
 use parse_stmt::parse_file;
 use std::alloc::Global;
+use stmt_checker::{Checked, check_package};
 use subtype_decider::Decider;
 use type_builder::build;
 
@@ -69,12 +70,14 @@ fn refused_by(fault: &Fault) -> Refused {
     Refused { code, at }
 }
 
-/// Whether the parser and the builder of names take the file.
+/// Whether the parser, the builder of names and the checker of bodies take the file.
 fn taken(alloc: Global, text: &str, tokens: &[Token]) -> Result<(), Stop<Fault>> {
     let tree = parse_file(alloc, 0, tokens)?;
     let package = package_with(alloc, text, tree)?;
     let mut decider = Decider::new(alloc);
-    match build(alloc, &mut decider, &package) {
+    let names = build(alloc, &mut decider, &package)?;
+    let Checked { types: _, answer } = check_package(alloc, decider, &names, &package);
+    match answer {
         Ok(_) => Ok(()),
         Err(stop) => Err(stop),
     }
