@@ -45,3 +45,7 @@ pub mod Made
 pub mod EachMadeAtom
 pub mod Named
 pub mod EachName
+pub mod Updates
+pub mod Matches
+pub mod EachUpdate
+pub mod EachMatch

@@ -8,6 +8,8 @@ use Rattle.bal_tree.specs.declared.action.Peer.{Peer}
 use Rattle.bal_tree.specs.declared.name.Literal.{Literal}
 use Rattle.bal_tree.specs.declared.name.QualifiedName.{QualifiedName}
 use Rattle.bal_tree.specs.declared.name.Word.{Word}
+use Rattle.bal_tree.specs.declared.stmt.AssignOp.{AssignOp}
+use Rattle.bal_tree.specs.declared.stmt.Pattern.{Pattern}
 use Rattle.bal_tree.specs.declared.stmt.RangeOp.{RangeOp}
 use Rattle.typed_tree.specs.declared.form.Operator.{Operator}
 use Rattle.typed_tree.specs.declared.stmt.PerformForm.{PerformForm}
@@ -24,7 +26,7 @@ use Rattle.needs.specs.Needs.{all_met}
 use Rattle.typed_tree.specs.Listed.{Listed, members}
 use Rattle.check_words.specs.Meets.{meets}
 use Rattle.check_words.specs.State.{State}
-use Rattle.expr_needs.specs.Needs.{Fails, IsOf, IsWanted, Widens, WantsResult, WantsErrorToo, DropsWant, GivesLiteral, Forms, Decides, IsSort, Adds, Compares, Splits, Switches, Turns, Conjoins, Disjoins, Chooses, FillsNil, Tests, Casts, Checks, ChecksPanicking, Traps, Encloses, IsAccessed, IsIndex, ReadsElement, ReadsField, ReadsOptional, HasField, ExpectsStored, ReadsStored, ReadsStoredField, BeginsKeys, GivesKey, TakesKey, ComputesKey, ExpectsItem, ExpectsMember, IsItem, IsDetail, LacksCause, Declares, IsAssignable, Assigns, ReadsName, Stores, IsIgnorable, Performs, Stops, Returns, ReturnsNil, Breaks, Continues, BeginsBlock, EndsBlock, MakesBlock, MakesIf, Heads, OpensLoop, MakesWhile, IsItemOfLoop, WidensItem, IsCounter, WantsCounter, HasItem, MakesForeach, MakesRange, CallsValue, CallsMethod, ExpectsArgument, IsArgument, BeginsAnonymous, HasParameter, BeginsValue, IsNew, WaitsForAny, Receives, Sends, SendsAndWaits, Flushes, MakesList, MakesError, GivesNamed, CallsNamed, Awaits, Need}
+use Rattle.expr_needs.specs.Needs.{Fails, IsOf, IsWanted, Widens, WantsResult, WantsErrorToo, DropsWant, GivesLiteral, Forms, Decides, IsSort, Adds, Compares, Splits, Switches, Turns, Conjoins, Disjoins, Chooses, FillsNil, Tests, Casts, Checks, ChecksPanicking, Traps, Encloses, IsAccessed, IsIndex, ReadsElement, ReadsField, ReadsOptional, HasField, ExpectsStored, ReadsStored, ReadsStoredField, BeginsKeys, GivesKey, TakesKey, ComputesKey, ExpectsItem, ExpectsMember, IsItem, IsDetail, LacksCause, Declares, IsAssignable, Assigns, ReadsName, Stores, IsIgnorable, Performs, Stops, Returns, ReturnsNil, Breaks, Continues, BeginsBlock, EndsBlock, MakesBlock, MakesIf, Heads, OpensLoop, MakesWhile, IsItemOfLoop, WidensItem, IsCounter, WantsCounter, HasItem, MakesForeach, MakesRange, CallsValue, CallsMethod, ExpectsArgument, IsArgument, BeginsAnonymous, HasParameter, BeginsValue, IsNew, WaitsForAny, Receives, Sends, SendsAndWaits, Flushes, MakesList, MakesError, GivesNamed, CallsNamed, Awaits, IsOperand, UpdatesName, UpdatesElement, UpdatesField, BeginsMatch, HasPattern, BeginsClause, EndsClause, Need}
 use Rattle.check_answers.specs.Answers.{Agrees, HaveValues, Twins, keeping}
 use Rattle.check_answers.specs.TwinTypes.{TwinAtoms}
 
@@ -148,6 +150,20 @@ module _ (passes : List AtomDef → Asked → TypeLimit → Type 0) (names : Nam
     pub calls_named : HaveValues names → (started : Bool) (q : QualifiedName) (count : ℕ) (at : Place) → Agrees passes names (CallsNamed started q count at)
     pub awaits : HaveValues names → (q : QualifiedName) → Agrees passes names (Awaits q)
 
+  -- Assignments with an operator: two runs of each need come to the same.
+  pub record UpdatesAgree : Type 0 where
+    pub is_operand : (op : AssignOp) (at : Place) → Agrees passes names (IsOperand op at)
+    pub updates_name : (q : QualifiedName) (op : AssignOp) (at : Place) → Agrees passes names (UpdatesName q op at)
+    pub updates_element : (op : AssignOp) (at : Place) → Agrees passes names (UpdatesElement op at)
+    pub updates_field : (w : Word) (op : AssignOp) (at : Place) → Agrees passes names (UpdatesField w op at)
+
+  -- Matches, but for their ends: two runs of each need come to the same.
+  pub record MatchesAgree : Type 0 where
+    pub begins_match : (name : Option QualifiedName) (at : Place) → Agrees passes names (BeginsMatch name at)
+    pub has_pattern : HaveValues names → (p : Pattern) → Agrees passes names (HasPattern p)
+    pub begins_clause : (any : Bool) → Agrees passes names (BeginsClause any)
+    pub ends_clause : (at : Place) → Agrees passes names (EndsClause at)
+
   -- all of these needs, one behind another, where two runs of each come to the same
   abbrev pub LinesAgree : Type 0
   LinesAgree =
@@ -182,6 +198,12 @@ module _ (passes : List AtomDef → Asked → TypeLimit → Type 0) where
 
   abbrev pub NamesAgreeAlways : Type 0
   NamesAgreeAlways = (names : Names) → NamesAgree passes names
+
+  abbrev pub UpdatesAgreeAlways : Type 0
+  UpdatesAgreeAlways = (names : Names) → UpdatesAgree passes names
+
+  abbrev pub MatchesAgreeAlways : Type 0
+  MatchesAgreeAlways = (names : Names) → MatchesAgree passes names
 
   abbrev pub LinesAgreeAlways : Type 0
   LinesAgreeAlways = (names : Names) → LinesAgree passes names

@@ -1,5 +1,5 @@
 //! Laws of answers. These calls do nothing: their clauses are laws.
-ghost use Rattle.check_answers.specs.Laws.{ActionsAgreeAlways, BranchesAgreeAlways, CallsAgreeAlways, ConstructorsAgreeAlways, LinesAgreeAlways, MadeAtomsAgreeAlways, MembersAgreeAlways, NamesAgreeAlways, StatementsAgreeAlways, TwinsOfAtoms, ValuesAgreeAlways};
+ghost use Rattle.check_answers.specs.Laws.{ActionsAgreeAlways, BranchesAgreeAlways, CallsAgreeAlways, ConstructorsAgreeAlways, LinesAgreeAlways, MadeAtomsAgreeAlways, MatchesAgreeAlways, MembersAgreeAlways, NamesAgreeAlways, StatementsAgreeAlways, TwinsOfAtoms, UpdatesAgreeAlways, ValuesAgreeAlways};
 
 use type_model::Types;
 
@@ -60,6 +60,18 @@ pub fn made_atoms_agree<T: Types>()
 /// either may meet.
 pub fn names_agree<T: Types>()
     ensures { NamesAgreeAlways T.passes }
+{}
+
+/// Of assignments with an operator: from states that are twins two runs of each need give states that are twins, or refuse with one fault, but for a limit that
+/// either may meet.
+pub fn updates_agree<T: Types>()
+    ensures { UpdatesAgreeAlways T.passes }
+{}
+
+/// Of matches, but for their ends: from states that are twins two runs of each need give states that are twins, or refuse with one fault, but for a limit that
+/// either may meet.
+pub fn matches_agree<T: Types>()
+    ensures { MatchesAgreeAlways T.passes }
 {}
 
 /// Needs one behind another: where two runs of each of them come to the same, two runs of all do.
