@@ -1,0 +1,4 @@
+pub mod Growing
+mod Noted
+mod Strict
+mod Whole
