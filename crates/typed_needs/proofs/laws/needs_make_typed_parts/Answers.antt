@@ -1,0 +1,11 @@
+use Rattle.typed_needs.proofs.laws.needs_make_typed_parts.Goals as goal
+use Rattle.typed_needs.proofs.Opened.{literal-is-typed, operator-is-typed, trap-is-typed}
+
+pub returns-clause-literals : goal.returns-clause-literals
+returns-clause-literals g c = λ names env place. literal-is-typed env g.T.Types.passes names place
+
+pub returns-clause-operators : goal.returns-clause-operators
+returns-clause-operators g c = λ names env place. operator-is-typed env g.T.Types.passes names place
+
+pub returns-clause-traps : goal.returns-clause-traps
+returns-clause-traps g c = λ names env place. trap-is-typed env g.T.Types.passes names place
