@@ -1,5 +1,5 @@
 -- What stands behind a need that is met.
-use Rattle.std.proofs.Common.{◌≡◌, ◌∙◌, ◌++◌, inl, inr, ℕ, suc, All, List, [], ◌∷◌, length, map, Option, Some, arith, length-append, refl, rules, sym, subst, ap}
+use Rattle.std.proofs.Common.{◌≡◌, ◌∙◌, ◌++◌, inl, inr, ℕ, suc, All, Bool, true, false, List, [], ◌∷◌, length, map, Option, Some, arith, length-append, refl, rules, sym, subst, ap}
 use Rattle.bal_base.specs.declared.place.Place.{Place}
 use Rattle.bal_base.specs.declared.shape.Shape.{Shape}
 use Rattle.checks.specs.Checks.{Gives, ◌▷◌, gives_some}
@@ -18,6 +18,7 @@ use Rattle.operations.specs.declared.operation.Operation.TheVariants.{Const}
 use Rattle.operations.specs.Rows.{Surroundings, shape_of}
 use Rattle.typed_tree.proofs.ExprLayers.{expr_layers}
 use Rattle.typed_tree.specs.declared.expr.TypedExpr.{TypedExpr}
+use Rattle.typed_tree.specs.declared.form.Operator.{Operator}
 use Rattle.typed_tree.specs.declared.form.StrictForm.{StrictForm}
 use Rattle.typed_tree.specs.declared.form.StrictForm.TheVariants as form
 use Rattle.typed_tree.specs.Exprs.{type_of}
@@ -25,17 +26,18 @@ use Rattle.typed_tree.specs.SharedTypes.{Shared, sem_of}
 use Rattle.typed_tree.specs.Views.{IsStrict, IsTrap}
 use Rattle.tree_places.specs.ExprPlaces.{place_of_literal}
 use Rattle.expr_needs.specs.declared.kind.Kind.{Kind}
+use Rattle.expr_needs.specs.declared.kind.Kind.TheVariants as kind
 use Rattle.eval_model.specs.Expressions.{error_type}
 use Rattle.flow_narrowing.specs.Flows.{IfShared}
 use Rattle.check_words.specs.Kinds.{IsOfKind}
 use Rattle.check_words.specs.Stands.{PartBelow}
 use Rattle.check_words.specs.State.{AreLast, IsLast, State, all_but}
-use Rattle.check_words.specs.Values.{constant_of}
+use Rattle.check_words.specs.Values.{adds_up, compares, constant_of, forms, operator_of, sort_kind, takes_sort}
 use Rattle.check_words.specs.Words.{Atoms, OfKind, below_if, is_of, is_wanted, makes}
-use Rattle.tree_promises.specs.Made.{MadeIsTyped, sem}
+use Rattle.tree_promises.specs.Made.{GivenBy, MadeIsTyped, sem}
 use Rattle.tree_promises.specs.Types.{IsTypedExpr}
 use Rattle.tree_promises.proofs.Pieces.{made-is-typed}
-use Rattle.typed_needs.specs.Pieces.{IsBefore, KindIsAsked, LiteralIsTyped, OperatorIsTyped, TrapIsTyped, WantIsAsked}
+use Rattle.typed_needs.specs.Pieces.{ComparisonIsTyped, IsBefore, KindIsAsked, LiteralIsTyped, MakesTyped, OperatorIsTyped, SumIsTyped, TrapIsTyped, WantIsAsked}
 
 trap-type : (a : TypedExpr) (t : Shared) (at : Place) (e : TypedExpr) → IsTrap a t at e → type_of e ≡ t
 trap-type a t at e (b, is, same) = search (rules, expr_layers)
@@ -143,6 +145,26 @@ module _ (env : List AtomDef) where
     unfolding does
     made count P old new (parts, last, e, p, is) = (parts, e, last, p, ap (λ (s : State). s.found) is, ap (λ (s : State). s.atoms) is)
 
+    -- the sort is taken, and nothing else changes
+    sort-taken : (ints : Bool) (old new : State) → takes_sort old (Gives ints) new → IsLast old.sorts ints × (new.found ≡ old.found) × (new.atoms ≡ old.atoms)
+    unfolding ◌▷◌ gives_some does
+    sort-taken ints old new (i, a, (last, first), (u, b, second, (same, third))) =
+        let all : new ≡ record a { sorts = all_but 1 a.sorts } = third ∙ second in (
+          subst (λ (x : Bool). IsLast old.sorts x) (sym same) last,
+          ap (λ (s : State). s.found) all ∙ ap (λ (s : State). s.found) first,
+          ap (λ (s : State). s.atoms) all ∙ ap (λ (s : State). s.atoms) first,
+        )
+
+    sum-opened : (at : Place) (old new : State) → adds_up at old (Gives tt) new
+        → (ints : Bool) × (mid : State) × IsLast old.sorts ints × (mid.found ≡ old.found) × forms (operator_of ints) 2 (sort_kind ints) at mid (Gives tt) new
+    unfolding ◌▷◌
+    sum-opened at old new (ints, mid, first, second) = let (last, found, atoms) = sort-taken ints old mid first in (ints, mid, last, found, second)
+
+    comparison-opened : (op : Operator) (at : Place) (old new : State) → compares op at old (Gives tt) new
+        → (mid : State) × (mid.found ≡ old.found) × forms op 2 kind.Truth at mid (Gives tt) new
+    unfolding ◌▷◌
+    comparison-opened op at old new (ints, mid, first, second) = let (last, found, atoms) = sort-taken ints old mid first in (mid, found, second)
+
     module _ (place : Surroundings) where
       -- the type of what was made, over the atoms at the end
       strict-exactly : (form : StrictForm) (parts : List TypedExpr) (t : Shared) (at : Place) (count : ℕ) (P : Shape → Type 0) (old new : State) (e : TypedExpr) → IsBefore env new
@@ -166,6 +188,31 @@ module _ (env : List AtomDef) where
             typed = pieces.strict (form.Operator op) parts t at e strict typed
                 (pieces.operators op (map sem parts) (sem_of t) boolean fit (λ x valid g. (exactly x valid).1 (gives x g)));
           }
+
+      -- from a state with the same parts
+      as-before : (count : ℕ) (old mid new : State) → mid.found ≡ old.found → MakesTyped passes names env place count mid new → MakesTyped passes names env place count old new
+      as-before count old mid new same m =
+          record { part = m.part; found = subst (λ xs. new.found ≡ all_but count xs ++ m.part ∷ []) same m.found; typed = m.typed }
+
+      sum-gives : (ints : Bool) (x : Shape) → GivenBy (operator_of ints) x → IsOfKind (sort_kind ints) x
+      sum-gives true x g = g
+      sum-gives false x g = g
+
+      pub sum-is-typed : SumIsTyped passes names env place
+      sum-is-typed at old new parts ints truth before met last ends typed fit boolean =
+          let (i, mid, l, found, formed) = sum-opened at old new met in
+          let same : i ∷ [] ≡ ints ∷ [] = same-lasts old.sorts 1 (i ∷ []) (ints ∷ []) (as-lasts old.sorts i l) (as-lasts old.sorts ints last) in
+          let one : i ≡ ints = (cons-same i ints [] [] same).0 in
+          let formed' = subst (λ (b : Bool). forms (operator_of b) 2 (sort_kind b) at mid (Gives tt) new) one formed in
+          as-before 2 old mid new found
+          (operator-is-typed (operator_of ints) 2 (sort_kind ints) at mid new parts truth before formed'
+          (subst (λ xs. AreLast xs 2 parts) (sym found) ends) typed fit (sum-gives ints) boolean)
+
+      pub comparison-is-typed : ComparisonIsTyped passes names env place
+      comparison-is-typed op at old new parts truth before met ends typed fit gives boolean =
+          let (mid, found, formed) = comparison-opened op at old new met in
+          as-before 2 old mid new found
+          (operator-is-typed op 2 kind.Truth at mid new parts truth before formed (subst (λ xs. AreLast xs 2 parts) (sym found) ends) typed fit gives boolean)
 
       pub literal-is-typed : LiteralIsTyped passes names env place
       literal-is-typed l old new before met =

@@ -1,5 +1,5 @@
 -- What needs that are met say of parts, and what they make of typed ones, over all atoms that there are at the end.
-use Rattle.std.specs.Prelude.{◌≡◌, ◌++◌, ℕ, List, [], ◌∷◌, map, Some}
+use Rattle.std.specs.Prelude.{◌≡◌, ◌++◌, ℕ, Bool, List, [], ◌∷◌, map, Some}
 use Rattle.bal_base.specs.declared.place.Place.{Place}
 use Rattle.bal_base.specs.declared.shape.Shape.{Shape}
 use Rattle.bal_tree.specs.declared.name.Literal.{Literal}
@@ -16,11 +16,12 @@ use Rattle.typed_tree.specs.declared.expr.TypedExpr.{TypedExpr}
 use Rattle.typed_tree.specs.declared.form.Operator.{Operator}
 use Rattle.typed_tree.specs.SharedTypes.{Shared, sem_of}
 use Rattle.expr_needs.specs.declared.kind.Kind.{Kind}
-use Rattle.expr_needs.specs.Needs.{Need, Forms, GivesLiteral, IsOf, IsWanted, Traps}
+use Rattle.expr_needs.specs.Needs.{Need, Adds, Compares, Forms, GivesLiteral, IsOf, IsWanted, Traps}
 use Rattle.check_words.specs.Kinds.{IsOfKind}
 use Rattle.check_words.specs.Meets.{meets}
 use Rattle.check_words.specs.Stands.{Stands}
 use Rattle.check_words.specs.State.{AreLast, IsLast, State, all_but}
+use Rattle.check_words.specs.Values.{operator_of}
 use Rattle.tree_promises.specs.Made.{AreTypedExprs, GivenBy, OperandsFit, sem}
 use Rattle.tree_promises.specs.Types.{IsTypedExpr}
 
@@ -67,6 +68,19 @@ module _ (passes : List AtomDef → Asked → TypeLimit → Type 0) (names : Nam
         → IsMet (Forms op count kind at) old new → AreLast old.found count parts → AreTypedExprs env place parts
         → OperandsFit env op (map sem parts) → ((x : Shape) → GivenBy op x → IsOfKind kind x) → HasExactly env truth IsBoolean → MakesTyped count old new
 
+    -- on ints where that was decided, and else on strings
+    abbrev pub SumIsTyped : Type 0
+    SumIsTyped =
+        (at : Place) (old new : State) (parts : List TypedExpr) (ints : Bool) (truth : SemType) → IsBefore env new → IsMet (Adds at) old new
+        → IsLast old.sorts ints → AreLast old.found 2 parts → AreTypedExprs env place parts → OperandsFit env (operator_of ints) (map sem parts)
+        → HasExactly env truth IsBoolean → MakesTyped 2 old new
+
+    abbrev pub ComparisonIsTyped : Type 0
+    ComparisonIsTyped =
+        (op : Operator) (at : Place) (old new : State) (parts : List TypedExpr) (truth : SemType) → IsBefore env new → IsMet (Compares op at) old new
+        → AreLast old.found 2 parts → AreTypedExprs env place parts → OperandsFit env op (map sem parts)
+        → ((x : Shape) → GivenBy op x → IsBoolean x) → HasExactly env truth IsBoolean → MakesTyped 2 old new
+
     abbrev pub TrapIsTyped : Type 0
     TrapIsTyped =
         (at : Place) (old new : State) (e : TypedExpr) → IsBefore env old → IsBefore env new → IsMet (Traps at) old new → IsLast old.found e
@@ -88,3 +102,9 @@ OperatorsAreTyped passes = (names : Names) (env : List AtomDef) (place : Surroun
 
 abbrev pub TrapsAreTyped : (List AtomDef → Asked → TypeLimit → Type 0) → Type 0
 TrapsAreTyped passes = (names : Names) (env : List AtomDef) (place : Surroundings) → TrapIsTyped passes names env place
+
+abbrev pub SumsAreTyped : (List AtomDef → Asked → TypeLimit → Type 0) → Type 0
+SumsAreTyped passes = (names : Names) (env : List AtomDef) (place : Surroundings) → SumIsTyped passes names env place
+
+abbrev pub ComparisonsAreTyped : (List AtomDef → Asked → TypeLimit → Type 0) → Type 0
+ComparisonsAreTyped passes = (names : Names) (env : List AtomDef) (place : Surroundings) → ComparisonIsTyped passes names env place

@@ -1,5 +1,5 @@
 use Rattle.typed_needs.proofs.laws.needs_make_typed_parts.Goals as goal
-use Rattle.typed_needs.proofs.Opened.{literal-is-typed, operator-is-typed, trap-is-typed}
+use Rattle.typed_needs.proofs.Opened.{comparison-is-typed, literal-is-typed, operator-is-typed, sum-is-typed, trap-is-typed}
 
 pub returns-clause-literals : goal.returns-clause-literals
 returns-clause-literals g c = λ names env place. literal-is-typed env g.T.Types.passes names place
@@ -9,3 +9,9 @@ returns-clause-operators g c = λ names env place. operator-is-typed env g.T.Typ
 
 pub returns-clause-traps : goal.returns-clause-traps
 returns-clause-traps g c = λ names env place. trap-is-typed env g.T.Types.passes names place
+
+pub returns-clause-sums : goal.returns-clause-sums
+returns-clause-sums g c = λ names env place. sum-is-typed env g.T.Types.passes names place
+
+pub returns-clause-comparisons : goal.returns-clause-comparisons
+returns-clause-comparisons g c = λ names env place. comparison-is-typed env g.T.Types.passes names place
