@@ -1,1 +1,3 @@
+mod Copied
+mod Naming
 mod UnitsTurning

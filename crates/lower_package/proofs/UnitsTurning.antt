@@ -1,11 +1,10 @@
 -- One more unit, and the code of all of them.
 use Rattle.std.proofs.Common.{◌≡◌, ◌∙◌, ◌+◌, ◌<◌, ◌++◌, ℕ, List, [], ◌∷◌, length, map, take, get_or, refl, sym, ap, subst, Some}
-use Rattle.std.specs.Prelude.{Result, Ok, Err, IfOk, option_map, slice_get}
+use Rattle.std.specs.Prelude.{option_map, slice_get}
 use Rattle.std.specs.List.{AllZip}
 use Rattle.std.proofs.lemmas.List.{map-append, take_more}
 use Rattle.std.proofs.lemmas.Simd.{map-map}
 use Rattle.std.proofs.lemmas.Option.{slice_get-map}
-use Rattle.bal_base.specs.declared.stop.Memory.{Memory}
 use Rattle.typed_tree.specs.declared.package.TypedPackage.{TypedPackage}
 use Rattle.typed_tree.specs.Units.{UnitBody, UnitTree, unit_at}
 use Rattle.machine_model.specs.Machine.{words_of}
@@ -90,10 +89,3 @@ module _ (p : TypedPackage) (us : List UnitTree) (has : HasUnits p us) (m : Maki
 
   pub is-lowered : IsLowered code.atoms p code
   is-lowered = assembled-is-lowered p us code has is-assembled
-
-module _ (p : TypedPackage) (us : List UnitTree) (has : HasUnits p us) (m : Making) (made : m ≡ made_of us) (ls : List LaidUnit) (trees : map tree_in ls ≡ us) (firsts : map (λ l. l.first) ls ≡ firsts_made (bodies_of us) unmade) where
-  pub lowered-if : (r : Result Code Memory) → IfOk r (λ code. Agrees code (place_of m) m) → IfOk r (λ code. AllZip IsUnitOf ls code.units)
-      → IfOk r (λ code. length code.variables ≡ length p.variables.items) → IfOk r (λ code. code.initialisers ≡ map (λ i. i.unit.number) p.initialisers.items)
-      → IfOk r (λ code. code.start ≡ p.start) → IfOk r (λ code. code.words ≡ p.words) → IfOk r (λ code. IsLowered code.atoms p code)
-  lowered-if (Ok code) agrees units variables initialisers start words = is-lowered p us has m made ls trees firsts code agrees units variables initialisers start words
-  lowered-if (Err e) agrees units variables initialisers start words = tt

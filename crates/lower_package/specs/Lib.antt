@@ -1,1 +1,2 @@
+pub mod Inherent
 pub mod Limits

@@ -1,21 +1,23 @@
 //! The lowering of packages.
 #![tactic(auto, using(lower_expr::proofs::Drafting::drafting))]
 
-ghost use Rattle.std.specs.Prelude.{◌≡◌, [], IfOk, OnOk, length, map};
+ghost use Rattle.std.specs.Prelude.{◌≡◌, ◌≢◌, [], AllPairs, IfOk, OnOk, length, map};
 ghost use Rattle.std.specs.List.{AllZip};
 ghost use Rattle.bal_base.specs.Stops.{IfFault};
 ghost use Rattle.lower_model.specs.Assembled.{bodies_of, made_of};
 ghost use Rattle.lower_model.specs.Making.{firsts_made, unit_made, unmade, units_made};
-ghost use Rattle.lower_model.specs.Whole.{IsLowered};
+ghost use Rattle.lower_model.specs.Whole.{HasInherentOf, IsLowered};
 ghost use Rattle.lower_expr.specs.Drafts.{making_of};
 ghost use Rattle.package_units.specs.Held.{tree_of};
 ghost use Rattle.code_assembly.specs.declared.units.LaidUnit.{LaidUnit as Laid};
 ghost use Rattle.code_assembly.specs.Copies.{IsSameDef};
 ghost use Rattle.code_assembly.specs.Unit.{tree_in};
+ghost use Rattle.lower_package.specs.Inherent.{with_inherent as with_inherent_atoms};
 ghost use Rattle.lower_package.specs.Limits.{IsCodeLimit, IsRefused, PassesNodes};
 
-use bal_base::{Fault, FaultCode, Kept, Memory, Stop};
+use bal_base::{AtomList, Fault, FaultCode, Kept, Memory, Stop};
 use code_assembly::{LaidUnit, assemble};
+use inherent_atoms::inherent;
 use lower_expr::Draft;
 use lower_stmt::unit;
 use package_units::{HeldUnit, units};
@@ -78,23 +80,43 @@ fn fresh<'a>(alloc: Global) -> Draft<'a>
     }
 }
 
+/// The code with these inherent atoms.
+fn with_inherent(mut code: Code, inherent: Vec<u32>) -> Code
+    ensures { result ≡ with_inherent_atoms code «inherent».items }
+{
+    code.inherent = AtomList::of(inherent);
+    code
+}
+
 /// The code of a package that is not too large.
 fn code_of(alloc: Global, atoms: &[AtomDef], package: &TypedPackage) -> Result<Code, Memory>
     ensures lowered { IfOk result (λ code. IsLowered code.atoms «package».now code) }
     ensures atoms { IfOk result (λ code. AllZip IsSameDef atoms.now code.atoms) }
+    ensures inherent { IfOk result (HasInherentOf «package».now) }
+    ensures distinct { IfOk result (λ code. AllPairs ◌≢◌ code.inherent) }
 {
     let us = units(alloc, package)?;
     let mut draft = fresh(alloc);
     let laid = lay_all(alloc, &mut draft, &us)?;
-    assemble(alloc, &draft, &laid, package, atoms)
+    let found = inherent(
+        alloc,
+        atoms,
+        &us,
+        &draft.steps,
+        package.start,
+        package.words,
+    )?;
+    let code = assemble(alloc, &draft, &laid, package, atoms)?;
+    Ok(with_inherent(code, found))
 }
 
 /// The code of a package, over the definitions of its atoms, which have the same numbers there. What may come of the code is what
-/// may come of the package, by the laws of `lower_model`. The package's functions have accepted plans; nothing in instructions
-/// depends on these. It is refused with 501 exactly where it has more than [`MOST_NODES`] nodes, and the fault shows how many.
-/// It answers want of memory also for trees that no checker gives: where units don't have the numbers from 0 on, where a
-/// statement leaves a loop and there is none, and where a call has not as many operands as its unit has parameters. The time grows
-/// with the nodes of the tree and with the types of its slots and atoms.
+/// may come of the package, by the laws of `lower_model`. Its inherent atoms are those with which the package makes structures,
+/// functions and futures, each once. The package's functions have accepted plans; nothing in instructions depends on these. It is
+/// refused with 501 exactly where it has more than [`MOST_NODES`] nodes, and the fault shows how many. It answers want of memory
+/// also for trees that no checker gives: where units don't have the numbers from 0 on, where a statement leaves a loop and there
+/// is none, where a call has not as many operands as its unit has parameters, and where an atom that is named has no definition.
+/// The time grows with the nodes of the tree and with the types of its slots and atoms.
 pub fn lower(
     alloc: Global,
     env: &TypeEnv,
@@ -103,6 +125,8 @@ pub fn lower(
 ) -> Result<Code, Stop<Fault>>
     ensures lowered { IfOk result (λ code. IsLowered code.atoms «package».now code) }
     ensures atoms { IfOk result (λ code. AllZip IsSameDef env.now code.atoms) }
+    ensures inherent { IfOk result (HasInherentOf «package».now) }
+    ensures distinct { IfOk result (λ code. AllPairs ◌≢◌ code.inherent) }
     ensures limit { IfFault result (λ fault. PassesNodes «package».now × IsCodeLimit «package».now fault) }
     ensures passes { PassesNodes «package».now → IsRefused result }
 {

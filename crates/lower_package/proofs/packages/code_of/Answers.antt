@@ -1,17 +1,34 @@
 use Rattle.std.proofs.Common.{◌∙◌, ap, map, subst, sym}
-use Rattle.std.specs.Prelude.{IfOk}
 use Rattle.std.specs.List.{AllZip}
+use Rattle.lower_expr.specs.Drafts.{making_of}
 use Rattle.lower_model.specs.Assembled.{HasUnits, bodies_of}
-use Rattle.lower_model.specs.Making.{firsts_made, units_made}
+use Rattle.lower_model.specs.Making.{firsts_made, place_of, units_made}
+use Rattle.lower_model.specs.Whole.{HasInherentOf, IsLowered}
 use Rattle.package_units.specs.Held.{tree_of}
+use Rattle.package_units.specs.Noted.{AreAll}
 use Rattle.code_assembly.specs.Unit.{IsUnitOf}
-use Rattle.lower_package.proofs.UnitsTurning.{lowered-if}
+use Rattle.lower_package.specs.Inherent.{with_inherent}
+use Rattle.lower_package.proofs.Naming.{has-inherent, named-by, still-agrees}
+use Rattle.lower_package.proofs.UnitsTurning.{is-lowered}
 use Rattle.lower_package.proofs.packages.code_of.Goals as goal
 
 pub returns-clause-lowered : goal.returns-clause-lowered
 returns-clause-lowered c =
-    lowered-if c.args.package.now (map tree_of c.deref.result.now) (subst (λ us. HasUnits c.args.package.now (map tree_of us)) (sym c.deref.ensures.value) c.in_ok-us.ensures.units) _
+    let m = making_of c.lay_all.new.draft in
+    let code = with_inherent c.in_ok-code.code c.in_ok-found.found.items in
+    subst (λ x. IsLowered x.atoms c.args.package.now x) (sym c.with_inherent.ensures)
+    (is-lowered c.args.package.now (map tree_of c.deref.result.now) (subst (λ us. HasUnits c.args.package.now (map tree_of us)) (sym c.deref.ensures.value) c.in_ok-us.ensures.units) m
     (c.in_ok-laid.ensures.made ∙ ap (units_made (bodies_of (map tree_of c.deref.result.now))) c.fresh-draft.ensures) _ c.in_ok-laid.ensures.trees
-    (c.in_ok-laid.ensures.firsts ∙ ap (firsts_made (bodies_of (map tree_of c.deref.result.now))) c.fresh-draft.ensures) c.assemble.result c.assemble.ensures.made
-    (subst (λ ls. IfOk c.assemble.result (λ code. AllZip IsUnitOf ls code.units)) c.deref-2.ensures.value c.assemble.ensures.units)
-    c.assemble.ensures.variables c.assemble.ensures.initialisers c.assemble.ensures.start c.assemble.ensures.words
+    (c.in_ok-laid.ensures.firsts ∙ ap (firsts_made (bodies_of (map tree_of c.deref.result.now))) c.fresh-draft.ensures) code
+    (still-agrees c.in_ok-code.code c.in_ok-found.found.items (place_of m) m c.in_ok-code.ensures.made)
+    (subst (λ ls. AllZip IsUnitOf ls code.units) c.deref-4.ensures.value c.in_ok-code.ensures.units)
+    c.in_ok-code.ensures.variables c.in_ok-code.ensures.initialisers c.in_ok-code.ensures.start c.in_ok-code.ensures.words)
+
+pub returns-clause-inherent : goal.returns-clause-inherent
+returns-clause-inherent c =
+    let us = map tree_of c.deref.result.now in
+    subst (HasInherentOf c.args.package.now) (sym c.with_inherent.ensures)
+    (has-inherent c.args.package.now us (subst (λ us. HasUnits c.args.package.now (map tree_of us)) (sym c.deref.ensures.value) c.in_ok-us.ensures.units)
+    (subst (λ us. AreAll c.args.package.now (map tree_of us)) (sym c.deref.ensures.value) c.in_ok-us.ensures.all) (making_of c.lay_all.new.draft)
+    (c.in_ok-laid.ensures.made ∙ ap (units_made (bodies_of us)) c.fresh-draft.ensures) c.args.atoms.now c.in_ok-code.code c.in_ok-found.found.items c.in_ok-code.ensures.atoms
+    (named-by c.args.package.now c.deref.result.now c.deref-2.result.now c.lay_all.new.draft c.deref-3.result.now c.args.atoms.now c.in_ok-found.found.items (c.deref-2.ensures.value ∙ sym c.deref.ensures.value) c.deref-3.ensures.value c.in_ok-found.ensures.inherent))
