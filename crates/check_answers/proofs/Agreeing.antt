@@ -82,3 +82,19 @@ module _ (passes : List AtomDef → Asked → TypeLimit → Type 0) (names : Nam
           leads-from (These s t) (Before s.atoms t.atoms) TwinsOver Any2 _ _
           (λ i j e. subst (λ k. Before s.atoms t.atoms k j) (sym e.0) (subst (Before s.atoms t.atoms s) (sym e.1) (begins s t p)))
           (f s.atoms t.atoms p.first_atoms.closed p.second_atoms.closed p.over.atoms)
+
+  -- one that adds atoms, and looks at the states from which it begins
+  pub agrees-grown-these : ((s t : State) → Before s.atoms t.atoms s t → IsClosed s.atoms → IsClosed t.atoms → TwinAtoms s.atoms t.atoms → MeetsEvenly need s
+      → Leads (These s t) TwinsOver Any2 (meets passes names need) (meets passes names need)) → Agrees passes names need
+  agrees-grown-these f = agrees-over (λ s t p even. f s t (begins s t p) p.first_atoms.closed p.second_atoms.closed p.over.atoms even)
+
+  -- one that adds no atoms, and asks something of the state from which it begins
+  pub agrees-proper : ((s t : State) → TwinAtoms s.atoms t.atoms → MeetsEvenly need s
+      → Leads (Before s.atoms t.atoms) (Behind s.atoms t.atoms) Any2 (meets passes names need) (meets passes names need)) → Agrees passes names need
+  agrees-proper f = agrees-these (λ s t p twins even. by s t p (f s t twins even))
+    where
+      by : (s t : State) → Before s.atoms t.atoms s t → Leads (Before s.atoms t.atoms) (Behind s.atoms t.atoms) Any2 (meets passes names need) (meets passes names need)
+          → Leads (These s t) (Behind s.atoms t.atoms) Any2 (meets passes names need) (meets passes names need)
+      by s t p h =
+          leads-from (These s t) (Before s.atoms t.atoms) (Behind s.atoms t.atoms) Any2 _ _
+          (λ i j e. subst (λ k. Before s.atoms t.atoms k j) (sym e.0) (subst (Before s.atoms t.atoms s) (sym e.1) p)) h

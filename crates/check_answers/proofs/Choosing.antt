@@ -4,7 +4,6 @@ use Rattle.std.specs.List.{AllZip}
 use Rattle.std.proofs.lemmas.List.Elements.{All-cons, All-head, All-nil, All-tail, All-weaker}
 use Rattle.bal_base.specs.declared.place.Place.{Place}
 use Rattle.bal_base.specs.declared.text.Text.{Text}
-use Rattle.bal_base.specs.Valid.{IsValid}
 use Rattle.bal_tree.specs.declared.name.Literal.{Literal}
 use Rattle.checks.specs.Checks.{Check, Gives, Refuses}
 use Rattle.checks.specs.Agreement.{AreTwins}
@@ -20,15 +19,12 @@ use Rattle.check_words.specs.Sharing.{SameOption}
 use Rattle.check_words.specs.State.{State}
 use Rattle.check_words.specs.Values.{constant_of}
 use Rattle.check_words.specs.Words.{Atoms}
+use Rattle.check_answers.specs.Answers.{IsLiteralValid}
 use Rattle.check_answers.specs.TwinTypes.{TwinAtoms, TwinFields, TwinTypes}
 use Rattle.check_answers.proofs.Atoms.{lists-twin, mappings-twin}
 use Rattle.check_answers.proofs.Leading.{Leads, Pairs}
 use Rattle.check_answers.proofs.Members.{item-twins, key-twins}
 use Rattle.check_answers.proofs.Zips.{zip-long}
-
--- the shape of a literal is one
-abbrev pub IsLiteralValid : Literal → Type 0
-IsLiteralValid l = IsValid (shape_of (constant_of l))
 
 module _ (m n : Atoms) where
   abbrev W : Ty → Ty → Type 0

@@ -29,10 +29,11 @@ use Rattle.check_words.specs.Sharing.{SameOption}
 use Rattle.check_words.specs.State.{ConstructorAtWork, IsLast, State}
 use Rattle.check_words.specs.Values.{SingleOf}
 use Rattle.check_words.specs.Words.{Atoms, opens_constructor, sem, sets_constructor, some_over, wants_no_more, whether_within}
+use Rattle.check_answers.specs.Answers.{IsLiteralValid}
 use Rattle.check_answers.specs.TwinStates.{ConstructorTwins, PartTwins, SharedTwins}
 use Rattle.check_answers.specs.TwinTypes.{SettledTwins, TwinAtoms, TwinFields, TwinTypes}
 use Rattle.check_answers.proofs.Atoms.{with-lists, with-mappings}
-use Rattle.check_answers.proofs.Choosing.{IsLiteralValid, fit-leads, list-fits, mapping-fits}
+use Rattle.check_answers.proofs.Choosing.{fit-leads, list-fits, mapping-fits}
 use Rattle.check_answers.proofs.Back.{atoms-back}
 use Rattle.check_answers.proofs.Leading.{Any2, Leads, Pairs, leads-done, leads-either, leads-fails, leads-from, leads-gives, leads-over, leads-then, leads-to, leads-unless}
 use Rattle.check_answers.proofs.Meanings.{copies-twin, itself-twin, same-twin}

@@ -49,3 +49,12 @@ pub mod Updates
 pub mod Matches
 pub mod EachUpdate
 pub mod EachMatch
+pub mod Units
+pub mod EachUnit
+pub mod MatchEnds
+pub mod Initials
+pub mod NewAtoms
+pub mod CallsMade
+pub mod MemberKeys
+pub mod MadeMappings
+pub mod Anonymous

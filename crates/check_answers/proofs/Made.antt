@@ -64,23 +64,23 @@ module _ (m n : Atoms) (first : IsClosed m) (second : IsClosed n) (twins : TwinA
   to-end c d h = leads-to B (Behind m n) TwinsOver Any2 Any2 c d (λ s t a b k q. (behind-over m n s t twins k, q)) h
 
   -- types that stay twins where these are added
-  types-later : (d e : Atoms) (ts us : List Ty) → AllZip (D m n) ts us → AllZip (TwinTypes (m ++ d) (n ++ e)) ts us
+  pub types-later : (d e : Atoms) (ts us : List Ty) → AllZip (D m n) ts us → AllZip (TwinTypes (m ++ d) (n ++ e)) ts us
   types-later d e ts us h = zip-map (D m n) (TwinTypes (m ++ d) (n ++ e)) (λ s t k. let r = settled-later m n d e first second s t k in r.twins) ts us h
 
-  group : (d e gs hs : List AtomDef) → d ≡ gs → e ≡ hs → AllZip (TwinDefs (m ++ d) (n ++ e)) gs hs → AllZip (TwinDefs (m ++ d) (n ++ e)) d e
+  pub group : (d e gs hs : List AtomDef) → d ≡ gs → e ≡ hs → AllZip (TwinDefs (m ++ d) (n ++ e)) gs hs → AllZip (TwinDefs (m ++ d) (n ++ e)) d e
   group d e gs hs x y h = subst (λ k. AllZip (TwinDefs (m ++ d) (n ++ e)) k e) (sym x) (subst (AllZip (TwinDefs (m ++ d) (n ++ e)) gs) (sym y) h)
 
   -- ---- the atom that was chosen, or one that is added
 
   -- `next`: what follows, by the atom
-  chosen-or-added : (c d : Option ℕ) (P Q : Atoms → List AtomDef → Type 0) (at : Place) (next other : ℕ → Step) → d ≡ c
-      → ((d e : List AtomDef) → P m d → Q n e → AllZip (TwinDefs (m ++ d) (n ++ e)) d e)
+  pub chosen-or-added : (c d : Option ℕ) (P Q : Atoms → List AtomDef → Type 0) (at : Place) (next other : ℕ → Step) → d ≡ c
+      → (c ≡ None → (d e : List AtomDef) → P m d → Q n e → AllZip (TwinDefs (m ++ d) (n ++ e)) d e)
       → ((k l : Atoms) → TwinAtoms k l → (a b : ℕ) → b ≡ a → Leads (Before k l) (Behind k l) Any2 (next a) (other b))
       → Leads B TwinsOver Any2 (atom_of c P at ▷ next) (atom_of d Q at ▷ other)
   chosen-or-added (Some a) (Some b) P Q at next other e same f =
       leads-then B B TwinsOver Equal Any2 _ _ _ _ (leads-gives B Equal a b (let i : b ≡ a = cc in i)) (λ x y k. to-end (next x) (other y) (f m n twins x y k))
   chosen-or-added None None P Q at next other e same f =
-      leads-then B (Grown m n) TwinsOver Equal Any2 _ _ _ _ (adds-leads m n first second twins P Q (Some at) same)
+      leads-then B (Grown m n) TwinsOver Equal Any2 _ _ _ _ (adds-leads m n first second twins P Q (Some at) (same refl))
       (λ x y k. grown-ends m n Any2 (next x) (other y) (λ more others t. f (m ++ more) (n ++ others) t x y k))
   chosen-or-added (Some a) None P Q at next other e same f = absurd (cc)
   chosen-or-added None (Some b) P Q at next other e same f = absurd (cc)
@@ -92,7 +92,7 @@ module _ (m n : Atoms) (first : IsClosed m) (second : IsClosed n) (twins : TwinA
   list-leads count at =
       leads-then B B TwinsOver _ Any2 _ _ _ _ (closes-constructor-leads m n (D m n) (D m n))
       (λ c d h. chosen-or-added c.choice d.choice _ _ at _ _ h.choice
-      (λ ds es x y. group ds es (ListAtom c.types None ∷ []) (ListAtom d.types None ∷ []) x y ((types-later ds es c.types d.types h.types, tt), tt))
+      (λ none ds es x y. group ds es (ListAtom c.types None ∷ []) (ListAtom d.types None ∷ []) x y ((types-later ds es c.types d.types h.types, tt), tt))
       (λ k l t a b e. made-leads k l t a b c.immutable d.immutable e h.immutable count (form.List a c.immutable) (form.List b d.immutable) at
       (list-form a b c.immutable d.immutable e h.immutable)))
 
@@ -107,7 +107,7 @@ module _ (m n : Atoms) (first : IsClosed m) (second : IsClosed n) (twins : TwinA
   fields-same d e (k ∷ ks) [] (u ∷ us) h = absurd h
   fields-same d e (k ∷ ks) (t ∷ ts) [] h = absurd h
 
-  fields-equal : (d e : Atoms) (ks ls : List (Option Text)) (ts us : List Ty) → ls ≡ ks → AllZip (TwinTypes (m ++ d) (n ++ e)) ts us
+  pub fields-equal : (d e : Atoms) (ks ls : List (Option Text)) (ts us : List Ty) → ls ≡ ks → AllZip (TwinTypes (m ++ d) (n ++ e)) ts us
       → AllZip (TwinFields (m ++ d) (n ++ e)) (fields_with ks ts) (fields_with ls us)
   fields-equal d e ks ls ts us i h = subst (λ k. AllZip (TwinFields (m ++ d) (n ++ e)) (fields_with ks ts) (fields_with k us)) (sym i) (fields-same d e ks ts us h)
 
@@ -124,7 +124,7 @@ module _ (m n : Atoms) (first : IsClosed m) (second : IsClosed n) (twins : TwinA
       (subst (λ k. Fits M x d ↔ IsSomeAnd k (Fits N x)) (sym b) (fits-twins M N x valid d e h))
 
   -- the first atom that is added
-  first-twins : (gs hs : List AtomDef) (d e : AtomDef) (more others : List AtomDef) → gs ≡ d ∷ more → hs ≡ e ∷ others → TwinDefs (m ++ gs) (n ++ hs) d e
+  pub first-twins : (gs hs : List AtomDef) (d e : AtomDef) (more others : List AtomDef) → gs ≡ d ∷ more → hs ≡ e ∷ others → TwinDefs (m ++ gs) (n ++ hs) d e
       → AreTwins (m ++ gs) (Atom (length m)) (n ++ hs) (Atom (length n))
   first-twins gs hs d e more others x y h z valid =
       some-fits (m ++ gs) (n ++ hs) _ _ d e z valid (subst (λ k. slice_get (m ++ k) (length m) ≡ Some d) (sym x) (get-behind m more d))

@@ -250,7 +250,8 @@ module _ (m n : Atoms) where
 
   pub joins-leads : (F : Pairs) (f g a b : Flow) → ((s t : State) → F s t → (s.atoms ≡ m) × (t.atoms ≡ n)) → FlowTwins (D m n) (D m n) f a
       → FlowTwins (D m n) (D m n) g b → length g.variables ≡ length f.variables → Leads F F (FlowTwins (D m n) (W m n)) (joins_two f g) (joins_two a b)
-  joins-leads F f g a b at h k even = leads-over m n F _ _ _ at (λ c d x y. joins-twin m n f g c a b d h k even x y)
+  joins-leads F f g a b at h k even =
+      leads-over m n F _ _ _ at (λ c d x y. joins-twin m n f g c a b d (flow-weak f a h) (flow-weak g b k) even x y)
 
   pub conjoins-leads : (at : Place) (s t : State) → B s t → OtherIsEven (λ w. w.no) s → Leads (These s t) A Any2 (conjoins at) (conjoins at)
   conjoins-leads at s t p even =

@@ -1,7 +1,9 @@
 -- Two runs of needs come to the same: between any two needs their states are twins.
-use Rattle.std.specs.Prelude.{◌≡◌, Bool, List, All, IfOk, length, ⊤}
+use Rattle.std.specs.Prelude.{◌≡◌, ◌≢◌, ℕ, Bool, true, None, List, All, IfOk, length, ⊤}
 use Rattle.bal_base.specs.declared.place.Place.{Place}
 use Rattle.bal_base.specs.declared.shape.Shape.{Shape}
+use Rattle.bal_base.specs.Valid.{IsText, IsValid}
+use Rattle.bal_tree.specs.declared.name.Literal.{Literal}
 use Rattle.bal_tree.specs.declared.name.QualifiedName.{QualifiedName}
 use Rattle.checks.specs.Checks.{Gives, Outcome, Refuses}
 use Rattle.descriptors.specs.declared.names.Meaning.{Meaning}
@@ -11,15 +13,21 @@ use Rattle.descriptors.specs.declared.names.Scope.{Scope}
 use Rattle.descriptors.specs.Naming.{meaning_named}
 use Rattle.flow_narrowing.specs.declared.flow.Flow.{Flow}
 use Rattle.needs.specs.Agreement.{NeedAgrees}
+use Rattle.operations.specs.declared.library.LibraryCall.TheVariants.{CloneReadOnly}
+use Rattle.operations.specs.Rows.{shape_of}
+use Rattle.operations.specs.Structures.{IsMappingAtom}
 use Rattle.type_model.specs.declared.answers.TypeLimit.{TypeLimit}
 use Rattle.type_model.specs.declared.atoms.AtomDef.{AtomDef}
+use Rattle.type_model.specs.declared.atoms.FieldDef.{FieldDef}
 use Rattle.type_model.specs.Calls.{Asked}
 use Rattle.type_model.specs.Defined.{IsEnv}
 use Rattle.type_model.specs.Inclusion.{IsShapeOf}
-use Rattle.expr_needs.specs.Needs.{Conjoins, Disjoins, MakesIf, MakesMatch, Need}
+use Rattle.expr_needs.specs.Needs.{Conjoins, Disjoins, IsMember, MakesCall, MakesIf, MakesMapping, MakesMatch, Need}
+use Rattle.check_words.specs.Constructors.{all_known}
 use Rattle.check_words.specs.Meets.{meets}
 use Rattle.check_words.specs.Stands.{Stands}
-use Rattle.check_words.specs.State.{ChoiceAtWork, IsLast, MatchAtWork, State, UnitAtWork, Ways, ways_or_same}
+use Rattle.check_words.specs.State.{CallAtWork, Called, OfFunction, OfLibrary, OfValue, ChoiceAtWork, ConstructorAtWork, IsLast, MatchAtWork, State, UnitAtWork, Ways, ways_or_same}
+use Rattle.check_words.specs.Values.{constant_of}
 use Rattle.check_words.specs.Words.{Step}
 use Rattle.check_answers.specs.TwinStates.{StateTwins}
 use Rattle.check_answers.specs.TwinTypes.{SettledTwins, TwinAtoms, TwinTypes}
@@ -69,12 +77,32 @@ BranchIsEven s = (c : ChoiceAtWork) (f : Flow) → IsLast s.choices c → IsFlow
 abbrev pub MatchIsEven : State → Type 0
 MatchIsEven s = (m : MatchAtWork) → IsLast s.matches m → All (AreEven m.before) m.ends
 
+-- the fields of atoms have texts as their names
+abbrev pub NamesAreTexts : List AtomDef → Type 0
+NamesAreTexts env = (a : ℕ) (fields : List FieldDef) → IsMappingAtom env a (λ fs rest. fields ≡ fs) → All (λ f. IsText f.name) fields
+
+-- all keys of the last constructor are known, where no atom was chosen for it
+abbrev pub KeysAreKnown : State → Type 0
+KeysAreKnown s = (c : ConstructorAtWork) → IsLast s.constructors c → c.choice ≡ None → all_known c.keys ≡ true
+
+-- no call at hand is one of `cloneReadOnly`, which writes a type of its own into the tree
+abbrev pub IsNoClone : Called → Type 0
+IsNoClone (OfLibrary r receiver) = r.call ≢ CloneReadOnly
+IsNoClone (OfFunction f) = ⊤
+IsNoClone OfValue = ⊤
+
+abbrev pub ClonesNothing : State → Type 0
+ClonesNothing s = (c : CallAtWork) → IsLast s.calls c → IsNoClone c.callee
+
 -- Where a need joins ways, they know of the same variables: of a join of others nothing is said.
 pub record MeetsEvenly (need : Need) (s : State) : Type 0 where
   pub conjoined : (at : Place) → need ≡ Conjoins at → OtherIsEven (λ w. w.no) s
   pub disjoined : (at : Place) → need ≡ Disjoins at → OtherIsEven (λ w. w.yes) s
   pub branched : (at : Place) → need ≡ MakesIf at → BranchIsEven s
   pub matched : (any : Bool) (at : Place) → need ≡ MakesMatch any at → MatchIsEven s
+  pub called : (at : Place) → need ≡ MakesCall at → ClonesNothing s
+  pub placed : (at : Place) → need ≡ IsMember at → NamesAreTexts s.atoms
+  pub mapped : (count : ℕ) (at : Place) → need ≡ MakesMapping count at → KeysAreKnown s
 
 abbrev pub keeping : (Need → Step) → Need → Step
 keeping meets need old o new = meets need old o new × KeptBehind old o new × MeetsEvenly need old
@@ -94,3 +122,9 @@ IsMeaningValued (meaning.Function f) = ⊤
 
 abbrev pub HaveValues : Names → Type 0
 HaveValues names = (scope : Scope) (q : QualifiedName) → IfOk (meaning_named names scope q) IsMeaningValued
+
+-- ---- what a constructor sees of its members
+
+-- the value of a literal is one: an int in range, or a text of characters
+abbrev pub IsLiteralValid : Literal → Type 0
+IsLiteralValid l = IsValid (shape_of (constant_of l))

@@ -1,10 +1,13 @@
 -- What corresponds in two runs.
-use Rattle.std.specs.Prelude.{ℕ, Bool, List, All, Option}
+use Rattle.std.specs.Prelude.{ℕ, Bool, List, All, IfSome, Option}
 use Rattle.bal_base.specs.declared.fault.FaultCode.{FaultCode}
 use Rattle.bal_base.specs.declared.place.Place.{Place}
 use Rattle.bal_base.specs.declared.text.Text.{Text}
 use Rattle.bal_base.specs.declared.text.Name.{Name}
 use Rattle.bal_tree.specs.declared.action.Peer.{Peer}
+use Rattle.bal_tree.specs.declared.def.FunctionDef.{FunctionDef}
+use Rattle.bal_tree.specs.declared.def.VariableDef.{VariableDef}
+use Rattle.bal_tree.specs.declared.def.Worker.{Worker}
 use Rattle.bal_tree.specs.declared.name.Literal.{Literal}
 use Rattle.bal_tree.specs.declared.name.QualifiedName.{QualifiedName}
 use Rattle.bal_tree.specs.declared.name.Word.{Word}
@@ -26,8 +29,8 @@ use Rattle.needs.specs.Needs.{all_met}
 use Rattle.typed_tree.specs.Listed.{Listed, members}
 use Rattle.check_words.specs.Meets.{meets}
 use Rattle.check_words.specs.State.{State}
-use Rattle.expr_needs.specs.Needs.{Fails, IsOf, IsWanted, Widens, WantsResult, WantsErrorToo, DropsWant, GivesLiteral, Forms, Decides, IsSort, Adds, Compares, Splits, Switches, Turns, Conjoins, Disjoins, Chooses, FillsNil, Tests, Casts, Checks, ChecksPanicking, Traps, Encloses, IsAccessed, IsIndex, ReadsElement, ReadsField, ReadsOptional, HasField, ExpectsStored, ReadsStored, ReadsStoredField, BeginsKeys, GivesKey, TakesKey, ComputesKey, ExpectsItem, ExpectsMember, IsItem, IsDetail, LacksCause, Declares, IsAssignable, Assigns, ReadsName, Stores, IsIgnorable, Performs, Stops, Returns, ReturnsNil, Breaks, Continues, BeginsBlock, EndsBlock, MakesBlock, MakesIf, Heads, OpensLoop, MakesWhile, IsItemOfLoop, WidensItem, IsCounter, WantsCounter, HasItem, MakesForeach, MakesRange, CallsValue, CallsMethod, ExpectsArgument, IsArgument, BeginsAnonymous, HasParameter, BeginsValue, IsNew, WaitsForAny, Receives, Sends, SendsAndWaits, Flushes, MakesList, MakesError, GivesNamed, CallsNamed, Awaits, IsOperand, UpdatesName, UpdatesElement, UpdatesField, BeginsMatch, HasPattern, BeginsClause, EndsClause, Need}
-use Rattle.check_answers.specs.Answers.{Agrees, HaveValues, Twins, keeping}
+use Rattle.expr_needs.specs.Needs.{Fails, IsOf, IsWanted, Widens, WantsResult, WantsErrorToo, DropsWant, GivesLiteral, Forms, Decides, IsSort, Adds, Compares, Splits, Switches, Turns, Conjoins, Disjoins, Chooses, FillsNil, Tests, Casts, Checks, ChecksPanicking, Traps, Encloses, IsAccessed, IsIndex, ReadsElement, ReadsField, ReadsOptional, HasField, ExpectsStored, ReadsStored, ReadsStoredField, ChoosesList, ChoosesMapping, BeginsKeys, GivesKey, TakesKey, ComputesKey, ExpectsItem, ExpectsMember, IsItem, IsDetail, LacksCause, IsMember, Declares, IsAssignable, Assigns, ReadsName, Stores, IsIgnorable, Performs, Stops, Returns, ReturnsNil, Breaks, Continues, BeginsBlock, EndsBlock, MakesBlock, MakesIf, Heads, OpensLoop, MakesWhile, IsItemOfLoop, WidensItem, IsCounter, WantsCounter, HasItem, MakesForeach, MakesRange, CallsValue, CallsMethod, ExpectsArgument, IsArgument, BeginsAnonymous, HasParameter, BeginsValue, IsNew, WaitsForAny, Receives, Sends, SendsAndWaits, Flushes, MakesList, MakesError, WaitsForAll, HasRest, MakesCall, MakesMapping, MakesAnonymous, GivesNamed, CallsNamed, Awaits, IsOperand, UpdatesName, UpdatesElement, UpdatesField, BeginsMatch, HasPattern, BeginsClause, EndsClause, MakesMatch, EntersFile, NamesParameter, EndsFunction, EndsValueFunction, BeginsWorker, EndsWorker, EndsModule, BeginsInitial, EndsInitial, Need, MemberSeen}
+use Rattle.check_answers.specs.Answers.{Agrees, HaveValues, IsLiteralValid, Twins, keeping}
 use Rattle.check_answers.specs.TwinTypes.{TwinAtoms}
 
 -- a type has the same shapes over atoms that are twins
@@ -78,6 +81,8 @@ module _ (passes : List AtomDef → Asked → TypeLimit → Type 0) (names : Nam
 
   -- Constructors, but for those that make atoms: two runs of each need come to the same.
   pub record ConstructorsAgree : Type 0 where
+    pub chooses_list : (e : Expected) (items : List (Option Literal)) (at : Place) → All (λ i. IfSome i IsLiteralValid) items → Agrees passes names (ChoosesList e items at)
+    pub chooses_mapping : (e : Expected) (ms : List MemberSeen) (at : Place) → All (λ x. IfSome x.literal IsLiteralValid) ms → Agrees passes names (ChoosesMapping e ms at)
     pub begins_keys : Agrees passes names BeginsKeys
     pub gives_key : (text : Text) (at : Place) → Agrees passes names (GivesKey text at)
     pub takes_key : (text : Text) (at : Place) → Agrees passes names (TakesKey text at)
@@ -87,6 +92,7 @@ module _ (passes : List AtomDef → Asked → TypeLimit → Type 0) (names : Nam
     pub is_item : (at : Place) → Agrees passes names (IsItem at)
     pub is_detail : (at : Place) → Agrees passes names (IsDetail at)
     pub lacks_cause : (at : Place) → Agrees passes names (LacksCause at)
+    pub is_member : (at : Place) → Agrees passes names (IsMember at)
 
   -- Statements, but for assignments with an operator, branches and loops: two runs of each need come to the same.
   pub record StatementsAgree : Type 0 where
@@ -139,10 +145,15 @@ module _ (passes : List AtomDef → Asked → TypeLimit → Type 0) (names : Nam
     pub sends_and_waits : (peer : Peer) (at : Place) → Agrees passes names (SendsAndWaits peer at)
     pub flushes : (peer : Peer) (at : Place) → Agrees passes names (Flushes peer at)
 
-  -- Lists and errors that are made, with their atoms: two runs of each need come to the same.
+  -- Lists, mappings and errors that are made, anonymous functions, calls, waits for several, and what takes the rest of arguments, with their atoms: two runs of each need come to the same.
   pub record MadeAtomsAgree : Type 0 where
     pub makes_list : (count : ℕ) (at : Place) → Agrees passes names (MakesList count at)
     pub makes_error : (count : ℕ) (at : Place) → Agrees passes names (MakesError count at)
+    pub waits_for_all : (qs : List QualifiedName) (at : Place) → Agrees passes names (WaitsForAll qs at)
+    pub has_rest : (w : Word) → Agrees passes names (HasRest w)
+    pub makes_call : (at : Place) → Agrees passes names (MakesCall at)
+    pub makes_mapping : (count : ℕ) (at : Place) → Agrees passes names (MakesMapping count at)
+    pub makes_anonymous : (isolated : Bool) (at : Place) → Agrees passes names (MakesAnonymous isolated at)
 
   -- Names as values, in calls and in waits, where constants have values: two runs of each need come to the same.
   pub record NamesAgree : Type 0 where
@@ -157,12 +168,25 @@ module _ (passes : List AtomDef → Asked → TypeLimit → Type 0) (names : Nam
     pub updates_element : (op : AssignOp) (at : Place) → Agrees passes names (UpdatesElement op at)
     pub updates_field : (w : Word) (op : AssignOp) (at : Place) → Agrees passes names (UpdatesField w op at)
 
-  -- Matches, but for their ends: two runs of each need come to the same.
+  -- Matches: two runs of each need come to the same.
   pub record MatchesAgree : Type 0 where
     pub begins_match : (name : Option QualifiedName) (at : Place) → Agrees passes names (BeginsMatch name at)
     pub has_pattern : HaveValues names → (p : Pattern) → Agrees passes names (HasPattern p)
     pub begins_clause : (any : Bool) → Agrees passes names (BeginsClause any)
     pub ends_clause : (at : Place) → Agrees passes names (EndsClause at)
+    pub makes_match : (any : Bool) (at : Place) → Agrees passes names (MakesMatch any at)
+
+  -- Files, modules, their variables, functions that end, parameters and workers: two runs of each need come to the same.
+  pub record UnitsAgree : Type 0 where
+    pub enters_file : (k file : ℕ) → Agrees passes names (EntersFile k file)
+    pub names_parameter : (w : Word) (assigned : Bool) → Agrees passes names (NamesParameter w assigned)
+    pub ends_function : (d : FunctionDef) (close : Place) → Agrees passes names (EndsFunction d close)
+    pub ends_value_function : (d : FunctionDef) → Agrees passes names (EndsValueFunction d)
+    pub begins_worker : (w : Worker) (number : ℕ) (used : List Word) → Agrees passes names (BeginsWorker w number used)
+    pub ends_worker : (w : Worker) (close : Place) → Agrees passes names (EndsWorker w close)
+    pub ends_module : (k : ℕ) → Agrees passes names (EndsModule k)
+    pub begins_initial : (d : VariableDef) (kept : Bool) → Agrees passes names (BeginsInitial d kept)
+    pub ends_initial : (d : VariableDef) (kept : Bool) → Agrees passes names (EndsInitial d kept)
 
   -- all of these needs, one behind another, where two runs of each come to the same
   abbrev pub LinesAgree : Type 0
@@ -204,6 +228,9 @@ module _ (passes : List AtomDef → Asked → TypeLimit → Type 0) where
 
   abbrev pub MatchesAgreeAlways : Type 0
   MatchesAgreeAlways = (names : Names) → MatchesAgree passes names
+
+  abbrev pub UnitsAgreeAlways : Type 0
+  UnitsAgreeAlways = (names : Names) → UnitsAgree passes names
 
   abbrev pub LinesAgreeAlways : Type 0
   LinesAgreeAlways = (names : Names) → LinesAgree passes names

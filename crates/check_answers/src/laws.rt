@@ -1,5 +1,5 @@
 //! Laws of answers. These calls do nothing: their clauses are laws.
-ghost use Rattle.check_answers.specs.Laws.{ActionsAgreeAlways, BranchesAgreeAlways, CallsAgreeAlways, ConstructorsAgreeAlways, LinesAgreeAlways, MadeAtomsAgreeAlways, MatchesAgreeAlways, MembersAgreeAlways, NamesAgreeAlways, StatementsAgreeAlways, TwinsOfAtoms, UpdatesAgreeAlways, ValuesAgreeAlways};
+ghost use Rattle.check_answers.specs.Laws.{ActionsAgreeAlways, BranchesAgreeAlways, CallsAgreeAlways, ConstructorsAgreeAlways, LinesAgreeAlways, MadeAtomsAgreeAlways, MatchesAgreeAlways, MembersAgreeAlways, NamesAgreeAlways, StatementsAgreeAlways, TwinsOfAtoms, UnitsAgreeAlways, UpdatesAgreeAlways, ValuesAgreeAlways};
 
 use type_model::Types;
 
@@ -50,7 +50,7 @@ pub fn actions_agree<T: Types>()
     ensures { ActionsAgreeAlways T.passes }
 {}
 
-/// Of lists and errors that are made, with their atoms: from states that are twins two runs of each need give states that are twins, or refuse with one fault, but for a limit that
+/// Of lists, mappings and errors that are made, of anonymous functions, of calls, of waits for several and of what takes the rest of arguments, with their atoms: from states that are twins two runs of each need give states that are twins, or refuse with one fault, but for a limit that
 /// either may meet.
 pub fn made_atoms_agree<T: Types>()
     ensures { MadeAtomsAgreeAlways T.passes }
@@ -68,10 +68,16 @@ pub fn updates_agree<T: Types>()
     ensures { UpdatesAgreeAlways T.passes }
 {}
 
-/// Of matches, but for their ends: from states that are twins two runs of each need give states that are twins, or refuse with one fault, but for a limit that
+/// Of matches: from states that are twins two runs of each need give states that are twins, or refuse with one fault, but for a limit that
 /// either may meet.
 pub fn matches_agree<T: Types>()
     ensures { MatchesAgreeAlways T.passes }
+{}
+
+/// Of files, modules, their variables, functions that end, parameters and workers: from states that are twins two runs of each need give states that are twins, or refuse with one fault, but for a limit that
+/// either may meet.
+pub fn units_agree<T: Types>()
+    ensures { UnitsAgreeAlways T.passes }
 {}
 
 /// Needs one behind another: where two runs of each of them come to the same, two runs of all do.
