@@ -48,7 +48,7 @@ all-last : {A : Type 0} (P : A → Type 0) (kept : List A) (x : A) → All P (ke
 all-last P [] x h = h 0 x (omega arith)
 all-last P (k ∷ kept) x h = all-last P kept x (λ i d lt. h (suc i) d (omega (arith, lt)))
 
-cons-same : {A : Type 0} (x y : A) (xs ys : List A) → x ∷ xs ≡ y ∷ ys → (x ≡ y) × (xs ≡ ys)
+pub cons-same : {A : Type 0} (x y : A) (xs ys : List A) → x ∷ xs ≡ y ∷ ys → (x ≡ y) × (xs ≡ ys)
 cons-same x y xs ys e = ((let a : x ≡ y = cc in a), (let b : xs ≡ ys = cc in b))
 
 nil-cons : {A : Type 0} (x : A) (xs : List A) → [] ≡ x ∷ xs → ⊥
@@ -61,10 +61,10 @@ same-ends (k ∷ ks) (j ∷ js) xs ys e long = same-ends ks js xs ys (cons-same 
 same-ends [] (j ∷ js) xs ys e long = absurd (let all : length xs ≡ length (j ∷ js ++ ys) = ap length e in let more = length-append (j ∷ js) ys in omega arith)
 same-ends (k ∷ ks) [] xs ys e long = absurd (let all : length (k ∷ ks ++ xs) ≡ length ys = ap length e in let more = length-append (k ∷ ks) xs in omega arith)
 
-same-lasts : {A : Type 0} (xs : List A) (count : ℕ) (ys zs : List A) → AreLast xs count ys → AreLast xs count zs → ys ≡ zs
+pub same-lasts : {A : Type 0} (xs : List A) (count : ℕ) (ys zs : List A) → AreLast xs count ys → AreLast xs count zs → ys ≡ zs
 same-lasts xs count ys zs l m = same-ends l.kept m.kept ys zs (sym l.is ∙ m.is) (l.many ∙ sym m.many)
 
-as-lasts : {A : Type 0} (xs : List A) (x : A) → IsLast xs x → AreLast xs 1 (x ∷ [])
+pub as-lasts : {A : Type 0} (xs : List A) (x : A) → IsLast xs x → AreLast xs 1 (x ∷ [])
 as-lasts xs x l = record { kept = l.kept; is = l.is; many = refl }
 
 no-members : {A : Type 0} (xs : List A) → length xs ≡ 0 → xs ≡ []
@@ -74,14 +74,14 @@ no-members (x ∷ xs) e = absurd (omega (arith, e))
 module _ (env : List AtomDef) where
   -- ---- over the atoms at the end
 
-  exactly-later : (old : List AtomDef) (P : Shape → Type 0) (t : SemType) → KeepsTypes old env → IsDefined old t → HasExactly old t P → HasExactly env t P
+  pub exactly-later : (old : List AtomDef) (P : Shape → Type 0) (t : SemType) → KeepsTypes old env → IsDefined old t → HasExactly old t P → HasExactly env t P
   exactly-later old P t keeps defined h x valid =
       ((λ i. (h x valid).0 ((keeps.shapes t defined x).1 i)), (λ p. (keeps.shapes t defined x).0 ((h x valid).1 p)))
 
   sub-later : (old : List AtomDef) (s t : SemType) → KeepsTypes old env → IsDefined old s → IsDefined old t → Sub old s t → Sub env s t
   sub-later old s t keeps first second h x valid i = (keeps.shapes t second x).0 (h x valid ((keeps.shapes s first x).1 i))
 
-  last-defined : (s : State) (e : TypedExpr) → IsBefore env s → IsLast s.found e → IsDefined s.atoms (sem e)
+  pub last-defined : (s : State) (e : TypedExpr) → IsBefore env s → IsLast s.found e → IsDefined s.atoms (sem e)
   last-defined s e before last =
       (all-last (PartBelow (length s.atoms)) last.kept e (subst (All (PartBelow (length s.atoms))) last.is before.stands.found)).0
 
@@ -190,7 +190,7 @@ module _ (env : List AtomDef) where
           }
 
       -- from a state with the same parts
-      as-before : (count : ℕ) (old mid new : State) → mid.found ≡ old.found → MakesTyped passes names env place count mid new → MakesTyped passes names env place count old new
+      pub as-before : (count : ℕ) (old mid new : State) → mid.found ≡ old.found → MakesTyped passes names env place count mid new → MakesTyped passes names env place count old new
       as-before count old mid new same m =
           record { part = m.part; found = subst (λ xs. new.found ≡ all_but count xs ++ m.part ∷ []) same m.found; typed = m.typed }
 

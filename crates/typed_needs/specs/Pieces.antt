@@ -16,13 +16,13 @@ use Rattle.typed_tree.specs.declared.expr.TypedExpr.{TypedExpr}
 use Rattle.typed_tree.specs.declared.form.Operator.{Operator}
 use Rattle.typed_tree.specs.SharedTypes.{Shared, sem_of}
 use Rattle.expr_needs.specs.declared.kind.Kind.{Kind}
-use Rattle.expr_needs.specs.Needs.{Need, Adds, Compares, Forms, GivesLiteral, IsOf, IsWanted, Traps}
+use Rattle.expr_needs.specs.Needs.{Need, Adds, Compares, Conjoins, Disjoins, Encloses, Forms, GivesLiteral, IsOf, IsWanted, Traps, Turns}
 use Rattle.check_words.specs.Kinds.{IsOfKind}
 use Rattle.check_words.specs.Meets.{meets}
 use Rattle.check_words.specs.Stands.{Stands}
 use Rattle.check_words.specs.State.{AreLast, IsLast, State, all_but}
 use Rattle.check_words.specs.Values.{operator_of}
-use Rattle.tree_promises.specs.Made.{AreTypedExprs, GivenBy, OperandsFit, sem}
+use Rattle.tree_promises.specs.Made.{AreTypedExprs, Booleans, GivenBy, OperandsFit, sem}
 use Rattle.tree_promises.specs.Types.{IsTypedExpr}
 
 -- all types of the state name atoms that are there, and have the same shapes over those at the end
@@ -81,6 +81,25 @@ module _ (passes : List AtomDef → Asked → TypeLimit → Type 0) (names : Nam
         → AreLast old.found 2 parts → AreTypedExprs env place parts → OperandsFit env op (map sem parts)
         → ((x : Shape) → GivenBy op x → IsBoolean x) → HasExactly env truth IsBoolean → MakesTyped 2 old new
 
+    abbrev pub NegationIsTyped : Type 0
+    NegationIsTyped =
+        (at : Place) (old new : State) (e : TypedExpr) (truth : SemType) → IsBefore env new → IsMet (Turns at) old new → IsLast old.found e
+        → IsTypedExpr env place e → Booleans env (sem e) → HasExactly env truth IsBoolean → MakesTyped 1 old new
+
+    abbrev pub ConjunctionIsTyped : Type 0
+    ConjunctionIsTyped =
+        (at : Place) (old new : State) (a b : TypedExpr) → IsBefore env new → IsMet (Conjoins at) old new → AreLast old.found 2 (a ∷ b ∷ [])
+        → IsTypedExpr env place a → IsTypedExpr env place b → Booleans env (sem a) → Booleans env (sem b) → MakesTyped 2 old new
+
+    abbrev pub DisjunctionIsTyped : Type 0
+    DisjunctionIsTyped =
+        (at : Place) (old new : State) (a b : TypedExpr) → IsBefore env new → IsMet (Disjoins at) old new → AreLast old.found 2 (a ∷ b ∷ [])
+        → IsTypedExpr env place a → IsTypedExpr env place b → Booleans env (sem a) → Booleans env (sem b) → MakesTyped 2 old new
+
+    abbrev pub ParensAreTyped : Type 0
+    ParensAreTyped =
+        (at : Place) (old new : State) (e : TypedExpr) → IsMet (Encloses at) old new → IsLast old.found e → IsTypedExpr env place e → MakesTyped 1 old new
+
     abbrev pub TrapIsTyped : Type 0
     TrapIsTyped =
         (at : Place) (old new : State) (e : TypedExpr) → IsBefore env old → IsBefore env new → IsMet (Traps at) old new → IsLast old.found e
@@ -108,3 +127,13 @@ SumsAreTyped passes = (names : Names) (env : List AtomDef) (place : Surroundings
 
 abbrev pub ComparisonsAreTyped : (List AtomDef → Asked → TypeLimit → Type 0) → Type 0
 ComparisonsAreTyped passes = (names : Names) (env : List AtomDef) (place : Surroundings) → ComparisonIsTyped passes names env place
+
+-- what conditions are put together of, and what stands in parentheses
+pub record ConditionsAreTyped (passes : List AtomDef → Asked → TypeLimit → Type 0) (names : Names) (env : List AtomDef) (place : Surroundings) : Type 0 where
+  pub negations : NegationIsTyped passes names env place
+  pub conjunctions : ConjunctionIsTyped passes names env place
+  pub disjunctions : DisjunctionIsTyped passes names env place
+  pub enclosed : ParensAreTyped passes names env place
+
+abbrev pub AllConditionsAreTyped : (List AtomDef → Asked → TypeLimit → Type 0) → Type 0
+AllConditionsAreTyped passes = (names : Names) (env : List AtomDef) (place : Surroundings) → ConditionsAreTyped passes names env place

@@ -1,5 +1,5 @@
 //! Laws of needs that are met, piece by piece. These calls do nothing: their clauses are laws.
-ghost use Rattle.typed_needs.specs.Pieces.{ComparisonsAreTyped, KindsAreAsked, LiteralsAreTyped, OperatorsAreTyped, SumsAreTyped, TrapsAreTyped, WantsAreAsked};
+ghost use Rattle.typed_needs.specs.Pieces.{AllConditionsAreTyped, ComparisonsAreTyped, KindsAreAsked, LiteralsAreTyped, OperatorsAreTyped, SumsAreTyped, TrapsAreTyped, WantsAreAsked};
 
 use type_model::Types;
 
@@ -9,7 +9,7 @@ pub fn needs_ask_of_parts<T: Types>()
     ensures wants { WantsAreAsked T.passes }
 {}
 
-/// Where the need of a literal, of an operator, on ints or strings or whatever it takes, or of `trap` is met, and its parts are typed and
+/// Where the need of a literal, of an operator, on ints or strings or whatever it takes, of a condition, of parentheses or of `trap` is met, and its parts are typed and
 /// what the operator takes, there is one typed part in their place.
 pub fn needs_make_typed_parts<T: Types>()
     ensures literals { LiteralsAreTyped T.passes }
@@ -17,4 +17,5 @@ pub fn needs_make_typed_parts<T: Types>()
     ensures sums { SumsAreTyped T.passes }
     ensures comparisons { ComparisonsAreTyped T.passes }
     ensures traps { TrapsAreTyped T.passes }
+    ensures conditions { AllConditionsAreTyped T.passes }
 {}
