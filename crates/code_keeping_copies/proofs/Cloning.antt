@@ -35,7 +35,7 @@ module _ (code : Code) (c : Common) (good : GoodCommon code c Running) (result :
       within-gave code c result (copy_of c.world v ∷ []) (world-then code c good.nearly.heap v)
       (λ small. gave-typed code c result (copy_of c.world v ∷ []) (world-then code c good.nearly.heap v) good good.nearly.heap (grows code c good.nearly.heap v) (grown code c good.nearly.heap v) (given result has))
 
-clone : (fillers : ℕ → List Filler) (code : Code) (t : WellTyped code) (place : Surroundings) (c : Common) → Row fillers code t place c Clone
+pub clone : (fillers : ℕ → List Filler) (code : Code) (t : WellTyped code) (place : Surroundings) (c : Common) → Row fillers code t place c Clone
 clone fillers code t place c atom count names operands result vs asker good (long, typed) fit =
     one-fit code c (Answered fillers code t place c Clone atom count asker result) operands vs _ typed fit
     (λ a v (within, (none, has)) f. does-call-at fillers code t place c good result Clone atom count asker (v ∷ []) (does-else code c good result (clones c.world v) (clone-typed code c good result v a f has)))

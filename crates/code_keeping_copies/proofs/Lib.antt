@@ -1,1 +1,4 @@
 pub mod Cloning
+pub mod Freezing
+pub mod ReadOnly
+pub mod Reaching

@@ -60,7 +60,7 @@ unfolding all_calls
 call-of Println = refl
 call-of _ = refl
 
-one-call : (a b : LibraryCall) → number_of a ≡ number_of b → a ≡ b
+pub one-call : (a b : LibraryCall) → number_of a ≡ number_of b → a ≡ b
 one-call a b h = sym (call-of a) ∙ (ap (λ m. get_or all_calls m Println) h ∙ call-of b)
 
 -- as many members as there may be are an int
@@ -97,15 +97,15 @@ module _ (fillers : ℕ → List Filler) (code : Code) (t : WellTyped code) (pla
       does-unless code c good result (length s ≤ most_code_points) (panics c.world TooLong) (Else (gives (written c.world (s ++ end)) Nil)) (panics-typed code c good result TooLong refl)
       (λ short. does-else code c good result (gives (written c.world (s ++ end)) Nil) (written-typed code c good (s ++ end) result has))
 
-  println : Row Println
+  pub println : Row Println
   println atom count operands result vs asker good (long, (none, has)) fit = does-call good result Println atom count asker vs (λ a. prints good result (texts_of c.world vs) (10 ∷ []) has)
 
-  print : Row Print
+  pub print : Row Print
   print atom count operands result vs asker good (long, (none, has)) fit = does-call good result Print atom count asker vs (λ a. prints good result (texts_of c.world vs) [] has)
 
   -- ---- input
 
-  readln : Row Readln
+  pub readln : Row Readln
   readln atom count operands result vs asker good (long, (inl typed, (none, has))) fit =
       none-fit code c (Answered Readln atom count asker result) operands vs typed fit (does-call good result Readln atom count asker [] (λ a. does-read code c good result has))
   readln atom count operands result vs asker good (long, (inr typed, (none, has))) fit =
@@ -114,13 +114,13 @@ module _ (fillers : ℕ → List Filler) (code : Code) (t : WellTyped code) (pla
 
   -- ---- ints and strings
 
-  abs : Row Abs
+  pub abs : Row Abs
   abs atom count operands result vs asker good (long, typed) fit =
       one-fit code c (Answered Abs atom count asker result) operands vs _ typed fit
       (λ a v (within, (none, has)) f. an-int c.world.heap (λ z. Answered Abs atom count asker result (z ∷ [])) v (of-kind code t c good.nearly.heap (λ k. k ≡ Ints) v a f (λ x h. integers x (within x h)))
       (λ n. does-call good result Abs atom count asker (Int n ∷ []) (λ a. does-int code c good result (pos (unsigned_abs n)) has)))
 
-  starts-with : Row StartsWith
+  pub starts-with : Row StartsWith
   starts-with atom count operands result vs asker good (long, typed) fit =
       two-fit code c (Answered StartsWith atom count asker result) operands vs _ typed fit
       (λ a b v w (first, second, (none, has)) f g.
@@ -138,13 +138,13 @@ module _ (fillers : ℕ → List Filler) (code : Code) (t : WellTyped code) (pla
       (λ s gs. does-call good result call atom count asker (Str s ∷ []) (λ a. subst (λ Q. Does code c good result Q) (sym (comes a s))
       (does-else code c good result (gives c.world (Str (f s))) (text-typed code c good result (f s) (ok s gs.1.1) has)))) g)
 
-  trim : Row Trim
+  pub trim : Row Trim
   trim = of-text Trim trimmed text-trimmed (λ a s. refl) (λ atom os r h. h)
 
-  to-upper : Row ToUpperAscii
+  pub to-upper : Row ToUpperAscii
   to-upper = of-text ToUpperAscii (λ s. map upper_ascii s) text-upper (λ a s. refl) (λ atom os r h. h)
 
-  to-lower : Row ToLowerAscii
+  pub to-lower : Row ToLowerAscii
   to-lower = of-text ToLowerAscii (λ s. map lower_ascii s) text-lower (λ a s. refl) (λ atom os r h. h)
 
   -- a part of a string
@@ -153,7 +153,7 @@ module _ (fillers : ℕ → List Filler) (code : Code) (t : WellTyped code) (pla
       does-unless code c good result (AreBounds i j (length s)) (panics c.world IndexOutOfRange) (Else (gives c.world (Str (part_of (nat_abs i) (nat_abs j) s)))) (panics-typed code c good result IndexOutOfRange refl)
       (λ bounds. does-else code c good result (gives c.world (Str (part_of (nat_abs i) (nat_abs j) s))) (text-typed code c good result (part_of (nat_abs i) (nat_abs j) s) (text-part (nat_abs i) (nat_abs j) s text) has))
 
-  substring : Row Substring
+  pub substring : Row Substring
   substring atom count operands result vs asker good (long, (inl typed, (none, has))) fit =
       two-fit code c (Answered Substring atom count asker result) operands vs _ typed fit
       (λ a b v w (first, second) f g.
@@ -170,7 +170,7 @@ module _ (fillers : ℕ → List Filler) (code : Code) (t : WellTyped code) (pla
 
   -- ---- structures
 
-  list-length : Row ListLength
+  pub list-length : Row ListLength
   list-length atom count operands result vs asker good (long, typed) fit =
       one-fit code c (Answered ListLength atom count asker result) operands vs _ typed fit
       (λ a v (within, (none, has)) f. a-list c.world.heap (λ z. Answered ListLength atom count asker result (z ∷ [])) v (of-kind code t c good.nearly.heap (λ k. k ≡ Lists) v a f (λ x h. lists x (within x h)))
@@ -179,7 +179,7 @@ module _ (fillers : ℕ → List Filler) (code : Code) (t : WellTyped code) (pla
       (does-else code c good result (gives c.world (Int (pos (length items))))
       (int-typed code c good result (pos (length items)) (length-int (length items) (subst (λ m. size_of m < 2 ^ 63) is (all-at (λ s. size_of s.members < 2 ^ 63) c.world.heap.structures n s good.nearly.heap.short e))) has)))))
 
-  mapping-length : Row MappingLength
+  pub mapping-length : Row MappingLength
   mapping-length atom count operands result vs asker good (long, typed) fit =
       one-fit code c (Answered MappingLength atom count asker result) operands vs _ typed fit
       (λ a v (within, (none, has)) f. a-mapping c.world.heap (λ z. Answered MappingLength atom count asker result (z ∷ [])) v (of-kind code t c good.nearly.heap (λ k. k ≡ Mappings) v a f (λ x h. mappings x (within x h)))
@@ -188,7 +188,7 @@ module _ (fillers : ℕ → List Filler) (code : Code) (t : WellTyped code) (pla
       (does-else code c good result (gives c.world (Int (pos (length es))))
       (int-typed code c good result (pos (length es)) (length-int (length es) (subst (λ m. size_of m < 2 ^ 63) is (all-at (λ s. size_of s.members < 2 ^ 63) c.world.heap.structures n s good.nearly.heap.short e))) has)))))
 
-  has-key : Row HasKey
+  pub has-key : Row HasKey
   has-key atom count operands result vs asker good (long, typed) fit =
       two-fit code c (Answered HasKey atom count asker result) operands vs _ typed fit
       (λ a b v w (first, second, (none, has)) f g.
@@ -200,7 +200,7 @@ module _ (fillers : ℕ → List Filler) (code : Code) (t : WellTyped code) (pla
 
   -- ---- errors
 
-  message : Row Message
+  pub message : Row Message
   message atom count operands result vs asker good (long, typed) fit =
       one-fit code c (Answered Message atom count asker result) operands vs _ typed fit
       (λ a v (within, (none, has)) f. an-error c.world.heap (λ z. Fits code c z a → Answered Message atom count asker result (z ∷ [])) v (of-kind code t c good.nearly.heap (λ k. k ≡ Errors) v a f (λ x h. errors x (within x h)))
@@ -213,7 +213,7 @@ module _ (fillers : ℕ → List Filler) (code : Code) (t : WellTyped code) (pla
   cause-typed good result None h has = gives-typed code c good result Nil (λ x. IsNil x ⊎ IsError x) has (tt, tt, tt) (λ x valid s. inl (its-shape code c NilConstant x s))
   cause-typed good result (Some n) h has = gives-typed code c good result (Error n) (λ x. IsNil x ⊎ IsError x) has (h, tt, tt) (λ x valid s. inr (error-shape c.world.heap code.atoms n x s))
 
-  cause : Row Cause
+  pub cause : Row Cause
   cause atom count operands result vs asker good (long, typed) fit =
       one-fit code c (Answered Cause atom count asker result) operands vs _ typed fit
       (λ a v (within, (none, has)) f. an-error c.world.heap (λ z. Fits code c z a → Answered Cause atom count asker result (z ∷ [])) v (of-kind code t c good.nearly.heap (λ k. k ≡ Errors) v a f (λ x h. errors x (within x h)))

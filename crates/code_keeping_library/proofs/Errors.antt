@@ -108,7 +108,7 @@ module _ (code : Code) (t : WellTyped code) (c : Common) (good : GoodCommon code
 -- ---- rows
 
 module _ (fillers : ℕ → List Filler) (code : Code) (t : WellTyped code) (place : Surroundings) (c : Common) where
-  detail : Row fillers code t place c Detail
+  pub detail : Row fillers code t place c Detail
   detail atom count names operands result vs asker good (long, typed) fit =
       one-fit code c (Answered fillers code t place c Detail atom count asker result) operands vs _ typed fit
       (λ a v (within, (none, has)) f. an-error c.world.heap (λ z. Fits code c z a → Answered fillers code t place c Detail atom count asker result (z ∷ [])) v (of-kind code t c good.nearly.heap (λ k. k ≡ Errors) v a f (λ x h. errors x (within x h)))
@@ -117,7 +117,7 @@ module _ (fillers : ℕ → List Filler) (code : Code) (t : WellTyped code) (pla
       subst (λ o. Does code c good result (λ came. IsSomeAnd o (λ (e : ErrorObject). came ≡ gives c.world (Struct e.detail)))) (sym e)
       (does-else code c good result (gives c.world (Struct x.detail)) (detail-typed code t c good result n x e fn.1.0 has)))) f)
 
-  from-string : Row fillers code t place c FromString
+  pub from-string : Row fillers code t place c FromString
   from-string atom count names operands result vs asker good (long, typed) fit =
       one-fit code c (Answered fillers code t place c FromString atom count asker result) operands vs _ typed fit
       (λ a v (within, (none, has)) f. a-string c.world.heap (λ z. Answered fillers code t place c FromString atom count asker result (z ∷ [])) v (of-kind code t c good.nearly.heap (λ k. k ≡ Strings) v a f (λ x h. strings x (within x h)))

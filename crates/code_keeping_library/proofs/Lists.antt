@@ -105,7 +105,7 @@ module _ (fillers : ℕ → List Filler) (code : Code) (t : WellTyped code) (pla
   Row call = (atom : Option ℕ) (count : ℕ) → NamesWell code (op.Library call atom count) → RowHolds code fillers LibraryAnswers c place (op.Library call atom count)
 
   -- the keys of a mapping
-  keys : Row Keys
+  pub keys : Row Keys
   keys None count names operands result vs asker good (long, typed) fit = one-fit code c (Answered fillers code t place c Keys None count asker result) operands vs _ typed fit (λ a v (within, never) f. absurd never)
   keys (Some m) count names operands result vs asker good (long, typed) fit =
       one-fit code c (Answered fillers code t place c Keys (Some m) count asker result) operands vs _ typed fit
@@ -122,7 +122,7 @@ module _ (fillers : ℕ → List Filler) (code : Code) (t : WellTyped code) (pla
   char-int s i ch e text = let lt = scalar_fits ch (text-parts ch [] (text-at s i ch e text)).0 in (omega (arith, ints, lt), omega (arith, ints, lt))
 
   -- the characters of a string as ints
-  code-points : Row ToCodePointInts
+  pub code-points : Row ToCodePointInts
   code-points None count names operands result vs asker good (long, typed) fit = one-fit code c (Answered fillers code t place c ToCodePointInts None count asker result) operands vs _ typed fit (λ a v (within, never) f. absurd never)
   code-points (Some m) count names operands result vs asker good (long, typed) fit =
       one-fit code c (Answered fillers code t place c ToCodePointInts (Some m) count asker result) operands vs _ typed fit

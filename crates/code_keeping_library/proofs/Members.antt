@@ -119,7 +119,7 @@ module _ (code : Code) (t : WellTyped code) (c : Common) (good : GoodCommon code
 -- ---- rows
 
 module _ (fillers : ℕ → List Filler) (code : Code) (t : WellTyped code) (place : Surroundings) (c : Common) where
-  get : Row fillers code t place c Get
+  pub get : Row fillers code t place c Get
   get atom count names operands result vs asker good (long, typed) fit =
       two-fit code c (Answered fillers code t place c Get atom count asker result) operands vs _ typed fit
       (λ a b v w (first, second, (none, has)) f g.
@@ -160,7 +160,7 @@ module _ (fillers : ℕ → List Filler) (code : Code) (t : WellTyped code) (pla
       (λ j. does-call-at fillers code t place c good result Slice (Some m) count asker (Struct n ∷ Int i ∷ Int j ∷ [])
       (at-list code t c good result n s items e is (λ s vs came. Slices c.world m vs i j came) (does-slice good result m known n s items e is a fn makes i j))))) f
 
-  slice : Row fillers code t place c Slice
+  pub slice : Row fillers code t place c Slice
   slice None count names operands result vs asker good (long, (inl two, more)) fit =
       two-fit code c (Answered fillers code t place c Slice None count asker result) operands vs _ (both-of-two operands _ _ two more) fit (λ a b v w (h, never) f g. absurd never)
   slice None count names operands result vs asker good (long, (inr three, more)) fit =
@@ -173,7 +173,7 @@ module _ (fillers : ℕ → List Filler) (code : Code) (t : WellTyped code) (pla
       (λ a b d v w y (h, makes) f g k. slice-to good result m count asker (names.atoms 0 0 (omega arith)) v w y a b d f g k h.0 h.1 h.2 makes)
 
   -- the items from the last one on
-  turned : Row fillers code t place c Reverse
+  pub turned : Row fillers code t place c Reverse
   turned None count names operands result vs asker good (long, typed) fit = one-fit code c (Answered fillers code t place c Reverse None count asker result) operands vs _ typed fit (λ a v (within, never) f. absurd never)
   turned (Some m) count names operands result vs asker good (long, typed) fit =
       one-fit code c (Listed Reverse m count asker result) operands vs _ typed fit

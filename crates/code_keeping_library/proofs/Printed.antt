@@ -172,7 +172,7 @@ module _ (h : Heap) (valid : IsValidHeap h) where
 
 -- ---- the row
 
-to-string : (fillers : ℕ → List Filler) (code : Code) (t : WellTyped code) (place : Surroundings) (c : Common) → Row fillers code t place c ToString
+pub to-string : (fillers : ℕ → List Filler) (code : Code) (t : WellTyped code) (place : Surroundings) (c : Common) → Row fillers code t place c ToString
 to-string fillers code t place c atom count names operands result vs asker good (long, typed) fit =
     one-fit code c (Answered fillers code t place c ToString atom count asker result) operands vs _ typed fit
     (λ a v (none, has) f. does-call-at fillers code t place c good result ToString atom count asker (v ∷ [])
