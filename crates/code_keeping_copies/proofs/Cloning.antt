@@ -1,5 +1,5 @@
 -- A value is cloned: the copy is of each type that the value is of.
-use Rattle.std.proofs.Common.{◌≡◌, ℕ, List, [], ◌∷◌, Option, Some, None}
+use Rattle.std.proofs.Common.{ℕ, List, [], ◌∷◌, Option, Some, None}
 use Rattle.std.specs.Prelude.{option_to_list}
 use Rattle.type_model.specs.declared.basic.SemType.{SemType}
 use Rattle.type_model.specs.Membership.{In}

@@ -1,4 +1,5 @@
 pub mod Cloning
 pub mod Freezing
+pub mod Parts
 pub mod ReadOnly
 pub mod Reaching
