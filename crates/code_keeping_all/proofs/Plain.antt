@@ -1,4 +1,5 @@
 -- Code whose calls of the library are all done needs no premise.
+use Rattle.std.proofs.Common.{refl}
 use Rattle.operations.specs.declared.library.LibraryCall.{LibraryCall}
 use Rattle.operations.specs.declared.library.LibraryCall.TheVariants.{Println, Print, Readln, FromString, Abs, ToString, Clone, CloneReadOnly, StringLength, StartsWith, Trim, Substring, ToUpperAscii, ToLowerAscii, ToCodePointInts, ListLength, Push, Pop, RemoveItem, Slice, Reverse, MappingLength, Keys, HasKey, Get, RemoveKey, Message, Cause, Detail}
 use Rattle.code_keeping_all.specs.Laws.{IsPlainCall, PlainCallsAreDone}
@@ -25,8 +26,8 @@ plain-done Readln h = input-is-done
 plain-done FromString h = errors-are-given.1
 plain-done ToString h = values-are-printed
 plain-done Clone h = clones-are-done
-plain-done CloneReadOnly h = absurd h
-plain-done StringLength h = absurd h
+plain-done CloneReadOnly h = absurd (h.1 refl)
+plain-done StringLength h = absurd (h.0 refl)
 plain-done Trim h = texts-are-made.0
 plain-done Substring h = texts-are-made.3
 plain-done ToUpperAscii h = texts-are-made.1

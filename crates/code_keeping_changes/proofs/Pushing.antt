@@ -1,5 +1,5 @@
 -- Values are stored behind the last item of a list, one after another: each store leads to a good state in which the list still is one.
-use Rattle.std.proofs.Common.{◌≡◌, ◌≤◌, ◌∙◌, ℕ, List, [], ◌∷◌, Option, Some, None, length, refl, sym, subst, arith}
+use Rattle.std.proofs.Common.{◌≡◌, ℕ, List, [], ◌∷◌, Option, Some, None, length, refl, sym, subst, arith}
 use Rattle.std.proofs.lemmas.List.Elements.{All-head, All-tail}
 use Rattle.std.specs.Prelude.{All, slice_get}
 use Rattle.type_model.specs.declared.basic.SemType.{SemType}
@@ -14,13 +14,11 @@ use Rattle.value_model.specs.Heap.{AreAlike, Entries, Items, Members, Stays, Str
 use Rattle.value_model.specs.World.{Came, Gave, PassesCells, Threw, World}
 use Rattle.run_model.specs.Common.{Common, Role}
 use Rattle.run_model.specs.Effects.{lifted, with_world}
-use Rattle.run_model.specs.Facts.{own_types}
 use Rattle.run_model.specs.Library.{Pushes, Then}
 use Rattle.run_model.specs.Rows.{ListAt, gives}
 use Rattle.run_model.specs.Stores.{StoresAt}
 use Rattle.machine_model.specs.Runs.{Running}
 use Rattle.stack_code.specs.declared.code.Code.{Code}
-use Rattle.stack_code.specs.CodeMachine.{code_facts}
 use Rattle.stack_code.specs.Good.{GoodCommon, IsLater}
 use Rattle.stack_code.specs.Values.{Fits, IsMade, code_types}
 use Rattle.stack_code.specs.WellTyped.{WellTyped}
@@ -104,7 +102,7 @@ module _ (code : Code) (t : WellTyped code) (result : Option SemType) (has : Res
 
 -- ---- the row
 
-push : (fillers : ℕ → List Filler) (code : Code) (t : WellTyped code) (place : Surroundings) (c : Common) → Row fillers code t place c Push
+pub push : (fillers : ℕ → List Filler) (code : Code) (t : WellTyped code) (place : Surroundings) (c : Common) → Row fillers code t place c Push
 push fillers code t place c atom count names operands result vs asker good (long, typed) fit =
     more-fit code c (Answered fillers code t place c Push atom count asker result) operands vs _ typed fit
     (λ a more v ws (within, each, (none, has)) f fits.

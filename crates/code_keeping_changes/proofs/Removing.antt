@@ -1,5 +1,5 @@
 -- Items and members are taken out of structures, and given.
-use Rattle.std.proofs.Common.{◌≡◌, ◌<◌, ◌≤◌, ◌+◌, ◌-◌, ◌^◌, ◌∙◌, ℕ, ℤ, suc, Bool, true, false, List, [], ◌∷◌, Option, Some, None, length, map, refl, sym, ap, subst, arith}
+use Rattle.std.proofs.Common.{◌≡◌, ◌<◌, ◌≤◌, ◌-◌, ◌^◌, ◌∙◌, ℕ, suc, Bool, true, false, List, [], ◌∷◌, Option, Some, None, length, refl, sym, ap, subst, arith}
 use Rattle.std.proofs.lemmas.List.{length-append, length-drop, length-take-le}
 use Rattle.std.proofs.lemmas.List.Elements.{All-append, All-cons, All-drop, All-head, All-tail, All-take}
 use Rattle.std.specs.Prelude.{All, IsTrue, drop, if◌then◌else◌, option_and_then, option_to_list, remove, slice_get, take}
@@ -8,7 +8,6 @@ use Rattle.bal_base.specs.declared.shape.Shape.{Shape}
 use Rattle.bal_base.specs.Valid.{IsText}
 use Rattle.type_model.specs.declared.basic.SemType.{SemType}
 use Rattle.type_model.specs.Places.{is_same_text}
-use Rattle.operations.specs.declared.library.LibraryCall.{LibraryCall}
 use Rattle.operations.specs.declared.library.LibraryCall.TheVariants.{Pop, RemoveItem, RemoveKey}
 use Rattle.operations.specs.LibraryTyping.{AtIndexes, AtKeys}
 use Rattle.operations.specs.Rows.{ResultHas, Surroundings}
@@ -20,13 +19,11 @@ use Rattle.value_model.specs.Heap.{AreAlike, Entries, IsThere, Items, Members, S
 use Rattle.value_model.specs.Stands.{MembersBelong}
 use Rattle.value_model.specs.Valid.{AreValidMembers, IsValidValue}
 use Rattle.run_model.specs.Common.{Common}
-use Rattle.run_model.specs.Facts.{own_types}
 use Rattle.run_model.specs.Library.{RemovesAt, RemovesKey, last_place}
 use Rattle.run_model.specs.Rows.{ListAt, MappingAt, found, gives, panics, place_of, size_of}
 use Rattle.run_model.specs.Stores.{StillFits, atom_of, remove_entry, stored}
 use Rattle.machine_model.specs.Runs.{Running}
 use Rattle.stack_code.specs.declared.code.Code.{Code}
-use Rattle.stack_code.specs.CodeMachine.{code_facts}
 use Rattle.stack_code.specs.Good.{GoodCommon}
 use Rattle.stack_code.specs.Values.{AllFit, Fits, IsMade, code_types}
 use Rattle.stack_code.specs.WellTyped.{WellTyped}
@@ -143,7 +140,7 @@ module _ (code : Code) (t : WellTyped code) (c : Common) (good : GoodCommon code
 -- ---- rows
 
 module _ (fillers : ℕ → List Filler) (code : Code) (t : WellTyped code) (place : Surroundings) (c : Common) where
-  pop : Row fillers code t place c Pop
+  pub pop : Row fillers code t place c Pop
   pop atom count names operands result vs asker good (long, typed) fit =
       one-fit code c (Answered fillers code t place c Pop atom count asker result) operands vs _ typed fit
       (λ a v (within, (none, has)) f.
@@ -152,7 +149,7 @@ module _ (fillers : ℕ → List Filler) (code : Code) (t : WellTyped code) (pla
       (subst (λ own. Does code c good result (λ came. ListAt c.world n (λ s vs. RemovesAt own c.world n s vs (last_place vs) came))) (sym (own-same fillers code))
       (at-list code t c good result n s items e is (λ s vs came. RemovesAt (code_types code) c.world n s vs (last_place vs) came) (does-remove code t c good result n s e a fn items is (last_place items) has)))) f)
 
-  remove-item : Row fillers code t place c RemoveItem
+  pub remove-item : Row fillers code t place c RemoveItem
   remove-item atom count names operands result vs asker good (long, typed) fit =
       two-fit code c (Answered fillers code t place c RemoveItem atom count asker result) operands vs _ typed fit
       (λ a b v w (first, second, (none, has)) f g.
@@ -163,7 +160,7 @@ module _ (fillers : ℕ → List Filler) (code : Code) (t : WellTyped code) (pla
       (subst (λ own. Does code c good result (λ came. ListAt c.world n (λ s vs. RemovesAt own c.world n s vs (place_of i) came))) (sym (own-same fillers code))
       (at-list code t c good result n s items e is (λ s vs came. RemovesAt (code_types code) c.world n s vs (place_of i) came) (does-remove code t c good result n s e a fn items is (place_of i) has))))) f)
 
-  remove-key : Row fillers code t place c RemoveKey
+  pub remove-key : Row fillers code t place c RemoveKey
   remove-key atom count names operands result vs asker good (long, typed) fit =
       two-fit code c (Answered fillers code t place c RemoveKey atom count asker result) operands vs _ typed fit
       (λ a b v w (first, second, (none, has)) f g.
