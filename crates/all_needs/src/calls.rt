@@ -1,40 +1,16 @@
-//! Needs of calls.
+//! Needs of calls, met.
 #![tactic(auto)]
 
 ghost use Rattle.std.specs.Prelude.{◌≡◌};
 ghost use Rattle.needs.specs.Needs.{Runs};
 ghost use Rattle.typed_tree.specs.Listed.{one};
+ghost use Rattle.need_values.specs.Meant.{call_need};
 ghost use Rattle.check_words.specs.Meets.{meets};
 ghost use Rattle.check_work.specs.Views.{Holds, going};
-ghost use Rattle.all_needs.specs.Meant.{call_need};
 
-use bal_base::Place;
-use bal_tree::{QualifiedName, Word};
 use check_work::Checker;
+use need_values::CallNeed;
 use type_model::Types;
-use typed_tree::PerformForm;
-
-/// A need of calls, as a value: a variant for each call of `MeetsExprs` and `MeetsStmts` that is about these.
-pub enum CallNeed<'t> {
-    /// What the name stands for is called, or where so marked started, with so many arguments.
-    CallsNamed(bool, &'t QualifiedName, usize, Place),
-    /// The last part is called.
-    CallsValue,
-    /// A method of the last part is called with so many arguments.
-    CallsMethod(&'t Word, usize, Place),
-    /// The type of the next argument is wanted.
-    ExpectsArgument(Place),
-    /// The last part is the next argument.
-    IsArgument(Place),
-    /// The call is made.
-    MakesCall(Place),
-    /// The call at the first place is started.
-    Starts(Place, Place),
-    /// The last part is nil.
-    IsIgnorable(Place),
-    /// So many parts are the operands of a statement of this form.
-    Performs(PerformForm, usize, Place),
-}
 
 /// Meets a need of calls, by the call that has it. It costs what that call costs.
 pub(crate) fn meet<T: Types>(checker: &mut Checker<'_, T>, need: CallNeed<'_>)

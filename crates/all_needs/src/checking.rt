@@ -6,18 +6,12 @@ ghost use Rattle.descriptors.specs.declared.names.Names.{Names as NamesOf};
 ghost use Rattle.check_words.specs.State.{State as StateOf};
 ghost use Rattle.all_needs.specs.Named.{going_of, meaning_of, stands_over};
 
-use crate::actions::ActionNeed;
-use crate::calls::CallNeed;
-use crate::loops::LoopNeed;
-use crate::meets::Meets;
-use crate::members::MemberNeed;
-use crate::operators::OperatorNeed;
-use crate::statements::StmtNeed;
-use crate::structures::StructureNeed;
-use crate::units::UnitNeed;
-use crate::values::ValueNeed;
 use crate::{actions, calls, loops, members, operators, statements, structures, units, values};
 use check_work::Checker;
+use need_values::{
+    ActionNeed, CallNeed, LoopNeed, Meets, MemberNeed, OperatorNeed, StmtNeed, StructureNeed,
+    UnitNeed, ValueNeed,
+};
 use type_model::Types;
 
 /// A checker that meets every need of expressions, statements and packages.

@@ -1,45 +1,16 @@
-//! Needs of loops over lists and ranges, and matches.
+//! Needs of loops over lists and ranges, and matches, met.
 #![tactic(auto)]
 
 ghost use Rattle.std.specs.Prelude.{◌≡◌};
 ghost use Rattle.needs.specs.Needs.{Runs};
 ghost use Rattle.typed_tree.specs.Listed.{one};
+ghost use Rattle.need_values.specs.Meant.{loop_need};
 ghost use Rattle.check_words.specs.Meets.{meets};
 ghost use Rattle.check_work.specs.Views.{Holds, going};
-ghost use Rattle.all_needs.specs.Meant.{loop_need};
 
-use bal_base::Place;
-use bal_tree::{Block, Expr, Pattern, RangeOp, Word};
 use check_work::Checker;
+use need_values::LoopNeed;
 use type_model::Types;
-
-/// A need of loops over lists and ranges, and matches, as a value: a variant for each call of `MeetsExprs` and `MeetsStmts` that is about these.
-pub enum LoopNeed<'t> {
-    /// A member of the last part is below what is wanted.
-    IsItemOfLoop(Place),
-    /// The type of such a member, widened, is wanted.
-    WidensItem(Place),
-    /// An int is below what is wanted.
-    IsCounter(Place),
-    /// An int is wanted.
-    WantsCounter,
-    /// The loop with this body has a variable of the wanted type.
-    HasItem(&'t Word, &'t Block),
-    /// The last block is the body of a loop over the last part.
-    MakesForeach(Place),
-    /// The same over the ints between the last two parts.
-    MakesRange(RangeOp, Place),
-    /// A match on the last part, which is this expression, begins.
-    BeginsMatch(&'t Expr),
-    /// The next clause has the pattern.
-    HasPattern(&'t Pattern),
-    /// The clause begins, and whether it takes all that is left.
-    BeginsClause(bool),
-    /// It ends.
-    EndsClause(Place),
-    /// The match ends, and whether a clause took all.
-    MakesMatch(bool, Place),
-}
 
 /// Meets a need of loops over lists and ranges, and matches, by the call that has it. It costs what that call costs.
 pub(crate) fn meet<T: Types>(checker: &mut Checker<'_, T>, need: LoopNeed<'_>)

@@ -1,47 +1,16 @@
-//! Needs of members, read and stored.
+//! Needs of members, read and stored, met.
 #![tactic(auto)]
 
 ghost use Rattle.std.specs.Prelude.{◌≡◌};
 ghost use Rattle.needs.specs.Needs.{Runs};
 ghost use Rattle.typed_tree.specs.Listed.{one};
+ghost use Rattle.need_values.specs.Meant.{member_need};
 ghost use Rattle.check_words.specs.Meets.{meets};
 ghost use Rattle.check_work.specs.Views.{Holds, going};
-ghost use Rattle.all_needs.specs.Meant.{member_need};
 
-use bal_base::Place;
-use bal_tree::{AssignOp, Word};
 use check_work::Checker;
+use need_values::MemberNeed;
 use type_model::Types;
-
-/// A need of members, read and stored, as a value: a variant for each call of `MeetsExprs` and `MeetsStmts` that is about these.
-pub enum MemberNeed<'t> {
-    /// A member of the last part is taken, of a string only where so marked.
-    IsAccessed(bool, Place),
-    /// The last part is its index or key.
-    IsIndex(Place),
-    /// The member is read.
-    ReadsElement(Place),
-    /// The field of the last part is read.
-    ReadsField(&'t Word, Place),
-    /// The field of the last part is read, if it is there.
-    ReadsOptional(&'t Word, Place),
-    /// The field is the key with which a member of a mapping is taken.
-    HasField(&'t Word),
-    /// A member is stored: its type is wanted.
-    ExpectsStored(Place),
-    /// The last part is stored.
-    Stores(Place),
-    /// The same of a member.
-    ReadsStored(Place),
-    /// The same of a member by its field.
-    ReadsStoredField(&'t Word, Place),
-    /// What was read is the left operand of the assignment.
-    IsOperand(AssignOp, Place),
-    /// The same of a member.
-    UpdatesElement(AssignOp, Place),
-    /// The same of a member by its field.
-    UpdatesField(&'t Word, AssignOp, Place),
-}
 
 /// Meets a need of members, read and stored, by the call that has it. It costs what that call costs.
 pub(crate) fn meet<T: Types>(checker: &mut Checker<'_, T>, need: MemberNeed<'_>)

@@ -1,40 +1,16 @@
-//! Needs of operators, casts, `check` and `trap`.
+//! Needs of operators, casts, `check` and `trap`, met.
 #![tactic(auto)]
 
 ghost use Rattle.std.specs.Prelude.{◌≡◌};
 ghost use Rattle.needs.specs.Needs.{Runs};
 ghost use Rattle.typed_tree.specs.Listed.{one};
+ghost use Rattle.need_values.specs.Meant.{operator_need};
 ghost use Rattle.check_words.specs.Meets.{meets};
 ghost use Rattle.check_work.specs.Views.{Holds, going};
-ghost use Rattle.all_needs.specs.Meant.{operator_need};
 
-use bal_base::Place;
 use check_work::Checker;
-use expr_needs::Kind;
+use need_values::OperatorNeed;
 use type_model::Types;
-use typed_tree::Operator;
-
-/// A need of operators, casts, `check` and `trap`, as a value: a variant for each call of `MeetsExprs` and `MeetsStmts` that is about these.
-pub enum OperatorNeed {
-    /// The last part is of the kind.
-    IsOf(Kind, Place),
-    /// So many parts are the operands of the operator, which gives the kind.
-    Forms(Operator, usize, Kind, Place),
-    /// The last part is what the operator works on.
-    IsSort(Place),
-    /// The last two parts are the operands of `+`.
-    Adds(Place),
-    /// The last two parts are the operands of `<` or its kin.
-    Compares(Operator, Place),
-    /// The last part is cast to the wanted type.
-    Casts(Place),
-    /// The last part is the operand of `check`.
-    Checks(Place),
-    /// The last part is the operand of `checkpanic`.
-    ChecksPanicking(Place),
-    /// The last part is the operand of `trap`.
-    Traps(Place),
-}
 
 /// Meets a need of operators, casts, `check` and `trap`, by the call that has it. It costs what that call costs.
 pub(crate) fn meet<T: Types>(checker: &mut Checker<'_, T>, need: OperatorNeed)

@@ -1,52 +1,16 @@
-//! Needs of constructors.
+//! Needs of constructors, met.
 #![tactic(auto)]
 
 ghost use Rattle.std.specs.Prelude.{◌≡◌};
 ghost use Rattle.needs.specs.Needs.{Runs};
 ghost use Rattle.typed_tree.specs.Listed.{one};
+ghost use Rattle.need_values.specs.Meant.{structure_need};
 ghost use Rattle.check_words.specs.Meets.{meets};
 ghost use Rattle.check_work.specs.Views.{Holds, going};
-ghost use Rattle.all_needs.specs.Meant.{structure_need};
 
-use bal_base::{Place, Text};
-use bal_tree::{Expr, Member};
 use check_work::Checker;
-use expr_needs::Expected;
+use need_values::StructureNeed;
 use type_model::Types;
-
-/// A need of constructors, as a value: a variant for each call of `MeetsExprs` and `MeetsStmts` that is about these.
-pub enum StructureNeed<'t> {
-    /// What is constructed of these items is chosen.
-    ChoosesList(Expected, &'t [Expr], Place),
-    /// What is constructed of these members is chosen.
-    ChoosesMapping(Expected, &'t [Member], Place),
-    /// The details of an error, or what a wait names, begin.
-    BeginsKeys,
-    /// A key more, which is a part.
-    GivesKey(&'t Text, Place),
-    /// A key more, which is no part.
-    TakesKey(&'t Text, Place),
-    /// The last part is a computed key.
-    ComputesKey,
-    /// The type of the next member of a list is wanted.
-    ExpectsItem,
-    /// The type of the member at the last key of a mapping is wanted.
-    ExpectsMember,
-    /// The last part is an item.
-    IsItem(Place),
-    /// The last part is a member.
-    IsMember(Place),
-    /// The last part is a detail.
-    IsDetail(Place),
-    /// There is no cause.
-    LacksCause(Place),
-    /// So many items make a list.
-    MakesList(usize, Place),
-    /// So many members make a mapping.
-    MakesMapping(usize, Place),
-    /// A message, a cause and so many details make an error.
-    MakesError(usize, Place),
-}
 
 /// Meets a need of constructors, by the call that has it. It costs what that call costs.
 pub(crate) fn meet<T: Types>(checker: &mut Checker<'_, T>, need: StructureNeed<'_>)

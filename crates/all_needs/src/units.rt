@@ -1,53 +1,16 @@
-//! Needs of functions, workers, initial values and modules.
+//! Needs of functions, workers, initial values and modules, met.
 #![tactic(auto)]
 
 ghost use Rattle.std.specs.Prelude.{◌≡◌};
 ghost use Rattle.needs.specs.Needs.{Runs};
 ghost use Rattle.typed_tree.specs.Listed.{one};
+ghost use Rattle.need_values.specs.Meant.{unit_need};
 ghost use Rattle.check_words.specs.Meets.{meets};
 ghost use Rattle.check_work.specs.Views.{Holds, going};
-ghost use Rattle.all_needs.specs.Meant.{unit_need};
 
-use bal_base::Place;
-use bal_tree::{Body, ConstDef, Expr, FunctionDef, VariableDef, Word, Worker};
 use check_work::Checker;
+use need_values::UnitNeed;
 use type_model::Types;
-
-/// A need of functions, workers, initial values and modules, as a value: a variant for each call of `MeetsExprs` and `MeetsStmts` that is about these.
-pub enum UnitNeed<'t> {
-    /// An anonymous function begins.
-    BeginsAnonymous,
-    /// It has a parameter of the wanted type.
-    HasParameter(&'t Word),
-    /// It takes the rest in lists of the wanted type.
-    HasRest(&'t Word),
-    /// Its value, which is this expression, has to be of the wanted type.
-    BeginsValue(&'t Expr),
-    /// The last part is its value.
-    MakesAnonymous(bool, Place),
-    /// What follows stands in this file of this module.
-    EntersFile(usize, usize),
-    /// A function begins.
-    BeginsFunction(&'t FunctionDef),
-    /// The next parameter of the function with this body has the name.
-    NamesParameter(&'t Word, &'t Body),
-    /// It ends at this brace.
-    EndsFunction(&'t FunctionDef, Place),
-    /// It gives the last part.
-    EndsValueFunction(&'t FunctionDef),
-    /// A worker with this number begins.
-    BeginsWorker(&'t Worker, usize),
-    /// It ends.
-    EndsWorker(&'t Worker),
-    /// The initial value of a variable of the module begins, and whether the module is initialised.
-    BeginsInitial(&'t VariableDef, bool),
-    /// The last part is that value.
-    EndsInitial(&'t VariableDef, bool),
-    /// The module ends.
-    EndsModule(usize),
-    /// The value of the constant is of its type.
-    IsConstant(&'t ConstDef),
-}
 
 /// Meets a need of functions, workers, initial values and modules, by the call that has it. It costs what that call costs.
 pub(crate) fn meet<T: Types>(checker: &mut Checker<'_, T>, need: UnitNeed<'_>)

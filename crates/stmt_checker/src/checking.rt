@@ -11,11 +11,12 @@ ghost use Rattle.all_needs.specs.Named.{going_of, meaning_of, stands_over};
 
 use crate::beginning::first_work;
 use crate::ending::answer;
-use all_needs::{ByNeed, Checking, Meets};
+use all_needs::Checking;
 use bal_base::{Fault, Stop};
 use bal_tree::Package;
 use check_work::Checker;
 use descriptors::Names;
+use need_values::{ByNeed, Meets};
 use std::alloc::Global;
 use stmt_needs::package as meet_package;
 use type_model::Types;

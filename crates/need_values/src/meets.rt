@@ -1,7 +1,7 @@
 //! Whoever meets needs that are handed about as values.
 ghost use Rattle.needs.specs.Needs.{Runs};
 ghost use Rattle.typed_tree.specs.Listed.{one};
-ghost use Rattle.all_needs.specs.Meant.{action_need, call_need, loop_need, member_need, operator_need, stmt_need, structure_need, unit_need, value_need};
+ghost use Rattle.need_values.specs.Meant.{action_need, call_need, loop_need, member_need, operator_need, stmt_need, structure_need, unit_need, value_need};
 
 use crate::actions::ActionNeed;
 use crate::calls::CallNeed;

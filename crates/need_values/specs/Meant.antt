@@ -8,24 +8,24 @@ use Rattle.expr_needs.specs.ExprTable.{read_expr, read_member, seen_of}
 use Rattle.stmt_needs.specs.PackageTable.{assigned_in_body, within}
 use Rattle.stmt_needs.specs.StmtTable.{is_among}
 use Rattle.expr_needs.specs.Needs.{Need, Adds, Assigns, Awaits, BeginsAnonymous, BeginsBlock, BeginsClause, BeginsFunction, BeginsInitial, BeginsKeys, BeginsMatch, BeginsValue, BeginsWorker, Breaks, CallsMethod, CallsNamed, CallsValue, Casts, Checks, ChecksPanicking, Chooses, ChoosesList, ChoosesMapping, Compares, ComputesKey, Conjoins, Continues, Decides, Declares, Describes, Disjoins, DropsWant, Encloses, EndsBlock, EndsClause, EndsFunction, EndsInitial, EndsModule, EndsValueFunction, EndsWorker, EntersFile, ExpectsArgument, ExpectsItem, ExpectsMember, ExpectsStored, Fails, FillsNil, Flushes, Forms, GivesKey, GivesLiteral, GivesNamed, HasField, HasItem, HasParameter, HasPattern, HasRest, Heads, IsAccessed, IsArgument, IsAssignable, IsConstant, IsCounter, IsDetail, IsIgnorable, IsIndex, IsItem, IsItemOfLoop, IsMember, IsNew, IsOf, IsOperand, IsSort, IsWanted, LacksCause, MakesAnonymous, MakesBlock, MakesCall, MakesError, MakesForeach, MakesIf, MakesList, MakesMapping, MakesMatch, MakesRange, MakesWhile, NamesParameter, OpensLoop, Performs, ReadsElement, ReadsField, ReadsName, ReadsOptional, ReadsStored, ReadsStoredField, Receives, Returns, ReturnsNil, Sends, SendsAndWaits, Splits, Starts, Stops, Stores, Switches, TakesKey, Tests, Traps, Turns, UpdatesElement, UpdatesField, UpdatesName, WaitsForAll, WaitsForAny, WantsCounter, WantsErrorToo, WantsResult, Widens, WidensItem}
-use Rattle.all_needs.specs.declared.values.ValueNeed.{ValueNeed}
-use Rattle.all_needs.specs.declared.values.ValueNeed.TheVariants as value
-use Rattle.all_needs.specs.declared.operators.OperatorNeed.{OperatorNeed}
-use Rattle.all_needs.specs.declared.operators.OperatorNeed.TheVariants as operator
-use Rattle.all_needs.specs.declared.members.MemberNeed.{MemberNeed}
-use Rattle.all_needs.specs.declared.members.MemberNeed.TheVariants as member
-use Rattle.all_needs.specs.declared.structures.StructureNeed.{StructureNeed}
-use Rattle.all_needs.specs.declared.structures.StructureNeed.TheVariants as structure
-use Rattle.all_needs.specs.declared.calls.CallNeed.{CallNeed}
-use Rattle.all_needs.specs.declared.calls.CallNeed.TheVariants as call
-use Rattle.all_needs.specs.declared.units.UnitNeed.{UnitNeed}
-use Rattle.all_needs.specs.declared.units.UnitNeed.TheVariants as unit
-use Rattle.all_needs.specs.declared.actions.ActionNeed.{ActionNeed}
-use Rattle.all_needs.specs.declared.actions.ActionNeed.TheVariants as action
-use Rattle.all_needs.specs.declared.statements.StmtNeed.{StmtNeed}
-use Rattle.all_needs.specs.declared.statements.StmtNeed.TheVariants as statement
-use Rattle.all_needs.specs.declared.loops.LoopNeed.{LoopNeed}
-use Rattle.all_needs.specs.declared.loops.LoopNeed.TheVariants as loop
+use Rattle.need_values.specs.declared.values.ValueNeed.{ValueNeed}
+use Rattle.need_values.specs.declared.values.ValueNeed.TheVariants as value
+use Rattle.need_values.specs.declared.operators.OperatorNeed.{OperatorNeed}
+use Rattle.need_values.specs.declared.operators.OperatorNeed.TheVariants as operator
+use Rattle.need_values.specs.declared.members.MemberNeed.{MemberNeed}
+use Rattle.need_values.specs.declared.members.MemberNeed.TheVariants as member
+use Rattle.need_values.specs.declared.structures.StructureNeed.{StructureNeed}
+use Rattle.need_values.specs.declared.structures.StructureNeed.TheVariants as structure
+use Rattle.need_values.specs.declared.calls.CallNeed.{CallNeed}
+use Rattle.need_values.specs.declared.calls.CallNeed.TheVariants as call
+use Rattle.need_values.specs.declared.units.UnitNeed.{UnitNeed}
+use Rattle.need_values.specs.declared.units.UnitNeed.TheVariants as unit
+use Rattle.need_values.specs.declared.actions.ActionNeed.{ActionNeed}
+use Rattle.need_values.specs.declared.actions.ActionNeed.TheVariants as action
+use Rattle.need_values.specs.declared.statements.StmtNeed.{StmtNeed}
+use Rattle.need_values.specs.declared.statements.StmtNeed.TheVariants as statement
+use Rattle.need_values.specs.declared.loops.LoopNeed.{LoopNeed}
+use Rattle.need_values.specs.declared.loops.LoopNeed.TheVariants as loop
 
 -- names, literals, conditions, and what is wanted
 abbrev pub value_need : ValueNeed → Need
