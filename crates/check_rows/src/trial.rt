@@ -8,6 +8,7 @@ use std::alloc::Global;
 use stmt_checker::{Checked, check_package};
 use subtype_decider::Decider;
 use type_builder::build;
+use typed_tree::TypedPackage;
 
 /// What is said of a file.
 #[derive(Clone, Copy)]
@@ -75,8 +76,16 @@ fn taken(alloc: Global, text: &str, tokens: &[Token]) -> Result<(), Stop<Fault>>
     let tree = parse_file(alloc, 0, tokens)?;
     let package = package_with(alloc, text, tree)?;
     let mut decider = Decider::new(alloc);
-    let names = build(alloc, &mut decider, &package)?;
-    let Checked { types: _, answer } = check_package(alloc, decider, &names, &package);
+    match build(alloc, &mut decider, &package) {
+        Ok(names) => {
+            let Checked { types: _, answer } = check_package(alloc, decider, &names, &package);
+            passed(answer)
+        }
+        Err(stop) => Err(stop),
+    }
+}
+
+fn passed(answer: Result<TypedPackage, Stop<Fault>>) -> Result<(), Stop<Fault>> {
     match answer {
         Ok(_) => Ok(()),
         Err(stop) => Err(stop),
