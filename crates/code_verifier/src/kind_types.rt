@@ -1,0 +1,99 @@
+//! Kinds of shapes as types.
+ghost use Rattle.std.specs.Prelude.{◌≡◌, ◌⊎◌, ◌↔◌, ℕ, IfOk, List};
+ghost use Rattle.bal_base.specs.declared.shape.Shape.{Shape};
+ghost use Rattle.type_model.specs.declared.atoms.AtomDef.{AtomDef as Atom};
+ghost use Rattle.type_model.specs.Basic.{InBasic};
+ghost use Rattle.type_model.specs.Defined.{NamesBelow};
+ghost use Rattle.type_model.specs.Membership.{In};
+ghost use Rattle.code_verifier.specs.KindSets.{IsInSets, IsReadonlyData, known_of};
+
+use crate::sets::Sets;
+use bal_base::Memory;
+use code_needs::Kind;
+use std::alloc::Global;
+use type_model::{BasicSet, SemType};
+
+/// The shapes of the type, and all of the set.
+fn with_set(alloc: Global, t: SemType, set: BasicSet) -> Result<SemType, Memory>
+    ensures shapes { IfOk result (λ u. (env : List Atom) (x : Shape) → In env x u ↔ (In env x t ⊎ InBasic x set)) }
+    ensures defined { IfOk result (λ u. (n : ℕ) → NamesBelow n t → NamesBelow n u) }
+{
+    let t = Box::new(alloc, t)?;
+    let set = Box::new(alloc, SemType::Basic(set))?;
+    Ok(SemType::Or(t, set))
+}
+
+/// The shapes of the type that are in the set.
+pub(crate) fn in_set(alloc: Global, t: SemType, set: BasicSet) -> Result<SemType, Memory>
+    ensures shapes { IfOk result (λ u. (env : List Atom) (x : Shape) → In env x u ↔ (In env x t × InBasic x set)) }
+    ensures defined { IfOk result (λ u. (n : ℕ) → NamesBelow n t → NamesBelow n u) }
+{
+    let t = Box::new(alloc, t)?;
+    let set = Box::new(alloc, SemType::Basic(set))?;
+    Ok(SemType::And(t, set))
+}
+
+/// The shapes that aren't in the set.
+fn complement(alloc: Global, set: BasicSet) -> Result<Box<SemType>, Memory>
+    ensures shapes { IfOk result (λ u. (env : List Atom) (x : Shape) → In env x u.value ↔ (¬ InBasic x set)) }
+    ensures defined { IfOk result (λ u. (n : ℕ) → NamesBelow n u.value) }
+{
+    let set = Box::new(alloc, SemType::Basic(set))?;
+    Ok(Box::new(alloc, SemType::Not(set))?)
+}
+
+/// The shapes of the type that aren't in the set.
+fn out_of(alloc: Global, t: SemType, set: BasicSet) -> Result<SemType, Memory>
+    ensures shapes { IfOk result (λ u. (env : List Atom) (x : Shape) → In env x u ↔ (In env x t × (¬ InBasic x set))) }
+    ensures defined { IfOk result (λ u. (n : ℕ) → NamesBelow n t → NamesBelow n u) }
+{
+    let t = Box::new(alloc, t)?;
+    let rest = complement(alloc, set)?;
+    Ok(SemType::And(t, rest))
+}
+
+/// What may stand in an immutable structure: simple values, and lists and mappings that are immutable.
+fn frozen(alloc: Global) -> Result<SemType, Memory>
+    ensures shapes { IfOk result (λ t. (env : List Atom) (x : Shape) → In env x t ↔ IsReadonlyData x) }
+    ensures defined { IfOk result (λ t. (n : ℕ) → NamesBelow n t) }
+{
+    let readonly = SemType::Basic(BasicSet::Readonly);
+    let values = out_of(alloc, readonly, BasicSet::ErrorAll)?;
+    out_of(alloc, values, BasicSet::FunctionAll)
+}
+
+/// The type of the shapes of the sets.
+pub(crate) fn written(alloc: Global, sets: Sets) -> Result<SemType, Memory>
+    ensures shapes { IfOk result (λ t. (env : List Atom) (x : Shape) → In env x t ↔ IsInSets sets x) }
+    ensures defined { IfOk result (λ t. (n : ℕ) → NamesBelow n t) }
+{
+    match sets {
+        Sets::One(set) => Ok(SemType::Basic(set)),
+        Sets::Either(first, second) => with_set(alloc, SemType::Basic(first), second),
+        Sets::Both(first, second) => in_set(alloc, SemType::Basic(first), second),
+        Sets::Frozen => frozen(alloc),
+    }
+}
+
+/// Types that no basic set says, written over the atoms of the types that are asked.
+#[derive(Drop)]
+pub struct KnownTypes {
+    /// `anydata`
+    pub anydata: SemType,
+    /// `anydata|readonly`: what may be sent to another worker.
+    pub sendable: SemType,
+}
+
+/// The known type of a kind that has anydata in it.
+pub(crate) fn known_type(known: &KnownTypes, kind: Kind) -> &SemType
+    ensures { result.now ≡ known_of known.now kind }
+{
+    match kind {
+        Kind::Sendable => &known.sendable,
+        Kind::Nils | Kind::Booleans | Kind::Integers | Kind::Strings => &known.anydata,
+        Kind::Lists | Kind::Mappings | Kind::Errors | Kind::Functions => &known.anydata,
+        Kind::Futures | Kind::Anydata | Kind::ImmutableData => &known.anydata,
+        Kind::Details | Kind::NilsOrErrors => &known.anydata,
+        Kind::MappingsOrNils | Kind::IntegersOrErrors => &known.anydata,
+    }
+}
