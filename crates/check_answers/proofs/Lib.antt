@@ -58,3 +58,4 @@ pub mod CallsMade
 pub mod MemberKeys
 pub mod MadeMappings
 pub mod Anonymous
+pub mod Starts

@@ -94,7 +94,8 @@ IsNoClone OfValue = ⊤
 abbrev pub ClonesNothing : State → Type 0
 ClonesNothing s = (c : CallAtWork) → IsLast s.calls c → IsNoClone c.callee
 
--- Where a need joins ways, they know of the same variables: of a join of others nothing is said.
+-- Where a need joins ways, they know of the same variables: of a join of others nothing is said. And what is asked besides of three needs,
+-- whose meaning leaves more than one answer otherwise.
 pub record MeetsEvenly (need : Need) (s : State) : Type 0 where
   pub conjoined : (at : Place) → need ≡ Conjoins at → OtherIsEven (λ w. w.no) s
   pub disjoined : (at : Place) → need ≡ Disjoins at → OtherIsEven (λ w. w.yes) s

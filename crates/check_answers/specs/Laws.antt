@@ -29,7 +29,7 @@ use Rattle.needs.specs.Needs.{all_met}
 use Rattle.typed_tree.specs.Listed.{Listed, members}
 use Rattle.check_words.specs.Meets.{meets}
 use Rattle.check_words.specs.State.{State}
-use Rattle.expr_needs.specs.Needs.{Fails, IsOf, IsWanted, Widens, WantsResult, WantsErrorToo, DropsWant, GivesLiteral, Forms, Decides, IsSort, Adds, Compares, Splits, Switches, Turns, Conjoins, Disjoins, Chooses, FillsNil, Tests, Casts, Checks, ChecksPanicking, Traps, Encloses, IsAccessed, IsIndex, ReadsElement, ReadsField, ReadsOptional, HasField, ExpectsStored, ReadsStored, ReadsStoredField, ChoosesList, ChoosesMapping, BeginsKeys, GivesKey, TakesKey, ComputesKey, ExpectsItem, ExpectsMember, IsItem, IsDetail, LacksCause, IsMember, Declares, IsAssignable, Assigns, ReadsName, Stores, IsIgnorable, Performs, Stops, Returns, ReturnsNil, Breaks, Continues, BeginsBlock, EndsBlock, MakesBlock, MakesIf, Heads, OpensLoop, MakesWhile, IsItemOfLoop, WidensItem, IsCounter, WantsCounter, HasItem, MakesForeach, MakesRange, CallsValue, CallsMethod, ExpectsArgument, IsArgument, BeginsAnonymous, HasParameter, BeginsValue, IsNew, WaitsForAny, Receives, Sends, SendsAndWaits, Flushes, MakesList, MakesError, WaitsForAll, HasRest, MakesCall, MakesMapping, MakesAnonymous, GivesNamed, CallsNamed, Awaits, IsOperand, UpdatesName, UpdatesElement, UpdatesField, BeginsMatch, HasPattern, BeginsClause, EndsClause, MakesMatch, EntersFile, NamesParameter, EndsFunction, EndsValueFunction, BeginsWorker, EndsWorker, EndsModule, BeginsInitial, EndsInitial, Need, MemberSeen}
+use Rattle.expr_needs.specs.Needs.{Fails, IsOf, IsWanted, Widens, WantsResult, WantsErrorToo, DropsWant, GivesLiteral, Forms, Decides, IsSort, Adds, Compares, Splits, Switches, Turns, Conjoins, Disjoins, Chooses, FillsNil, Tests, Casts, Checks, ChecksPanicking, Traps, Encloses, IsAccessed, IsIndex, ReadsElement, ReadsField, ReadsOptional, HasField, ExpectsStored, ReadsStored, ReadsStoredField, ChoosesList, ChoosesMapping, BeginsKeys, GivesKey, TakesKey, ComputesKey, ExpectsItem, ExpectsMember, IsItem, IsDetail, LacksCause, IsMember, Declares, IsAssignable, Assigns, ReadsName, Stores, IsIgnorable, Performs, Stops, Returns, ReturnsNil, Breaks, Continues, BeginsBlock, EndsBlock, MakesBlock, MakesIf, Heads, OpensLoop, MakesWhile, IsItemOfLoop, WidensItem, IsCounter, WantsCounter, HasItem, MakesForeach, MakesRange, CallsValue, CallsMethod, ExpectsArgument, IsArgument, BeginsAnonymous, HasParameter, BeginsValue, IsNew, WaitsForAny, Receives, Sends, SendsAndWaits, Flushes, MakesList, MakesError, WaitsForAll, HasRest, MakesCall, MakesMapping, MakesAnonymous, Starts, GivesNamed, CallsNamed, Awaits, IsOperand, UpdatesName, UpdatesElement, UpdatesField, BeginsMatch, HasPattern, BeginsClause, EndsClause, MakesMatch, EntersFile, NamesParameter, EndsFunction, EndsValueFunction, BeginsWorker, EndsWorker, EndsModule, BeginsInitial, EndsInitial, Need, MemberSeen}
 use Rattle.check_answers.specs.Answers.{Agrees, HaveValues, IsLiteralValid, Twins, keeping}
 use Rattle.check_answers.specs.TwinTypes.{TwinAtoms}
 
@@ -145,7 +145,7 @@ module _ (passes : List AtomDef → Asked → TypeLimit → Type 0) (names : Nam
     pub sends_and_waits : (peer : Peer) (at : Place) → Agrees passes names (SendsAndWaits peer at)
     pub flushes : (peer : Peer) (at : Place) → Agrees passes names (Flushes peer at)
 
-  -- Lists, mappings and errors that are made, anonymous functions, calls, waits for several, and what takes the rest of arguments, with their atoms: two runs of each need come to the same.
+  -- Lists, mappings and errors that are made, anonymous functions, calls, calls that are started, waits for several, and what takes the rest of arguments, with their atoms: two runs of each need come to the same.
   pub record MadeAtomsAgree : Type 0 where
     pub makes_list : (count : ℕ) (at : Place) → Agrees passes names (MakesList count at)
     pub makes_error : (count : ℕ) (at : Place) → Agrees passes names (MakesError count at)
@@ -154,6 +154,7 @@ module _ (passes : List AtomDef → Asked → TypeLimit → Type 0) (names : Nam
     pub makes_call : (at : Place) → Agrees passes names (MakesCall at)
     pub makes_mapping : (count : ℕ) (at : Place) → Agrees passes names (MakesMapping count at)
     pub makes_anonymous : (isolated : Bool) (at : Place) → Agrees passes names (MakesAnonymous isolated at)
+    pub starts : (here at : Place) → Agrees passes names (Starts here at)
 
   -- Names as values, in calls and in waits, where constants have values: two runs of each need come to the same.
   pub record NamesAgree : Type 0 where

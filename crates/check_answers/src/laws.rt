@@ -50,7 +50,7 @@ pub fn actions_agree<T: Types>()
     ensures { ActionsAgreeAlways T.passes }
 {}
 
-/// Of lists, mappings and errors that are made, of anonymous functions, of calls, of waits for several and of what takes the rest of arguments, with their atoms: from states that are twins two runs of each need give states that are twins, or refuse with one fault, but for a limit that
+/// Of lists, mappings and errors that are made, of anonymous functions, of calls, of calls that are started, of waits for several and of what takes the rest of arguments, with their atoms: from states that are twins two runs of each need give states that are twins, or refuse with one fault, but for a limit that
 /// either may meet.
 pub fn made_atoms_agree<T: Types>()
     ensures { MadeAtomsAgreeAlways T.passes }
