@@ -59,3 +59,4 @@ pub mod MemberKeys
 pub mod MadeMappings
 pub mod Anonymous
 pub mod Starts
+pub mod EachNeed

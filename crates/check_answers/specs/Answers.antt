@@ -1,10 +1,13 @@
 -- Two runs of needs come to the same: between any two needs their states are twins.
-use Rattle.std.specs.Prelude.{◌≡◌, ◌≢◌, ℕ, Bool, true, None, List, All, IfOk, length, ⊤}
+use Rattle.std.specs.Prelude.{◌≡◌, ◌≢◌, ℕ, Bool, true, Option, None, List, All, IfOk, IfSome, length, ⊤}
 use Rattle.bal_base.specs.declared.place.Place.{Place}
 use Rattle.bal_base.specs.declared.shape.Shape.{Shape}
 use Rattle.bal_base.specs.Valid.{IsText, IsValid}
+use Rattle.bal_tree.specs.declared.def.ConstDef.{ConstDef}
+use Rattle.bal_tree.specs.declared.def.FunctionDef.{FunctionDef}
 use Rattle.bal_tree.specs.declared.name.Literal.{Literal}
 use Rattle.bal_tree.specs.declared.name.QualifiedName.{QualifiedName}
+use Rattle.bal_tree.specs.declared.types.TypeTree.{TypeTree}
 use Rattle.checks.specs.Checks.{Gives, Outcome, Refuses}
 use Rattle.descriptors.specs.declared.names.Meaning.{Meaning}
 use Rattle.descriptors.specs.declared.names.Meaning.TheVariants as meaning
@@ -22,7 +25,8 @@ use Rattle.type_model.specs.declared.atoms.FieldDef.{FieldDef}
 use Rattle.type_model.specs.Calls.{Asked}
 use Rattle.type_model.specs.Defined.{IsEnv}
 use Rattle.type_model.specs.Inclusion.{IsShapeOf}
-use Rattle.expr_needs.specs.Needs.{Conjoins, Disjoins, IsMember, MakesCall, MakesIf, MakesMapping, MakesMatch, Need}
+use Rattle.expr_needs.specs.declared.expected.Expected.{Expected}
+use Rattle.expr_needs.specs.Needs.{BeginsFunction, ChoosesList, ChoosesMapping, Conjoins, Describes, Disjoins, IsConstant, IsMember, MakesCall, MakesIf, MakesMapping, MakesMatch, MemberSeen, Need}
 use Rattle.check_words.specs.Constructors.{all_known}
 use Rattle.check_words.specs.Meets.{meets}
 use Rattle.check_words.specs.Stands.{Stands}
@@ -129,3 +133,14 @@ HaveValues names = (scope : Scope) (q : QualifiedName) → IfOk (meaning_named n
 -- the value of a literal is one: an int in range, or a text of characters
 abbrev pub IsLiteralValid : Literal → Type 0
 IsLiteralValid l = IsValid (shape_of (constant_of l))
+
+-- ---- needs of which nothing is left open
+
+-- None of the three that choose types and then add atoms, which these may name (what a descriptor is, what a function begins with, a
+-- constant); and the literals that a constructor sees are values.
+pub record IsSettled (need : Need) : Type 0 where
+  pub described : (tree : TypeTree) → need ≢ Describes tree
+  pub begun : (def : FunctionDef) → need ≢ BeginsFunction def
+  pub constant : (def : ConstDef) → need ≢ IsConstant def
+  pub listed : (e : Expected) (items : List (Option Literal)) (at : Place) → need ≡ ChoosesList e items at → All (λ i. IfSome i IsLiteralValid) items
+  pub mapped : (e : Expected) (ms : List MemberSeen) (at : Place) → need ≡ ChoosesMapping e ms at → All (λ x. IfSome x.literal IsLiteralValid) ms

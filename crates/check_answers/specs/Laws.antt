@@ -30,7 +30,7 @@ use Rattle.typed_tree.specs.Listed.{Listed, members}
 use Rattle.check_words.specs.Meets.{meets}
 use Rattle.check_words.specs.State.{State}
 use Rattle.expr_needs.specs.Needs.{Fails, IsOf, IsWanted, Widens, WantsResult, WantsErrorToo, DropsWant, GivesLiteral, Forms, Decides, IsSort, Adds, Compares, Splits, Switches, Turns, Conjoins, Disjoins, Chooses, FillsNil, Tests, Casts, Checks, ChecksPanicking, Traps, Encloses, IsAccessed, IsIndex, ReadsElement, ReadsField, ReadsOptional, HasField, ExpectsStored, ReadsStored, ReadsStoredField, ChoosesList, ChoosesMapping, BeginsKeys, GivesKey, TakesKey, ComputesKey, ExpectsItem, ExpectsMember, IsItem, IsDetail, LacksCause, IsMember, Declares, IsAssignable, Assigns, ReadsName, Stores, IsIgnorable, Performs, Stops, Returns, ReturnsNil, Breaks, Continues, BeginsBlock, EndsBlock, MakesBlock, MakesIf, Heads, OpensLoop, MakesWhile, IsItemOfLoop, WidensItem, IsCounter, WantsCounter, HasItem, MakesForeach, MakesRange, CallsValue, CallsMethod, ExpectsArgument, IsArgument, BeginsAnonymous, HasParameter, BeginsValue, IsNew, WaitsForAny, Receives, Sends, SendsAndWaits, Flushes, MakesList, MakesError, WaitsForAll, HasRest, MakesCall, MakesMapping, MakesAnonymous, Starts, GivesNamed, CallsNamed, Awaits, IsOperand, UpdatesName, UpdatesElement, UpdatesField, BeginsMatch, HasPattern, BeginsClause, EndsClause, MakesMatch, EntersFile, NamesParameter, EndsFunction, EndsValueFunction, BeginsWorker, EndsWorker, EndsModule, BeginsInitial, EndsInitial, Need, MemberSeen}
-use Rattle.check_answers.specs.Answers.{Agrees, HaveValues, IsLiteralValid, Twins, keeping}
+use Rattle.check_answers.specs.Answers.{Agrees, HaveValues, IsLiteralValid, IsSettled, Twins, keeping}
 use Rattle.check_answers.specs.TwinTypes.{TwinAtoms}
 
 -- a type has the same shapes over atoms that are twins
@@ -195,6 +195,12 @@ module _ (passes : List AtomDef → Asked → TypeLimit → Type 0) (names : Nam
       (needs : Listed Need) → All (Agrees passes names) (members needs) → (s t : State) → Twins s t
       → Alike (BehindTwins Twins (keeping (meets passes names))) s t (all_met (keeping (meets passes names)) needs) (all_met (keeping (meets passes names)) needs)
 
+  -- and of needs of which nothing is left open two runs of each do, where constants have values
+  abbrev pub SettledLinesAgree : Type 0
+  SettledLinesAgree =
+      HaveValues names → (needs : Listed Need) → All IsSettled (members needs) → (s t : State) → Twins s t
+      → Alike (BehindTwins Twins (keeping (meets passes names))) s t (all_met (keeping (meets passes names)) needs) (all_met (keeping (meets passes names)) needs)
+
 -- whatever the names of the package stand for
 module _ (passes : List AtomDef → Asked → TypeLimit → Type 0) where
   abbrev pub ValuesAgreeAlways : Type 0
@@ -235,3 +241,6 @@ module _ (passes : List AtomDef → Asked → TypeLimit → Type 0) where
 
   abbrev pub LinesAgreeAlways : Type 0
   LinesAgreeAlways = (names : Names) → LinesAgree passes names
+
+  abbrev pub SettledLinesAgreeAlways : Type 0
+  SettledLinesAgreeAlways = (names : Names) → SettledLinesAgree passes names

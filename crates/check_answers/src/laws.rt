@@ -1,5 +1,5 @@
 //! Laws of answers. These calls do nothing: their clauses are laws.
-ghost use Rattle.check_answers.specs.Laws.{ActionsAgreeAlways, BranchesAgreeAlways, CallsAgreeAlways, ConstructorsAgreeAlways, LinesAgreeAlways, MadeAtomsAgreeAlways, MatchesAgreeAlways, MembersAgreeAlways, NamesAgreeAlways, StatementsAgreeAlways, TwinsOfAtoms, UnitsAgreeAlways, UpdatesAgreeAlways, ValuesAgreeAlways};
+ghost use Rattle.check_answers.specs.Laws.{ActionsAgreeAlways, BranchesAgreeAlways, CallsAgreeAlways, ConstructorsAgreeAlways, LinesAgreeAlways, MadeAtomsAgreeAlways, MatchesAgreeAlways, MembersAgreeAlways, NamesAgreeAlways, SettledLinesAgreeAlways, StatementsAgreeAlways, TwinsOfAtoms, UnitsAgreeAlways, UpdatesAgreeAlways, ValuesAgreeAlways};
 
 use type_model::Types;
 
@@ -83,4 +83,9 @@ pub fn units_agree<T: Types>()
 /// Needs one behind another: where two runs of each of them come to the same, two runs of all do.
 pub fn lines_agree<T: Types>()
     ensures { LinesAgreeAlways T.passes }
+{}
+
+/// Needs one behind another of which nothing is left open: where constants have values two runs of all come to the same.
+pub fn settled_lines_agree<T: Types>()
+    ensures { SettledLinesAgreeAlways T.passes }
 {}
