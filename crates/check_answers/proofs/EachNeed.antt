@@ -6,7 +6,7 @@ use Rattle.type_model.specs.declared.answers.TypeLimit.{TypeLimit}
 use Rattle.type_model.specs.declared.atoms.AtomDef.{AtomDef}
 use Rattle.type_model.specs.Calls.{Asked}
 use Rattle.typed_tree.specs.Listed.{Listed, members}
-use Rattle.expr_needs.specs.Needs.{Need, Fails, IsOf, IsWanted, Widens, WantsResult, WantsErrorToo, DropsWant, GivesLiteral, Forms, Decides, IsSort, Adds, Compares, Splits, Switches, Turns, Conjoins, Disjoins, Chooses, FillsNil, Tests, Casts, Checks, ChecksPanicking, Traps, Encloses, IsAccessed, IsIndex, ReadsElement, ReadsField, ReadsOptional, HasField, ExpectsStored, ReadsStored, ReadsStoredField, ChoosesList, ChoosesMapping, BeginsKeys, GivesKey, TakesKey, ComputesKey, ExpectsItem, ExpectsMember, IsItem, IsDetail, LacksCause, IsMember, Declares, IsAssignable, Assigns, ReadsName, Stores, IsIgnorable, Performs, Stops, Returns, ReturnsNil, Breaks, Continues, BeginsBlock, EndsBlock, MakesBlock, MakesIf, Heads, OpensLoop, MakesWhile, IsItemOfLoop, WidensItem, IsCounter, WantsCounter, HasItem, MakesForeach, MakesRange, CallsValue, CallsMethod, ExpectsArgument, IsArgument, BeginsAnonymous, HasParameter, BeginsValue, IsNew, WaitsForAny, Receives, Sends, SendsAndWaits, Flushes, MakesList, MakesError, WaitsForAll, HasRest, MakesCall, MakesMapping, MakesAnonymous, Starts, GivesNamed, CallsNamed, Awaits, IsOperand, UpdatesName, UpdatesElement, UpdatesField, BeginsMatch, HasPattern, BeginsClause, EndsClause, MakesMatch, EntersFile, NamesParameter, EndsFunction, EndsValueFunction, BeginsWorker, EndsWorker, EndsModule, BeginsInitial, EndsInitial, Describes, BeginsFunction, IsConstant}
+use Rattle.expr_needs.specs.Needs.{Need, Fails, IsOf, IsWanted, Widens, WantsResult, WantsErrorToo, DropsWant, GivesLiteral, Forms, Decides, IsSort, Adds, Compares, Splits, Switches, Turns, Conjoins, Disjoins, Chooses, FillsNil, Tests, Casts, Checks, ChecksPanicking, Traps, Encloses, Describes, IsAccessed, IsIndex, ReadsElement, ReadsField, ReadsOptional, HasField, ExpectsStored, ReadsStored, ReadsStoredField, ChoosesList, ChoosesMapping, BeginsKeys, GivesKey, TakesKey, ComputesKey, ExpectsItem, ExpectsMember, IsItem, IsDetail, LacksCause, IsMember, Declares, IsAssignable, Assigns, ReadsName, Stores, IsIgnorable, Performs, Stops, Returns, ReturnsNil, Breaks, Continues, BeginsBlock, EndsBlock, MakesBlock, MakesIf, Heads, OpensLoop, MakesWhile, IsItemOfLoop, WidensItem, IsCounter, WantsCounter, HasItem, MakesForeach, MakesRange, CallsValue, CallsMethod, ExpectsArgument, IsArgument, BeginsAnonymous, HasParameter, BeginsValue, IsNew, WaitsForAny, Receives, Sends, SendsAndWaits, Flushes, MakesList, MakesError, WaitsForAll, HasRest, MakesCall, MakesMapping, MakesAnonymous, Starts, GivesNamed, CallsNamed, Awaits, IsOperand, UpdatesName, UpdatesElement, UpdatesField, BeginsMatch, HasPattern, BeginsClause, EndsClause, MakesMatch, EntersFile, NamesParameter, EndsFunction, EndsValueFunction, BeginsWorker, EndsWorker, EndsModule, BeginsInitial, EndsInitial, BeginsFunction, IsConstant}
 use Rattle.check_answers.specs.Answers.{Agrees, HaveValues, IsSettled}
 use Rattle.check_answers.specs.Laws.{SettledLinesAgree}
 use Rattle.check_answers.proofs.EachValue.{values-agree}
@@ -51,6 +51,7 @@ module _ (passes : List AtomDef → Asked → TypeLimit → Type 0) (names : Nam
   need-agrees have (ChecksPanicking at) h = (values-agree passes names).checks_panicking at
   need-agrees have (Traps at) h = (values-agree passes names).traps at
   need-agrees have (Encloses at) h = (values-agree passes names).encloses at
+  need-agrees have (Describes tree) h = (values-agree passes names).describes tree (h.described tree refl)
   need-agrees have (IsAccessed texts at) h = (members-agree passes names).is_accessed texts at
   need-agrees have (IsIndex at) h = (members-agree passes names).is_index at
   need-agrees have (ReadsElement at) h = (members-agree passes names).reads_element at
@@ -140,7 +141,6 @@ module _ (passes : List AtomDef → Asked → TypeLimit → Type 0) (names : Nam
   need-agrees have (EndsModule k) h = (units-agree passes names).ends_module k
   need-agrees have (BeginsInitial d kept) h = (units-agree passes names).begins_initial d kept
   need-agrees have (EndsInitial d kept) h = (units-agree passes names).ends_initial d kept
-  need-agrees have (Describes tree) h = absurd (h.described tree refl)
   need-agrees have (BeginsFunction def) h = absurd (h.begun def refl)
   need-agrees have (IsConstant def) h = absurd (h.constant def refl)
 

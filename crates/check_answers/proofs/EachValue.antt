@@ -4,13 +4,14 @@ use Rattle.descriptors.specs.declared.names.Names.{Names}
 use Rattle.type_model.specs.declared.answers.TypeLimit.{TypeLimit}
 use Rattle.type_model.specs.declared.atoms.AtomDef.{AtomDef}
 use Rattle.type_model.specs.Calls.{Asked}
-use Rattle.expr_needs.specs.Needs.{Fails, IsOf, IsWanted, Widens, WantsResult, WantsErrorToo, DropsWant, GivesLiteral, Forms, Decides, IsSort, Adds, Compares, Splits, Switches, Turns, Conjoins, Disjoins, Chooses, FillsNil, Tests, Casts, Checks, ChecksPanicking, Traps, Encloses}
+use Rattle.expr_needs.specs.Needs.{Fails, IsOf, IsWanted, Widens, WantsResult, WantsErrorToo, DropsWant, GivesLiteral, Forms, Decides, IsSort, Adds, Compares, Splits, Switches, Turns, Conjoins, Disjoins, Chooses, FillsNil, Tests, Casts, Checks, ChecksPanicking, Traps, Encloses, Describes}
 use Rattle.check_answers.specs.Laws.{ValuesAgree}
 use Rattle.check_answers.proofs.Agreeing.{agrees-before, agrees-behind, agrees-these}
 use Rattle.check_answers.proofs.Leading.{Any2, leads-fails}
 use Rattle.check_answers.proofs.Questions.{Before, Behind, is-of-leads, is-wanted-leads}
 use Rattle.check_answers.proofs.Tests.{checks-leads, tests-leads}
 use Rattle.check_answers.proofs.Values.{adds-leads, casts-leads, checked-leads, chooses-leads, compares-leads, conjoins-leads, decides-leads, disjoins-leads, drops-want-leads, encloses-leads, fills-nil-leads, forms-leads, is-sort-leads, literal-leads, splits-leads, switches-leads, traps-leads, turns-leads, wants-error-leads, wants-result-leads, widens-leads}
+use Rattle.check_answers.proofs.Descriptors.{describes-leads}
 
 module _ (passes : List AtomDef → Asked → TypeLimit → Type 0) (names : Names) where
   pub values-agree : ValuesAgree passes names
@@ -42,4 +43,5 @@ module _ (passes : List AtomDef → Asked → TypeLimit → Type 0) (names : Nam
         checks_panicking = λ at. agrees-behind passes names (ChecksPanicking at) (λ m n twins. checked-leads m n true at);
         traps = λ at. agrees-behind passes names (Traps at) (λ m n twins. traps-leads m n at);
         encloses = λ at. agrees-behind passes names (Encloses at) (λ m n twins. encloses-leads m n at);
+        describes = λ tree flat. agrees-behind passes names (Describes tree) (λ m n twins. describes-leads m n twins names tree flat);
       }

@@ -60,3 +60,4 @@ pub mod MadeMappings
 pub mod Anonymous
 pub mod Starts
 pub mod EachNeed
+pub mod Descriptors

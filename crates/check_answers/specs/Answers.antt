@@ -13,6 +13,7 @@ use Rattle.descriptors.specs.declared.names.Meaning.{Meaning}
 use Rattle.descriptors.specs.declared.names.Meaning.TheVariants as meaning
 use Rattle.descriptors.specs.declared.names.Names.{Names}
 use Rattle.descriptors.specs.declared.names.Scope.{Scope}
+use Rattle.descriptors.specs.Descriptors.{Descriptor, builtin, value, named, optional, union, intersection, array, repeated, tuple, map_of, closed_record, open_record, any_error, error_with, any_function, function_from, future_of, descriptor_of}
 use Rattle.descriptors.specs.Naming.{meaning_named}
 use Rattle.flow_narrowing.specs.declared.flow.Flow.{Flow}
 use Rattle.needs.specs.Agreement.{NeedAgrees}
@@ -134,12 +135,33 @@ HaveValues names = (scope : Scope) (q : QualifiedName) → IfOk (meaning_named n
 abbrev pub IsLiteralValid : Literal → Type 0
 IsLiteralValid l = IsValid (shape_of (constant_of l))
 
+-- ---- descriptors that add no atoms
+
+abbrev pub IsFlat : Descriptor → Type 0
+IsFlat (builtin b) = ⊤
+IsFlat (value v) = ⊤
+IsFlat (named name) = ⊤
+IsFlat (optional of) = IsFlat of
+IsFlat (union left right) = IsFlat left × IsFlat right
+IsFlat (intersection left right) = IsFlat left × IsFlat right
+IsFlat (array member at) = ⊥
+IsFlat (repeated member count at) = ⊥
+IsFlat (tuple members rest at) = ⊥
+IsFlat (map_of member at) = ⊥
+IsFlat (closed_record fields rest at) = ⊥
+IsFlat (open_record fields at) = ⊥
+IsFlat any_error = ⊤
+IsFlat (error_with detail at) = ⊥
+IsFlat (any_function isolated) = ⊤
+IsFlat (function_from isolated params rest result at) = ⊥
+IsFlat (future_of result at) = ⊥
+
 -- ---- needs of which nothing is left open
 
--- None of the three that choose types and then add atoms, which these may name (what a descriptor is, what a function begins with, a
--- constant); and the literals that a constructor sees are values.
+-- None of those that choose types and then add atoms, which these may name (what a function begins with, a constant, and a descriptor with
+-- parts that aren't flat); and the literals that a constructor sees are values.
 pub record IsSettled (need : Need) : Type 0 where
-  pub described : (tree : TypeTree) → need ≢ Describes tree
+  pub described : (tree : TypeTree) → need ≡ Describes tree → IsFlat (descriptor_of tree)
   pub begun : (def : FunctionDef) → need ≢ BeginsFunction def
   pub constant : (def : ConstDef) → need ≢ IsConstant def
   pub listed : (e : Expected) (items : List (Option Literal)) (at : Place) → need ≡ ChoosesList e items at → All (λ i. IfSome i IsLiteralValid) items

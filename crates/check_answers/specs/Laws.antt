@@ -14,12 +14,14 @@ use Rattle.bal_tree.specs.declared.name.Word.{Word}
 use Rattle.bal_tree.specs.declared.stmt.AssignOp.{AssignOp}
 use Rattle.bal_tree.specs.declared.stmt.Pattern.{Pattern}
 use Rattle.bal_tree.specs.declared.stmt.RangeOp.{RangeOp}
+use Rattle.bal_tree.specs.declared.types.TypeTree.{TypeTree}
 use Rattle.typed_tree.specs.declared.form.Operator.{Operator}
 use Rattle.typed_tree.specs.declared.stmt.PerformForm.{PerformForm}
 use Rattle.expr_needs.specs.declared.expected.Expected.{Expected}
 use Rattle.expr_needs.specs.declared.kind.Kind.{Kind}
 use Rattle.checks.specs.Agreement.{Alike, AreTwins}
 use Rattle.descriptors.specs.declared.names.Names.{Names}
+use Rattle.descriptors.specs.Descriptors.{descriptor_of}
 use Rattle.type_model.specs.declared.answers.TypeLimit.{TypeLimit}
 use Rattle.type_model.specs.declared.atoms.AtomDef.{AtomDef}
 use Rattle.type_model.specs.declared.basic.SemType.{SemType}
@@ -29,8 +31,8 @@ use Rattle.needs.specs.Needs.{all_met}
 use Rattle.typed_tree.specs.Listed.{Listed, members}
 use Rattle.check_words.specs.Meets.{meets}
 use Rattle.check_words.specs.State.{State}
-use Rattle.expr_needs.specs.Needs.{Fails, IsOf, IsWanted, Widens, WantsResult, WantsErrorToo, DropsWant, GivesLiteral, Forms, Decides, IsSort, Adds, Compares, Splits, Switches, Turns, Conjoins, Disjoins, Chooses, FillsNil, Tests, Casts, Checks, ChecksPanicking, Traps, Encloses, IsAccessed, IsIndex, ReadsElement, ReadsField, ReadsOptional, HasField, ExpectsStored, ReadsStored, ReadsStoredField, ChoosesList, ChoosesMapping, BeginsKeys, GivesKey, TakesKey, ComputesKey, ExpectsItem, ExpectsMember, IsItem, IsDetail, LacksCause, IsMember, Declares, IsAssignable, Assigns, ReadsName, Stores, IsIgnorable, Performs, Stops, Returns, ReturnsNil, Breaks, Continues, BeginsBlock, EndsBlock, MakesBlock, MakesIf, Heads, OpensLoop, MakesWhile, IsItemOfLoop, WidensItem, IsCounter, WantsCounter, HasItem, MakesForeach, MakesRange, CallsValue, CallsMethod, ExpectsArgument, IsArgument, BeginsAnonymous, HasParameter, BeginsValue, IsNew, WaitsForAny, Receives, Sends, SendsAndWaits, Flushes, MakesList, MakesError, WaitsForAll, HasRest, MakesCall, MakesMapping, MakesAnonymous, Starts, GivesNamed, CallsNamed, Awaits, IsOperand, UpdatesName, UpdatesElement, UpdatesField, BeginsMatch, HasPattern, BeginsClause, EndsClause, MakesMatch, EntersFile, NamesParameter, EndsFunction, EndsValueFunction, BeginsWorker, EndsWorker, EndsModule, BeginsInitial, EndsInitial, Need, MemberSeen}
-use Rattle.check_answers.specs.Answers.{Agrees, HaveValues, IsLiteralValid, IsSettled, Twins, keeping}
+use Rattle.expr_needs.specs.Needs.{Fails, IsOf, IsWanted, Widens, WantsResult, WantsErrorToo, DropsWant, GivesLiteral, Forms, Decides, IsSort, Adds, Compares, Splits, Switches, Turns, Conjoins, Disjoins, Chooses, FillsNil, Tests, Casts, Checks, ChecksPanicking, Traps, Encloses, Describes, IsAccessed, IsIndex, ReadsElement, ReadsField, ReadsOptional, HasField, ExpectsStored, ReadsStored, ReadsStoredField, ChoosesList, ChoosesMapping, BeginsKeys, GivesKey, TakesKey, ComputesKey, ExpectsItem, ExpectsMember, IsItem, IsDetail, LacksCause, IsMember, Declares, IsAssignable, Assigns, ReadsName, Stores, IsIgnorable, Performs, Stops, Returns, ReturnsNil, Breaks, Continues, BeginsBlock, EndsBlock, MakesBlock, MakesIf, Heads, OpensLoop, MakesWhile, IsItemOfLoop, WidensItem, IsCounter, WantsCounter, HasItem, MakesForeach, MakesRange, CallsValue, CallsMethod, ExpectsArgument, IsArgument, BeginsAnonymous, HasParameter, BeginsValue, IsNew, WaitsForAny, Receives, Sends, SendsAndWaits, Flushes, MakesList, MakesError, WaitsForAll, HasRest, MakesCall, MakesMapping, MakesAnonymous, Starts, GivesNamed, CallsNamed, Awaits, IsOperand, UpdatesName, UpdatesElement, UpdatesField, BeginsMatch, HasPattern, BeginsClause, EndsClause, MakesMatch, EntersFile, NamesParameter, EndsFunction, EndsValueFunction, BeginsWorker, EndsWorker, EndsModule, BeginsInitial, EndsInitial, Need, MemberSeen}
+use Rattle.check_answers.specs.Answers.{Agrees, HaveValues, IsFlat, IsLiteralValid, IsSettled, Twins, keeping}
 use Rattle.check_answers.specs.TwinTypes.{TwinAtoms}
 
 -- a type has the same shapes over atoms that are twins
@@ -66,6 +68,7 @@ module _ (passes : List AtomDef → Asked → TypeLimit → Type 0) (names : Nam
     pub checks_panicking : (at : Place) → Agrees passes names (ChecksPanicking at)
     pub traps : (at : Place) → Agrees passes names (Traps at)
     pub encloses : (at : Place) → Agrees passes names (Encloses at)
+    pub describes : (tree : TypeTree) → IsFlat (descriptor_of tree) → Agrees passes names (Describes tree)
 
   -- Reads and stores of members: two runs of each need come to the same.
   pub record MembersAgree : Type 0 where
