@@ -123,7 +123,7 @@ module _ (m n : Atoms) (twins : TwinAtoms m n) where
     whole-alike : (d : Descriptor) → IsFlat d → Alike (BothKeep m n T) m n (described_whole names scope d) (described_whole names scope d)
     whole-alike d flat = chain T T _ _ _ _ (flat-alike d flat) (λ s t h. some-alike T _ _ (λ a b x y. rewritten-twin s t a b h x y))
 
-    flat-leads : (d : Descriptor) → IsFlat d
+    pub flat-leads : (d : Descriptor) → IsFlat d
         → Leads (Before m n) (Before m n) T (asking (described_whole names scope d)) (asking (described_whole names scope d))
     flat-leads d flat = leads-asking m n (Before m n) T _ _ (before-atoms m n) (whole-alike d flat)
 

@@ -141,8 +141,8 @@ module _ (passes : List AtomDef → Asked → TypeLimit → Type 0) (names : Nam
   need-agrees have (EndsModule k) h = (units-agree passes names).ends_module k
   need-agrees have (BeginsInitial d kept) h = (units-agree passes names).begins_initial d kept
   need-agrees have (EndsInitial d kept) h = (units-agree passes names).ends_initial d kept
-  need-agrees have (BeginsFunction def) h = absurd (h.begun def refl)
-  need-agrees have (IsConstant def) h = absurd (h.constant def refl)
+  need-agrees have (BeginsFunction def) h = (units-agree passes names).begins_function def (h.begun def refl)
+  need-agrees have (IsConstant def) h = (units-agree passes names).is_constant def (h.constant def refl)
 
   pub settled-lines-agree : SettledLinesAgree passes names
   settled-lines-agree have needs all = lines-agree passes names needs (All-weaker IsSettled (Agrees passes names) (need-agrees have) (members needs) all)

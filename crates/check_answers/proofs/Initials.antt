@@ -98,7 +98,7 @@ module _ (m n : Atoms) (twins : TwinAtoms m n) where
     sets-leads o p h =
         leads-becomes F F _ _ (λ s t q. record { first = q.first; second = q.second; states = with-initialiser E R s t q.states o p h })
 
-    opens-leads : (u v : UnitAtWork) → UnitTwins E R u v → Leads F F Any2 (opens_unit u) (opens_unit v)
+    pub opens-leads : (u v : UnitAtWork) → UnitTwins E R u v → Leads F F Any2 (opens_unit u) (opens_unit v)
     opens-leads u v h =
         leads-then F F F (UnitTwins E R) Any2 _ _ _ _ (leads-handles F _ SameUnit SameUnit u v (λ a b p q. unit-handed E R u v a b h p q))
         (λ a b k. leads-becomes F F _ _ (λ s t p. record {
@@ -112,7 +112,7 @@ module _ (m n : Atoms) (twins : TwinAtoms m n) where
   at-work-leads false i j h = leads-done A
 
   -- the number and the type of the variable
-  site-at : Leads A A (SiteTwins E V) site_now site_now
+  pub site-at : Leads A A (SiteTwins E V) site_now site_now
   site-at = leads-some A _ _ _ (λ s t a b p x y. subst (λ k. SiteTwins E V k b) (sym x) (subst (SiteTwins E V s.site) (sym y) p.states.site))
 
   type-at : (names : Names) (d : VariableDef) → Leads A A Equal (variable_type names d) (variable_type names d)

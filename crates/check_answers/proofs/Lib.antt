@@ -61,3 +61,4 @@ pub mod Anonymous
 pub mod Starts
 pub mod EachNeed
 pub mod Descriptors
+pub mod Begins

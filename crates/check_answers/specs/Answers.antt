@@ -32,6 +32,7 @@ use Rattle.check_words.specs.Constructors.{all_known}
 use Rattle.check_words.specs.Meets.{meets}
 use Rattle.check_words.specs.Stands.{Stands}
 use Rattle.check_words.specs.State.{CallAtWork, Called, OfFunction, OfLibrary, OfValue, ChoiceAtWork, ConstructorAtWork, IsLast, MatchAtWork, State, UnitAtWork, Ways, ways_or_same}
+use Rattle.check_words.specs.Units.{workers_of}
 use Rattle.check_words.specs.Values.{constant_of}
 use Rattle.check_words.specs.Words.{Step}
 use Rattle.check_answers.specs.TwinStates.{StateTwins}
@@ -156,13 +157,17 @@ IsFlat (any_function isolated) = ⊤
 IsFlat (function_from isolated params rest result at) = ⊥
 IsFlat (future_of result at) = ⊥
 
+-- no worker of the function says what it gives
+abbrev pub HasNoResults : FunctionDef → Type 0
+HasNoResults def = All (λ w. w.result ≡ None) (workers_of def.body)
+
 -- ---- needs of which nothing is left open
 
--- None of those that choose types and then add atoms, which these may name (what a function begins with, a constant, and a descriptor with
--- parts that aren't flat); and the literals that a constructor sees are values.
+-- Descriptors in bodies and of constants add no atoms, and no worker says what it gives: of others, whose parts may name atoms that are added
+-- behind them, more than one answer is left open. And the literals that a constructor sees are values.
 pub record IsSettled (need : Need) : Type 0 where
   pub described : (tree : TypeTree) → need ≡ Describes tree → IsFlat (descriptor_of tree)
-  pub begun : (def : FunctionDef) → need ≢ BeginsFunction def
-  pub constant : (def : ConstDef) → need ≢ IsConstant def
+  pub begun : (def : FunctionDef) → need ≡ BeginsFunction def → HasNoResults def
+  pub constant : (def : ConstDef) → need ≡ IsConstant def → IfSome def.ty (λ tree. IsFlat (descriptor_of tree.value))
   pub listed : (e : Expected) (items : List (Option Literal)) (at : Place) → need ≡ ChoosesList e items at → All (λ i. IfSome i IsLiteralValid) items
   pub mapped : (e : Expected) (ms : List MemberSeen) (at : Place) → need ≡ ChoosesMapping e ms at → All (λ x. IfSome x.literal IsLiteralValid) ms

@@ -5,6 +5,7 @@ use Rattle.bal_base.specs.declared.place.Place.{Place}
 use Rattle.bal_base.specs.declared.text.Text.{Text}
 use Rattle.bal_base.specs.declared.text.Name.{Name}
 use Rattle.bal_tree.specs.declared.action.Peer.{Peer}
+use Rattle.bal_tree.specs.declared.def.ConstDef.{ConstDef}
 use Rattle.bal_tree.specs.declared.def.FunctionDef.{FunctionDef}
 use Rattle.bal_tree.specs.declared.def.VariableDef.{VariableDef}
 use Rattle.bal_tree.specs.declared.def.Worker.{Worker}
@@ -31,8 +32,8 @@ use Rattle.needs.specs.Needs.{all_met}
 use Rattle.typed_tree.specs.Listed.{Listed, members}
 use Rattle.check_words.specs.Meets.{meets}
 use Rattle.check_words.specs.State.{State}
-use Rattle.expr_needs.specs.Needs.{Fails, IsOf, IsWanted, Widens, WantsResult, WantsErrorToo, DropsWant, GivesLiteral, Forms, Decides, IsSort, Adds, Compares, Splits, Switches, Turns, Conjoins, Disjoins, Chooses, FillsNil, Tests, Casts, Checks, ChecksPanicking, Traps, Encloses, Describes, IsAccessed, IsIndex, ReadsElement, ReadsField, ReadsOptional, HasField, ExpectsStored, ReadsStored, ReadsStoredField, ChoosesList, ChoosesMapping, BeginsKeys, GivesKey, TakesKey, ComputesKey, ExpectsItem, ExpectsMember, IsItem, IsDetail, LacksCause, IsMember, Declares, IsAssignable, Assigns, ReadsName, Stores, IsIgnorable, Performs, Stops, Returns, ReturnsNil, Breaks, Continues, BeginsBlock, EndsBlock, MakesBlock, MakesIf, Heads, OpensLoop, MakesWhile, IsItemOfLoop, WidensItem, IsCounter, WantsCounter, HasItem, MakesForeach, MakesRange, CallsValue, CallsMethod, ExpectsArgument, IsArgument, BeginsAnonymous, HasParameter, BeginsValue, IsNew, WaitsForAny, Receives, Sends, SendsAndWaits, Flushes, MakesList, MakesError, WaitsForAll, HasRest, MakesCall, MakesMapping, MakesAnonymous, Starts, GivesNamed, CallsNamed, Awaits, IsOperand, UpdatesName, UpdatesElement, UpdatesField, BeginsMatch, HasPattern, BeginsClause, EndsClause, MakesMatch, EntersFile, NamesParameter, EndsFunction, EndsValueFunction, BeginsWorker, EndsWorker, EndsModule, BeginsInitial, EndsInitial, Need, MemberSeen}
-use Rattle.check_answers.specs.Answers.{Agrees, HaveValues, IsFlat, IsLiteralValid, IsSettled, Twins, keeping}
+use Rattle.expr_needs.specs.Needs.{Fails, IsOf, IsWanted, Widens, WantsResult, WantsErrorToo, DropsWant, GivesLiteral, Forms, Decides, IsSort, Adds, Compares, Splits, Switches, Turns, Conjoins, Disjoins, Chooses, FillsNil, Tests, Casts, Checks, ChecksPanicking, Traps, Encloses, Describes, IsAccessed, IsIndex, ReadsElement, ReadsField, ReadsOptional, HasField, ExpectsStored, ReadsStored, ReadsStoredField, ChoosesList, ChoosesMapping, BeginsKeys, GivesKey, TakesKey, ComputesKey, ExpectsItem, ExpectsMember, IsItem, IsDetail, LacksCause, IsMember, Declares, IsAssignable, Assigns, ReadsName, Stores, IsIgnorable, Performs, Stops, Returns, ReturnsNil, Breaks, Continues, BeginsBlock, EndsBlock, MakesBlock, MakesIf, Heads, OpensLoop, MakesWhile, IsItemOfLoop, WidensItem, IsCounter, WantsCounter, HasItem, MakesForeach, MakesRange, CallsValue, CallsMethod, ExpectsArgument, IsArgument, BeginsAnonymous, HasParameter, BeginsValue, IsNew, WaitsForAny, Receives, Sends, SendsAndWaits, Flushes, MakesList, MakesError, WaitsForAll, HasRest, MakesCall, MakesMapping, MakesAnonymous, Starts, GivesNamed, CallsNamed, Awaits, IsOperand, UpdatesName, UpdatesElement, UpdatesField, BeginsMatch, HasPattern, BeginsClause, EndsClause, MakesMatch, EntersFile, NamesParameter, EndsFunction, EndsValueFunction, BeginsWorker, EndsWorker, EndsModule, BeginsInitial, EndsInitial, BeginsFunction, IsConstant, Need, MemberSeen}
+use Rattle.check_answers.specs.Answers.{Agrees, HasNoResults, HaveValues, IsFlat, IsLiteralValid, IsSettled, Twins, keeping}
 use Rattle.check_answers.specs.TwinTypes.{TwinAtoms}
 
 -- a type has the same shapes over atoms that are twins
@@ -191,6 +192,8 @@ module _ (passes : List AtomDef → Asked → TypeLimit → Type 0) (names : Nam
     pub ends_module : (k : ℕ) → Agrees passes names (EndsModule k)
     pub begins_initial : (d : VariableDef) (kept : Bool) → Agrees passes names (BeginsInitial d kept)
     pub ends_initial : (d : VariableDef) (kept : Bool) → Agrees passes names (EndsInitial d kept)
+    pub begins_function : (def : FunctionDef) → HasNoResults def → Agrees passes names (BeginsFunction def)
+    pub is_constant : (def : ConstDef) → IfSome def.ty (λ tree. IsFlat (descriptor_of tree.value)) → Agrees passes names (IsConstant def)
 
   -- all of these needs, one behind another, where two runs of each come to the same
   abbrev pub LinesAgree : Type 0
