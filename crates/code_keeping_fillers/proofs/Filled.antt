@@ -1,20 +1,19 @@
 -- A store into a list whose gaps the code's tables know how to fill.
-use Rattle.std.proofs.Common.{◌≡◌, ◌≢◌, ◌<◌, ◌≤◌, ◌+◌, ◌-◌, ◌++◌, ◌^◌, ◌∙◌, ℕ, ℤ, pos, negsuc, zero, suc, Bool, true, false, List, [], ◌∷◌, Option, Some, None, inl, inr, flat_map, length, refl, sym, ap, subst, arith}
+use Rattle.std.proofs.Common.{◌≡◌, ◌<◌, ◌≤◌, ◌+◌, ◌-◌, ◌++◌, ◌∙◌, ℕ, zero, suc, List, [], ◌∷◌, Option, Some, None, inl, flat_map, length, refl, sym, ap, subst, arith}
 use Rattle.std.proofs.lemmas.List.Elements.{All-nil}
 use Rattle.std.proofs.lemmas.Option.{slice_get_past, slice_get_within}
 use Rattle.std.specs.List.{AllZip}
-use Rattle.std.specs.Prelude.{◌⊎◌, All, IsSomeAnd, IsTrue, option_and_then, option_to_list, slice_get, slice_set, sum_by, ⊤}
+use Rattle.std.specs.Prelude.{◌⊎◌, All, IsSomeAnd, IsTrue, option_and_then, slice_get, slice_set, sum_by, ⊤}
 use Rattle.bal_base.specs.declared.shape.Shape.{Shape}
 use Rattle.bal_base.specs.Valid.{IsValid}
-use Rattle.type_model.specs.declared.atoms.AtomDef.{AtomDef}
 use Rattle.type_model.specs.declared.atoms.AtomDef.TheVariants.{List as ListAtom, Mapping as MappingAtom}
 use Rattle.type_model.specs.declared.atoms.FieldDef.{FieldDef}
-use Rattle.type_model.specs.declared.basic.SemType.{SemType, Atom}
+use Rattle.type_model.specs.declared.basic.SemType.{Atom}
 use Rattle.type_model.specs.declared.basic.Ty.{Ty}
 use Rattle.type_model.specs.Membership.{In}
 use Rattle.type_model.specs.Places.{item_type, or_rest}
 use Rattle.operations.specs.declared.operation.Operation.TheVariants as op
-use Rattle.operations.specs.Rows.{NoResult, Surroundings}
+use Rattle.operations.specs.Rows.{Surroundings}
 use Rattle.value_model.specs.declared.filler.Filler.{Filler}
 use Rattle.value_model.specs.declared.filler.Filler.TheVariants.{Nothing, Nil as NilFiller, Bool as BoolFiller, Int as IntFiller, Str as StrFiller, List as NewList, Mapping as NewMapping}
 use Rattle.value_model.specs.declared.value.Value.{Value}
@@ -37,7 +36,7 @@ use Rattle.stack_code.specs.declared.code.Code.{Code}
 use Rattle.stack_code.specs.CodeMachine.{code_facts}
 use Rattle.stack_code.specs.Good.{GoodCommon}
 use Rattle.stack_code.specs.Tables.{IsInherent}
-use Rattle.stack_code.specs.Values.{Fits, IsMade, IsWithinAtom, code_types}
+use Rattle.stack_code.specs.Values.{IsMade, IsWithinAtom, code_types}
 use Rattle.stack_code.specs.WellTyped.{WellTyped}
 use Rattle.code_keeping.specs.Kinds.{Ints, Lists}
 use Rattle.code_keeping.proofs.Changing.{length-set}
@@ -52,11 +51,11 @@ use Rattle.code_keeping.proofs.Valuing.{own-same}
 use Rattle.code_keeping_heap.proofs.Adding.{greatest-at}
 use Rattle.code_keeping_heap.proofs.Reading.{a-list, at-list, list-members}
 use Rattle.code_keeping_heap.proofs.Shaping.{zip-at, zip-long}
-use Rattle.code_keeping_fillers.proofs.Fillers.{HasOne, HasUnmarked, IsNew, filler-from, fillers-long, is-filler, last-all, new-all, node, rest-filler}
-use Rattle.code_keeping_fillers.proofs.Filling.{ArePut, IsIn, IsPut, IsValueOf, as-many, built, built-at, inner, inside-at, offset, value-in, values-of}
-use Rattle.code_keeping_stores.proofs.Items.{FillsGap, IsGap, does-store, filling, gap_at, kind, m, made_at, z}
+use Rattle.code_keeping_fillers.proofs.Fillers.{HasOne, IsNew, filler-from, fillers-long, is-filler, last-all, new-all, node, rest-filler}
+use Rattle.code_keeping_fillers.proofs.Filling.{IsIn, IsPut, IsValueOf, as-many, built, built-at, inner, inside-at, offset, value-in, values-of}
+use Rattle.code_keeping_stores.proofs.Items.{IsGap, does-store, filling, gap_at, kind, m, made_at, z}
 use Rattle.code_keeping_fillers.proofs.Nesting.{IsSound, IsSoundNew, NamesInherent, all-made, fixed, made-sound, members-inherent, places-fill, sound}
-use Rattle.code_keeping_stores.proofs.Storing.{IsSmall, changed, grows, world-then}
+use Rattle.code_keeping_stores.proofs.Storing.{IsSmall, changed, grows}
 
 -- what is behind the fixed places has the type of the rest
 item-rest : (fx : List Ty) (rest : Option Ty) (k : ℕ) → length fx ≤ k → item_type fx rest k ≡ rest

@@ -1,17 +1,14 @@
 -- Fillers of types, as a code's tables know them: each type that has one is filled by it, and new structures stand in one another at
 -- most as often as there are atoms.
-use Rattle.std.proofs.Common.{◌≡◌, ◌≢◌, ◌<◌, ◌≤◌, ◌+◌, ◌++◌, ◌∙◌, ℕ, ℤ, pos, zero, suc, Bool, true, false, List, [], ◌∷◌, Option, Some, None, inl, inr, flat_map, length, map, refl, sym, ap, subst, arith}
-use Rattle.std.proofs.lemmas.Grind.{flat_map-append}
+use Rattle.std.proofs.Common.{◌≡◌, ◌<◌, ◌≤◌, ◌+◌, ◌++◌, ℕ, zero, suc, false, List, [], ◌∷◌, Option, Some, inl, inr, flat_map, length, map, refl, sym, ap, subst, arith}
 use Rattle.std.proofs.lemmas.List.Elements.{All-append, All-cons, All-head, All-nil, All-tail}
 use Rattle.std.specs.List.{AllZip}
-use Rattle.std.specs.Prelude.{◌⊎◌, All, Contains, IsSomeAnd, IsTrue, filter, option_to_list, slice_get, take, ⊤}
+use Rattle.std.specs.Prelude.{All, Contains, IsSomeAnd, IsTrue, slice_get, take, ⊤}
 use Rattle.bal_base.specs.declared.shape.Shape.{Shape, Nil as NilShape, Bool as BoolShape, Int as IntShape, Str as StrShape, List', Mapping', Error', Function as FunctionShape, Future', Row_of-Shape, end_of-Shape, more_of-Shape, items-the_row-Shape as shapes_in}
-use Rattle.bal_base.specs.declared.text.Text.{Text}
 use Rattle.bal_base.specs.Valid.{AreValid, IsValid}
 use Rattle.type_model.specs.declared.atoms.AtomDef.{AtomDef}
-use Rattle.type_model.specs.declared.atoms.AtomDef.TheVariants.{List as ListAtom, Mapping as MappingAtom, Arrow, Error as ErrorAtom, Future as FutureAtom}
+use Rattle.type_model.specs.declared.atoms.AtomDef.TheVariants.{List as ListAtom, Mapping as MappingAtom}
 use Rattle.type_model.specs.declared.atoms.FieldDef.{FieldDef}
-use Rattle.type_model.specs.declared.basic.Choice.{Choice}
 use Rattle.type_model.specs.declared.basic.SemType.{SemType, Atom}
 use Rattle.type_model.specs.declared.basic.Ty.{Ty}
 use Rattle.type_model.specs.Inclusion.{HaveSameShapes, IsShapeOf}
@@ -19,25 +16,14 @@ use Rattle.type_model.specs.Membership.{EachIn, Fits as ShapeFits, In}
 use Rattle.type_model.specs.Places.{item_type, or_rest}
 use Rattle.value_model.specs.declared.filler.Filler.{Filler}
 use Rattle.value_model.specs.declared.filler.Filler.TheVariants.{Nothing, Nil as NilFiller, Bool as BoolFiller, Int as IntFiller, Str as StrFiller, List as NewList, Mapping as NewMapping}
-use Rattle.value_model.specs.Exact.{FillsExactly, Fills, HasNoRequired, HasPlaces, IsFiller, IsFillerWithin, IsNewFiller, IsOfAtom, IsSimpleFiller}
+use Rattle.value_model.specs.Exact.{Fills, IsFiller, IsSimpleFiller}
 use Rattle.value_model.specs.Stands.{IsUnmarked}
-use Rattle.run_model.specs.Facts.{KnowsFillers}
-use Rattle.run_model.specs.Fillers.{IsThereFiller, filler_at, fillers_from, inner_fillers, is_new, made_for, new_ones}
-use Rattle.run_model.specs.Inherent.{IsOneChoice, member_types}
-use Rattle.run_model.specs.Levels.{all_of, levels, numbers_from}
-use Rattle.run_model.specs.Stores.{fixed_fillers, fixed_places}
+use Rattle.run_model.specs.Fillers.{IsThereFiller, filler_at, fillers_from, is_new, new_ones}
 use Rattle.machine_model.proofs.Once.{some-same}
-use Rattle.stack_code.specs.declared.code.Code.{Code}
-use Rattle.stack_code.specs.CodeMachine.{code_facts}
-use Rattle.stack_code.specs.Tables.{HasFillers, HasTestedMembers, IsInherent}
-use Rattle.stack_code.specs.Values.{code_types}
-use Rattle.stack_code.specs.WellTyped.{WellTyped}
 use Rattle.code_keeping.proofs.Changing.{within}
 use Rattle.code_keeping.proofs.Growing.{all-from}
-use Rattle.code_keeping.proofs.Lists.{all-at, of-some, some-there, there, zip-to}
-use Rattle.code_keeping.proofs.Serving.{all-to}
-use Rattle.code_keeping_heap.proofs.Shaping.{zip-at}
-use Rattle.code_keeping_fillers.proofs.Walks.{IsAmong, IsDeep, all-deep, no-return}
+use Rattle.code_keeping.proofs.Lists.{all-at, of-some}
+use Rattle.code_keeping_fillers.proofs.Walks.{IsAmong}
 
 -- ---- lists
 

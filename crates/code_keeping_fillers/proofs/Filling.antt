@@ -1,14 +1,13 @@
 -- What fills a gap in a list: values that belong to their places, and the structures that are made for them.
-use Rattle.std.proofs.Common.{◌≡◌, ◌<◌, ◌≤◌, ◌+◌, ◌-◌, ◌++◌, ◌^◌, ◌∙◌, ℕ, zero, suc, Bool, true, false, List, [], ◌∷◌, Option, Some, None, inl, inr, flat_map, length, refl, sym, ap, subst, arith}
-use Rattle.std.proofs.lemmas.List.Elements.{All-cons, All-head, All-nil, All-tail}
+use Rattle.std.proofs.Common.{◌≡◌, ◌+◌, ◌-◌, ◌++◌, ◌∙◌, ℕ, zero, suc, Bool, true, false, List, [], ◌∷◌, Option, Some, None, inl, inr, flat_map, length, refl, sym, ap, subst, arith}
+use Rattle.std.proofs.lemmas.List.Elements.{All-head, All-tail}
 use Rattle.std.specs.List.{AllZip}
-use Rattle.std.specs.Prelude.{◌⊎◌, All, IsSomeAnd, IsTrue, option_to_list, slice_get, ⊤}
-use Rattle.bal_base.specs.declared.shape.Shape.{Shape, Nil as NilShape, Bool as BoolShape, Int as IntShape, Str as StrShape}
+use Rattle.std.specs.Prelude.{All, IsSomeAnd, IsTrue, slice_get}
+use Rattle.bal_base.specs.declared.shape.Shape.{Shape, Bool as BoolShape, Int as IntShape, Str as StrShape}
 use Rattle.bal_base.specs.Valid.{IsInt, IsText, IsValid}
-use Rattle.type_model.specs.declared.atoms.AtomDef.TheVariants.{List as ListAtom, Mapping as MappingAtom}
-use Rattle.type_model.specs.declared.basic.SemType.{SemType, Atom}
+use Rattle.type_model.specs.declared.basic.SemType.{Atom}
 use Rattle.type_model.specs.declared.basic.Ty.{Ty}
-use Rattle.type_model.specs.Inclusion.{HaveSameShapes, IsShapeOf}
+use Rattle.type_model.specs.Inclusion.{HaveSameShapes}
 use Rattle.type_model.specs.Membership.{In}
 use Rattle.operations.specs.declared.operation.Constant.TheVariants.{Nil as NilConstant, Bool as BoolConstant, Int as IntConstant, Str as StrConstant}
 use Rattle.value_model.specs.declared.filler.Filler.{Filler}
@@ -17,20 +16,17 @@ use Rattle.value_model.specs.declared.value.Value.{Value}
 use Rattle.value_model.specs.declared.value.Value.TheVariants.{Nil, Bool as Truth, Int, Str, Struct}
 use Rattle.value_model.specs.Exact.{Fills, IsFillerWithin, IsSimpleFiller}
 use Rattle.value_model.specs.Heap.{Entries, Items, Structure}
-use Rattle.value_model.specs.Stands.{Belongs, IsUnmarked, StructureStands}
+use Rattle.value_model.specs.Stands.{Belongs, StructureStands}
 use Rattle.run_model.specs.Common.{Common}
-use Rattle.run_model.specs.Facts.{KnowsFillers}
 use Rattle.run_model.specs.Fillers.{IsThereFiller, filler_structures, filler_values, inner_fillers, new_ones}
 use Rattle.run_model.specs.Rows.{new_structure}
 use Rattle.machine_model.proofs.Once.{some-same}
 use Rattle.stack_code.specs.declared.code.Code.{Code}
-use Rattle.stack_code.specs.CodeMachine.{code_facts}
 use Rattle.stack_code.specs.Values.{IsMade, code_types}
-use Rattle.stack_code.specs.WellTyped.{WellTyped}
 use Rattle.code_keeping.proofs.Changing.{within}
 use Rattle.code_keeping.proofs.Growing.{get-behind, get-front}
 use Rattle.code_keeping.proofs.Itself.{its-shape}
-use Rattle.code_keeping.proofs.Lists.{all-at, of-some, some-there}
+use Rattle.code_keeping.proofs.Lists.{of-some, some-there}
 use Rattle.code_keeping_fillers.proofs.Fillers.{HasOne, IsNew, node}
 
 -- ---- values of fillers, in a heap with these structures

@@ -1,26 +1,22 @@
 -- New structures that fill gaps: which stand in one another, and that all of them are made.
-use Rattle.std.proofs.Common.{◌≡◌, ◌≢◌, ◌<◌, ◌≤◌, ◌+◌, ◌++◌, ◌∙◌, ℕ, zero, suc, List, [], ◌∷◌, Option, Some, None, inl, inr, flat_map, length, map, refl, sym, ap, subst, arith}
+use Rattle.std.proofs.Common.{◌≡◌, ◌<◌, ◌+◌, ◌++◌, ◌∙◌, ℕ, zero, suc, List, [], ◌∷◌, Option, Some, None, inl, inr, flat_map, length, map, refl, sym, ap, subst}
 use Rattle.std.proofs.lemmas.Grind.{flat_map-append}
-use Rattle.std.proofs.lemmas.List.Elements.{All-append, All-cons, All-head, All-nil, All-tail}
+use Rattle.std.proofs.lemmas.List.Elements.{All-append, All-head, All-nil}
 use Rattle.std.specs.List.{AllZip}
-use Rattle.std.specs.Prelude.{◌⊎◌, All, IsSomeAnd, IsTrue, option_to_list, slice_get, take, ⊤}
-use Rattle.bal_base.specs.declared.shape.Shape.{Shape}
+use Rattle.std.specs.Prelude.{All, IsSomeAnd, IsTrue, option_to_list, slice_get, take, ⊤}
 use Rattle.type_model.specs.declared.atoms.AtomDef.{AtomDef}
 use Rattle.type_model.specs.declared.atoms.AtomDef.TheVariants.{List as ListAtom, Mapping as MappingAtom, Arrow, Error as ErrorAtom, Future as FutureAtom}
 use Rattle.type_model.specs.declared.atoms.FieldDef.{FieldDef}
 use Rattle.type_model.specs.declared.basic.Choice.{Choice}
-use Rattle.type_model.specs.declared.basic.SemType.{SemType, Atom}
 use Rattle.type_model.specs.declared.basic.Ty.{Ty}
-use Rattle.type_model.specs.Inclusion.{HaveSameShapes, IsShapeOf}
 use Rattle.value_model.specs.declared.filler.Filler.{Filler}
 use Rattle.value_model.specs.declared.filler.Filler.TheVariants.{Nothing, Nil as NilFiller, Bool as BoolFiller, Int as IntFiller, Str as StrFiller, List as NewList, Mapping as NewMapping}
-use Rattle.value_model.specs.Exact.{AreFillers, FillsExactly, Fills, HasNoRequired, HasPlaces, IsFiller, IsFillerWithin, IsNewFiller, IsOfAtom}
+use Rattle.value_model.specs.Exact.{AreFillers, FillsExactly, Fills, HasNoRequired, HasPlaces, IsFillerWithin, IsNewFiller, IsOfAtom}
 use Rattle.run_model.specs.Facts.{KnowsFillers}
 use Rattle.run_model.specs.Fillers.{inner_fillers, new_ones}
 use Rattle.run_model.specs.Inherent.{IsOneChoice}
 use Rattle.run_model.specs.Levels.{all_of, levels}
 use Rattle.run_model.specs.Stores.{fixed_fillers, fixed_places}
-use Rattle.machine_model.proofs.Once.{some-same}
 use Rattle.stack_code.specs.declared.code.Code.{Code}
 use Rattle.stack_code.specs.CodeMachine.{code_facts}
 use Rattle.stack_code.specs.Tables.{HasFillers, HasTestedMembers, IsInherent}
@@ -28,11 +24,11 @@ use Rattle.stack_code.specs.Values.{code_types}
 use Rattle.stack_code.specs.WellTyped.{WellTyped}
 use Rattle.code_keeping.proofs.Changing.{within}
 use Rattle.code_keeping.proofs.Growing.{all-from}
-use Rattle.code_keeping.proofs.Lists.{all-at, of-some, some-there, zip-to}
-use Rattle.code_keeping.proofs.Serving.{all-to, all-zipped}
+use Rattle.code_keeping.proofs.Lists.{all-at, of-some, some-there}
+use Rattle.code_keeping.proofs.Serving.{all-to}
 use Rattle.code_keeping_heap.proofs.Shaping.{zip-at}
 use Rattle.code_keeping_fillers.proofs.Fillers.{HasOne, HasUnmarked, IsNew, clash, flat-all, front-all, mapped-all, mapped-at, new-all, node, of-contained, places-have, unmarked-list, unmarked-mapping, zip-first, zip-front}
-use Rattle.code_keeping_fillers.proofs.Walks.{IsAmong, IsDeep, Leads, all-deep, no-return}
+use Rattle.code_keeping_fillers.proofs.Walks.{IsAmong, IsDeep, all-deep, no-return}
 
 -- ---- one choice alone
 

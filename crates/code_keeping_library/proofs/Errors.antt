@@ -2,7 +2,7 @@
 use Rattle.std.proofs.Common.{◌≡◌, ◌<◌, ℕ, ℤ, List, [], ◌∷◌, Option, Some, None, inl, inr, length, refl, sym, subst}
 use Rattle.std.specs.Prelude.{◌⊎◌, IsSomeAnd, slice_get}
 use Rattle.bal_base.specs.declared.shape.Shape.{Shape, Nil as NilShape, Bool as BoolShape, Int as IntShape, Str as StrShape, List', Mapping', Error', Function as FunctionShape, Future'}
-use Rattle.bal_base.specs.Valid.{IsInt, IsMarkedMapping, IsText, IsValid}
+use Rattle.bal_base.specs.Valid.{IsInt, IsMarkedMapping, IsValid}
 use Rattle.type_model.specs.declared.basic.SemType.{SemType}
 use Rattle.operations.specs.declared.library.LibraryCall.TheVariants.{Detail, FromString}
 use Rattle.operations.specs.declared.operation.Constant.TheVariants.{Int as IntConstant}
