@@ -1,7 +1,8 @@
--- What comes of a frame's asking is carried to a next state: all that it begins is there.
-use Rattle.std.proofs.Common.{◌≡◌, ◌∙◌, ◌++◌, ℕ, Bool, true, false, List, [], ◌∷◌, Option, Some, None, refl, sym, ap, subst}
+-- What comes of a frame's asking is carried to a next state, and a run begins: the units of all that begins are there.
+use Rattle.std.proofs.Common.{◌≡◌, ◌∙◌, ◌++◌, ℕ, Bool, true, false, List, [], ◌∷◌, Option, Some, None, map, refl, sym, ap, subst}
 use Rattle.std.proofs.lemmas.List.Elements.{All-head, All-nil, All-tail}
 use Rattle.std.specs.Prelude.{◌==◌, ◌&&◌, All, if◌then◌else◌, option_map, slice_get, ⊤}
+use Rattle.bal_base.specs.declared.text.Text.{Text}
 use Rattle.value_model.specs.declared.filler.Filler.{Filler}
 use Rattle.value_model.specs.declared.value.Value.{Value}
 use Rattle.run_model.specs.Common.{Common, End, Panicked, Returned, Role}
@@ -10,11 +11,13 @@ use Rattle.run_model.specs.Strands.{is_success, settled, worker_ended, workers_e
 use Rattle.value_model.specs.Meaning.{Answers}
 use Rattle.machine_model.specs.Keeping.{EffectFits}
 use Rattle.machine_model.specs.Machine.{Frame, Machine, Moved, Next, State, all_begun, begun, carried, given, goes_on, goes_to, left_with, next_units, put, roles_left, unwound, with_begun}
-use Rattle.machine_model.specs.Runs.{Running}
+use Rattle.machine_model.specs.Runs.{Running, begins_with, first_common, main_arguments, start}
 use Rattle.stack_code.specs.declared.code.Code.{Code}
 use Rattle.stack_code.specs.declared.code.Unit.{Unit as CodeUnit}
-use Rattle.stack_code.specs.CodeMachine.{Standing, codes, entry}
+use Rattle.stack_code.specs.CodeMachine.{Standing, code_launch, codes, entry}
 use Rattle.stack_code.specs.Good.{IsToRun, NearlyCommon, code_invariant}
+use Rattle.stack_code.specs.Tables.{IsInitialiserWell, IsMain, UnitAt}
+use Rattle.stack_code.specs.WellTyped.{WellTyped}
 use Rattle.code_keeping.proofs.Lists.{at-some, some-there, some-to}
 use Rattle.code_keeping.proofs.Serving.{all-to}
 use Rattle.code_keeping_all.proofs.Spawning.{HasUnits, IsUnit}
@@ -90,3 +93,33 @@ module _ (fillers : ℕ → List Filler) (natives : Answers) (code : Code) where
       (then_is more, ap (option_map then_is) e)
   is-carried s f k fs depth NoTick units fits = (_, refl)
   is-carried s f k fs depth (Beyond limit) units fits = (_, refl)
+
+  -- ---- a run begins
+
+  module _ (t : WellTyped code) (words : List Text) (input : List ℕ) (ticks : ℕ) where
+    abbrev first : Common
+    first = first_common (code_launch code) words input ticks
+
+    abbrev main_unit : ℕ × List Value
+    main_unit = (code.start, main_arguments (code_launch code).words)
+
+    abbrev with_nothing : ℕ → ℕ × List Value
+    with_nothing n = (n, [])
+
+    abbrev Begins : List (ℕ × List Value) → Type 0
+    Begins us = (s : State Standing) × (begins_with M first us ≡ Some s)
+
+    begins-from : (u : ℕ × List Value) (us : List (ℕ × List Value)) → IsUnit code u.0 → Begins (u ∷ us)
+    begins-from u us there =
+        let (f, e) = unit-begins u.0 u.1 None there in
+        let begun_is : Frame Standing → State Standing = λ f. record { common = record first { to_run = us }; frames = []; others = (f ∷ []) ∷ [] } in
+        (begun_is f, ap (option_map begun_is) e)
+
+    units-begin : (ns : List ℕ) → All (λ n. UnitAt code n (IsInitialiserWell code n)) ns → Begins (map with_nothing ns ++ main_unit ∷ [])
+    units-begin [] h = begins-from main_unit [] (some-to (IsMain code) (λ (u : CodeUnit). ⊤) (slice_get code.units code.start) (λ u k. tt) t.fields.main)
+    units-begin (n ∷ ns) h =
+        begins-from (with_nothing n) (map with_nothing ns ++ main_unit ∷ [])
+        (some-to (IsInitialiserWell code n) (λ (u : CodeUnit). ⊤) (slice_get code.units n) (λ u k. tt) (All-head (λ n. UnitAt code n (IsInitialiserWell code n)) n ns h))
+
+    pub start-is-there : (s : State Standing) × (start M words input ticks ≡ Some s)
+    start-is-there = units-begin code.initialisers t.fields.initialisers

@@ -19,9 +19,10 @@ use Rattle.stack_code.specs.Commands.{Do, command_at}
 use Rattle.code_keeping.specs.Laws.{AskComes}
 use Rattle.code_keeping.specs.Rows.{Comes}
 use Rattle.code_keeping.proofs.Starting.{at-command}
-use Rattle.code_keeping_all.specs.Laws.{AsksWithinBounds, GoesOnTyped, IsSafe, IsWithinBounds, PlainCodeStaysWithinBounds, StaysWithinBounds, TopIsWithinBounds, WellTypedCodeIsSafe}
+use Rattle.code_keeping_all.specs.Laws.{AsksWithinBounds, GoesOnTyped, IsSafe, IsWithinBounds, PlainCodeStaysWithinBounds, StaysWithinBounds, TopIsWithinBounds, WellTypedCodeBegins, WellTypedCodeIsSafe}
 use Rattle.code_keeping_all.proofs.Bounded.{BoundedAnswers, bounded-calls-are-done, of-bounded, to-bounded}
 use Rattle.code_keeping_all.proofs.GoingOn.{is-safe}
+use Rattle.code_keeping_all.proofs.Stepping.{start-is-there}
 
 comes-to : {A : Type 0} (P Q : A → Type 0) → ((a : A) → P a → Q a) → Comes P → Comes Q
 comes-to P Q f comes never = comes (λ a p. never a (f a p))
@@ -119,3 +120,8 @@ plain-code-stays-within-bounds fillers code plain words input ticks phase s r = 
     top : (fs : List (Frame Standing)) → TopIsWithinBounds fillers code s.common fs
     top [] = tt
     top (f ∷ fs) = asks-plain f ((codes fillers code).look f.unit f.control) refl
+
+-- ---- the start
+
+pub well-typed-code-begins : WellTypedCodeBegins
+well-typed-code-begins fillers code t words input ticks = start-is-there fillers LibraryAnswers code t words input ticks

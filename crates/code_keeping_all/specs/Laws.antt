@@ -14,7 +14,7 @@ use Rattle.run_model.specs.Facts.{KnowsFillers}
 use Rattle.run_model.specs.Library.{LibraryAnswers}
 use Rattle.machine_model.specs.Keeping.{Invariant, IsKept}
 use Rattle.machine_model.specs.Machine.{Ask, Does, Frame, On, State, Step, Stuck}
-use Rattle.machine_model.specs.Runs.{AreWords, IsReached, Phase, Running}
+use Rattle.machine_model.specs.Runs.{AreWords, IsReached, Phase, Running, start}
 use Rattle.machine_model.specs.Strands.{StrandsHold}
 use Rattle.stack_code.specs.declared.code.Code.{Code}
 use Rattle.stack_code.specs.CodeMachine.{Standing, code_facts, codes}
@@ -131,3 +131,9 @@ WellTypedCodeIsSafe =
 -- and those of code that makes plain calls alone are
 abbrev pub PlainCodeStaysWithinBounds : Type 0
 PlainCodeStaysWithinBounds = (fillers : ℕ → List Filler) (code : Code) → HasPlainCalls code → (words : List Text) (input : List ℕ) (ticks : ℕ) → StaysWithinBounds fillers code words input ticks
+
+-- and each run begins: there is a state before the first pick
+abbrev pub WellTypedCodeBegins : Type 0
+WellTypedCodeBegins =
+    (fillers : ℕ → List Filler) (code : Code) → WellTyped code → (words : List Text) (input : List ℕ) (ticks : ℕ) →
+    (s : State Standing) × (start (codes fillers code) words input ticks ≡ Some s)
