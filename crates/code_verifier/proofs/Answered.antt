@@ -1,11 +1,12 @@
 -- What answers of questions say of needs.
-use Rattle.std.proofs.Common.{◌≡◌, ◌↔◌, List, Some, Result, Ok, Err, IfOk, subst}
+use Rattle.std.proofs.Common.{◌≡◌, ◌↔◌, ℕ, Bool, List, Some, Result, Ok, Err, IfOk}
 use Rattle.bal_base.specs.declared.shape.Shape.{Shape}
 use Rattle.bal_base.specs.declared.stop.Stop.{Stop}
 use Rattle.bal_base.specs.declared.stop.Stop.TheVariants.{Fault, Memory}
 use Rattle.bal_base.specs.Stops.{IfFault}
 use Rattle.operations.specs.declared.operation.Constant.{Constant}
 use Rattle.operations.specs.Rows.{IsWithin, ResultHas, shape_of}
+use Rattle.operations.specs.Structures.{IsMade}
 use Rattle.type_model.specs.declared.answers.Answer.{Answer}
 use Rattle.type_model.specs.declared.answers.Answer.TheVariants.{Yes, No}
 use Rattle.type_model.specs.declared.answers.Keys.{Keys}
@@ -16,7 +17,7 @@ use Rattle.type_model.specs.Calls.{Asked}
 use Rattle.type_model.specs.Inclusion.{AnswersSub, HasExactly, Sub}
 use Rattle.type_model.specs.Parts.{StandsAt}
 use Rattle.code_needs.specs.declared.kind.Kind.{Kind}
-use Rattle.code_needs.specs.Needs.{Below, Has, HasConstant, IsMet, IsOfKind, Need, PartHas, PartIn, Within}
+use Rattle.code_needs.specs.Needs.{Below, Has, HasConstant, HasMade, IsMet, IsOfKind, Need, PartHas, PartIn, Within}
 use Rattle.code_verifier.specs.Asked.{Answers, SomePasses}
 
 pub fault-passes : (passes : List AtomDef → Asked → TypeLimit → Type 0) (env : List AtomDef) (asked : Asked) {A : Type 0} (r : Result A (Stop TypeLimit)) → IfFault r (passes env asked) → IfFault r (SomePasses passes env)
@@ -64,7 +65,5 @@ module _ (env : List AtomDef) where
   pub part_has-told : (whole part v : SemType) (keys : Keys) → HasExactly env part (StandsAt env whole keys) → (r : Result Answer (Stop TypeLimit)) → Told v part r → IfOk r (Answers env (PartHas whole keys v))
   part_has-told whole part v keys exact = told (PartHas whole keys v) v part (below-so v part (StandsAt env whole keys) exact)
 
--- ---- asked over the same atoms
-
-pub over-same : (mid old : List AtomDef) (P : List AtomDef → Type 0) → mid ≡ old → P mid → P old
-over-same mid old P e h = subst P e h
+  pub made-told : (want t : SemType) (atom : ℕ) (immutable : Bool) → HasExactly env want (IsMade env atom immutable) → (r : Result Answer (Stop TypeLimit)) → Told want t r → IfOk r (Answers env (HasMade t atom immutable))
+  made-told want t atom immutable exact = told (HasMade t atom immutable) want t (above-so want t (IsMade env atom immutable) exact)

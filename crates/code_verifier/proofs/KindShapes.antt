@@ -38,7 +38,7 @@ integer (Function i g) v = ((λ h. absurd h), (λ p. absurd (cc)))
 integer (Future' _ xs) v = ((λ h. absurd h), (λ p. absurd (cc)))
 
 -- a value's set has its shape alone
-constant-back : (c : Constant) (x : Shape) → InBasic x (constant_set c) → x ≡ shape_of c
+pub constant-back : (c : Constant) (x : Shape) → InBasic x (constant_set c) → x ≡ shape_of c
 constant-back constant.Nil Nil h = refl
 constant-back constant.Nil x h = absurd h
 constant-back (constant.Bool c) (BoolShape b) h = cc

@@ -1,2 +1,4 @@
 mod Answered
+mod KeyNames
 mod KindShapes
+mod MadeShapes

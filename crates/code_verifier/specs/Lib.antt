@@ -1,3 +1,4 @@
 pub mod Asked
+pub mod Keyed
 pub mod KindSets
 pub mod Questions

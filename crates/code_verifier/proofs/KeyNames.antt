@@ -1,0 +1,128 @@
+-- Which keys a type of strings names.
+use Rattle.std.proofs.Common.{◌≡◌, ◌↔◌, true, false, List, [], ◌∷◌, Option, Some, Result, Ok, Err, IfOk, get_or, inl, inr, refl, sym, ap, subst, ◌∙◌}
+use Rattle.std.specs.Str.{all_scalars}
+use Rattle.bal_base.specs.declared.shape.Shape.{Shape, Nil, Bool as BoolShape, Int, Str, List', Mapping', Error', Function, Future', items-the_row-Fields-items-2 as fields_in}
+use Rattle.bal_base.specs.declared.stop.Stop.{Stop}
+use Rattle.bal_base.specs.declared.text.Text.{Text}
+use Rattle.bal_base.specs.Valid.{IsText, IsValid}
+use Rattle.operations.specs.declared.operation.Constant.TheVariants as constant
+use Rattle.operations.specs.Rows.{IsSingle, NamesKey, StandsAtKey}
+use Rattle.type_model.specs.declared.answers.Answer.{Answer}
+use Rattle.type_model.specs.declared.answers.Answer.TheVariants.{Yes, No}
+use Rattle.type_model.specs.declared.answers.Keys.{Keys}
+use Rattle.type_model.specs.declared.answers.Keys.TheVariants.{AnyField, Field}
+use Rattle.type_model.specs.declared.answers.TypeLimit.{TypeLimit}
+use Rattle.type_model.specs.declared.atoms.AtomDef.{AtomDef}
+use Rattle.type_model.specs.declared.basic.BasicSet.TheVariants.{Never, StringOne}
+use Rattle.type_model.specs.declared.basic.SemType.{SemType, Basic}
+use Rattle.type_model.specs.Basic.{InBasic}
+use Rattle.type_model.specs.Inclusion.{AnswersSub, IsEmpty, IsShapeOf, Sub}
+use Rattle.type_model.specs.Membership.{In}
+use Rattle.type_model.specs.Parts.{StandsAt, StandsIn}
+use Rattle.code_needs.specs.Needs.{IsMet, MemberHas, MemberIn, Need, PartHas, PartIn}
+use Rattle.code_verifier.specs.Asked.{Answers}
+use Rattle.code_verifier.specs.Keyed.{AreKeysOf, HasString, IsKeyBy}
+use Rattle.code_verifier.proofs.KindShapes.{constant-back}
+
+texts-same : (t u : Text) → Str t ≡ Str u → t ≡ u
+texts-same t u e = cc
+
+module _ (env : List AtomDef) (k : SemType) where
+  abbrev At : Keys → Type 0
+  At keys = (m : SemType) (x : Shape) → StandsAtKey env m k x ↔ StandsAt env m keys x
+
+  -- no string is its single one
+  any-key : ((key : Text) → ¬ (IsSingle env k (Str key))) → At AnyField
+  any-key none m x = (so, (λ h. (AnyField, inr (none, refl), h)))
+    where
+      by : (keys : Keys) → NamesKey env k keys → StandsAt env m keys x → StandsAt env m AnyField x
+      by keys (inl (key, single, e)) h = absurd (none key single)
+      by keys (inr (others, e)) h = subst (λ (w : Keys). StandsAt env m w x) e h
+
+      so : StandsAtKey env m k x → StandsAt env m AnyField x
+      so (keys, named, h) = by keys named h
+
+  module _ (t : Text) (found : IsShapeOf env k (Str t)) where
+    one-key : Sub env k (Basic (StringOne t)) → At (Field t)
+    one-key sub m x = (so, (λ h. (Field t, inl (t, single, refl), h)))
+      where
+        single : IsSingle env k (Str t)
+        single y v = ((λ i. constant-back (constant.Str t) y (sub y v i)), (λ e. subst (λ (w : Shape). In env w k) (sym e) found.1))
+
+        by : (keys : Keys) → NamesKey env k keys → StandsAt env m keys x → StandsAt env m (Field t) x
+        by keys (inl (key, alone, e)) h =
+            subst (λ (w : Keys). StandsAt env m w x) (e ∙ ap (λ (w : Text). Field w) (sym (texts-same t key ((alone (Str t) found.0).0 found.1)))) h
+        by keys (inr (none, e)) h = absurd (none t single)
+
+        so : StandsAtKey env m k x → StandsAt env m (Field t) x
+        so (keys, named, h) = by keys named h
+
+    more-keys : (y : Shape) → IsShapeOf env k y → ¬ (In env y (Basic (StringOne t))) → At AnyField
+    more-keys y other apart = any-key (λ key single.
+        apart (subst (λ (w : Shape). InBasic w (StringOne t)) (sym ((single y other.0).0 other.1)) (sym (texts-same t key ((single (Str t) found.0).0 found.1)))))
+
+  -- a shape that is no string
+  not-text : (y : Shape) → IsShapeOf env k y → ((key : Text) → ¬ (y ≡ Str key)) → At AnyField
+  not-text y other apart = any-key (λ key single. apart key ((single y other.0).0 other.1))
+
+  abbrev bad : Text
+  bad = 1114112 ∷ []
+
+  -- nothing stands at a key of a type without shapes
+  pub no-key : IsEmpty env k → (m : SemType) (x : Shape) → ¬ (StandsAtKey env m k x)
+  no-key empty m x (keys, named, h) = by keys named h
+    where
+      in-fields : (name : Text) (whole : Shape) → IsValid whole → StandsIn (Field name) whole x → IsText name
+      in-fields name (Mapping' mark _ fields) v (i, l, e) = ap-text name (get_or (fields_in _ fields) i (name, x)) e (v.0 i (name, x) l)
+        where
+          ap-text : (n : Text) (f : Text × Shape) → f ≡ (n, x) → IsText f.0 → IsText n
+          ap-text n f same text = subst (λ (w : Text × Shape). IsText w.0) same text
+      in-fields name Nil v s = absurd s
+      in-fields name (BoolShape b) v s = absurd s
+      in-fields name (Int i) v s = absurd s
+      in-fields name (Str t) v s = absurd s
+      in-fields name (List' mark _ items) v s = absurd s
+      in-fields name (Error' _ detail) v s = absurd s
+      in-fields name (Function isolated graph) v s = absurd s
+      in-fields name (Future' _ results) v s = absurd s
+
+      at-field : (name : Text) → StandsAt env m (Field name) x → IsText name
+      at-field name (whole, shape, s) = in-fields name whole shape.0 s
+
+      by : (keys : Keys) → NamesKey env k keys → StandsAt env m keys x → ⊥
+      by keys (inl (key, single, e)) s =
+          let text : IsText key = at-field key (subst (λ (w : Keys). StandsAt env m w x) e s) in
+          empty (Str key) text ((single (Str key) text).1 refl)
+      by keys (inr (none, e)) s =
+          none bad (λ y v. ((λ i. absurd (empty y v i)), (λ same. absurd (let w : all_scalars bad ≡ true = subst IsValid same v in let q : false ≡ true = w in let z : ⊥ = cc in z))))
+
+  -- ---- as calls tell
+
+  pub keys-told : (t : Text) → HasString env k t → (a : Answer) (keys : Option Keys) → AnswersSub env k (Basic (StringOne t)) a → IsKeyBy t a keys → AreKeysOf env k keys
+  keys-told t found Yes keys sub e = subst (AreKeysOf env k) (sym e) (one-key t found sub)
+  keys-told t found (No y) keys other e = subst (AreKeysOf env k) (sym e) (more-keys t found y other.0 other.1)
+
+  pub other-told : (y : Shape) → IsShapeOf env k y → ((key : Text) → ¬ (y ≡ Str key)) → AreKeysOf env k (Some AnyField)
+  other-told y found apart = not-text y found apart
+
+  -- ---- needs of members
+
+  as-met : (a b : Need) → IsMet env a ↔ IsMet env b → (r : Result Answer (Stop TypeLimit)) → IfOk r (Answers env a) → IfOk r (Answers env b)
+  as-met a b same (Ok Yes) h = same.0 h
+  as-met a b same (Ok (No x)) h = (h.0, (λ met. h.1 (same.1 met)))
+  as-met a b same (Err e) h = tt
+
+  pub member_in-told : (m t : SemType) (keys : Keys) → At keys → (r : Result Answer (Stop TypeLimit)) → IfOk r (Answers env (PartIn m keys t)) → IfOk r (Answers env (MemberIn m k t))
+  member_in-told m t keys at = as-met (PartIn m keys t) (MemberIn m k t) ((λ h x v s. h x v ((at m x).0 s)), (λ h x v s. h x v ((at m x).1 s)))
+
+  pub member_has-told : (m v : SemType) (keys : Keys) → At keys → (r : Result Answer (Stop TypeLimit)) → IfOk r (Answers env (PartHas m keys v)) → IfOk r (Answers env (MemberHas m k v))
+  member_has-told m v keys at = as-met (PartHas m keys v) (MemberHas m k v) ((λ h x i. (at m x).1 (h x i)), (λ h x i. (at m x).0 (h x i)))
+
+  never-in : (x : Shape) → InBasic x Never → ⊥
+  never-in Nil h = h
+  never-in x h = h
+
+  pub none-has-told : (m v : SemType) → ((m : SemType) (x : Shape) → ¬ (StandsAtKey env m k x)) → (r : Result Answer (Stop TypeLimit)) → IfOk r (AnswersSub env v (Basic Never)) → IfOk r (Answers env (MemberHas m k v))
+  none-has-told m v none (Ok Yes) h = λ x i. absurd (never-in x (h x i.0 i.1))
+  none-has-told m v none (Ok (No x)) h = (h.0.0, (λ met. none m x (met x h.0)))
+  none-has-told m v none (Err e) h = tt

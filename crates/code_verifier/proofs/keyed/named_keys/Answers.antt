@@ -1,0 +1,23 @@
+use Rattle.std.proofs.Common.{IfOk, List, Option, subst, sym}
+use Rattle.bal_base.specs.declared.shape.Shape.{Shape}
+use Rattle.bal_base.specs.Stops.{IfFault}
+use Rattle.type_model.specs.declared.answers.Keys.{Keys}
+use Rattle.type_model.specs.declared.atoms.AtomDef.{AtomDef}
+use Rattle.type_model.specs.Calls.{Alone}
+use Rattle.type_model.specs.Inclusion.{FindsShape}
+use Rattle.code_verifier.specs.Asked.{SomePasses}
+use Rattle.code_verifier.specs.Keyed.{AreKeysOf}
+use Rattle.code_verifier.proofs.Answered.{stop-passes}
+use Rattle.code_verifier.proofs.keyed.named_keys.Goals as goal
+
+pub keys_of_found-requires-clause-found : goal.keys_of_found-requires-clause-found
+keys_of_found-requires-clause-found g c = subst (λ (env : List AtomDef). FindsShape env c.args.k.now c.in-Ok.found) (sym c.has_shape.ensures.atoms) c.in-Ok.ensures.found
+
+pub returns-in-Ok-clause-keys : goal.returns-in-Ok-clause-keys
+returns-in-Ok-clause-keys g c = subst (λ (env : List AtomDef). IfOk c.keys_of_found.result (AreKeysOf env c.args.k.now)) c.has_shape.ensures.atoms c.keys_of_found.ensures.keys
+
+pub returns-in-Ok-clause-limit : goal.returns-in-Ok-clause-limit
+returns-in-Ok-clause-limit g c = subst (λ (env : List AtomDef). IfFault c.keys_of_found.result (SomePasses g.T.Types.passes env)) c.has_shape.ensures.atoms c.keys_of_found.ensures.limit
+
+pub returns-in-Err-clause-limit : goal.returns-in-Err-clause-limit
+returns-in-Err-clause-limit g c = stop-passes g.T.Types.passes (g.T.Types.atoms c.args.types.now) (Alone c.args.k.now) (Option Shape) (Option Keys) c.in-Err.stop c.in-Err.ensures.limit

@@ -1,0 +1,14 @@
+use Rattle.std.proofs.Common.{Option, subst}
+use Rattle.type_model.specs.declared.answers.Keys.{Keys}
+use Rattle.code_verifier.specs.Keyed.{AreKeysOf}
+use Rattle.code_verifier.proofs.KeyNames.{member_in-told}
+use Rattle.code_verifier.proofs.keyed.parts_are_in.Goals as goal
+
+pub returns-in-Some-clause-answers : goal.returns-in-Some-clause-answers
+returns-in-Some-clause-answers g c = λ k are.
+    let env = g.T.Types.atoms c.args.types.now in
+    member_in-told env k c.args.m.now c.args.t.now c.in-Some.keys (subst (λ (o : Option Keys). AreKeysOf env k o) c.in-Some.is are) c.part_is_in.result c.part_is_in.ensures.answers
+
+pub returns-in-None-clause-answers : goal.returns-in-None-clause-answers
+returns-in-None-clause-answers g c = λ k are x v s.
+    let none = subst (λ (o : Option Keys). AreKeysOf (g.T.Types.atoms c.args.types.now) k o) c.in-None.is are in absurd (none c.args.m.now x s)
