@@ -62,3 +62,4 @@ pub mod Starts
 pub mod EachNeed
 pub mod Descriptors
 pub mod Begins
+pub mod Itself

@@ -1,5 +1,5 @@
 -- Two runs of needs come to the same: between any two needs their states are twins.
-use Rattle.std.specs.Prelude.{◌≡◌, ◌≢◌, ℕ, Bool, true, Option, None, List, All, IfOk, IfSome, length, ⊤}
+use Rattle.std.specs.Prelude.{◌≡◌, ◌≢◌, ℕ, Bool, true, Option, None, List, [], All, IfOk, IfSome, length, ⊤}
 use Rattle.bal_base.specs.declared.place.Place.{Place}
 use Rattle.bal_base.specs.declared.shape.Shape.{Shape}
 use Rattle.bal_base.specs.Valid.{IsText, IsValid}
@@ -171,3 +171,26 @@ pub record IsSettled (need : Need) : Type 0 where
   pub constant : (def : ConstDef) → need ≡ IsConstant def → IfSome def.ty (λ tree. IsFlat (descriptor_of tree.value))
   pub listed : (e : Expected) (items : List (Option Literal)) (at : Place) → need ≡ ChoosesList e items at → All (λ i. IfSome i IsLiteralValid) items
   pub mapped : (e : Expected) (ms : List MemberSeen) (at : Place) → need ≡ ChoosesMapping e ms at → All (λ x. IfSome x.literal IsLiteralValid) ms
+
+-- ---- how a package begins
+
+-- nothing is open, and nothing is found; `number`: the next number of a unit
+abbrev pub nothing_open : List AtomDef → ℕ → State
+nothing_open env number =
+    record {
+      atoms = env;
+      site = record { scope = record { «module» = 0; file = None }; workers = []; results = []; events = [] };
+      found = [];
+      ways = None;
+      wants = [];
+      sorts = [];
+      accesses = [];
+      constructors = [];
+      calls = [];
+      choices = [];
+      matches = [];
+      blocks = [];
+      units = [];
+      initialiser = None;
+      done = record { next_unit = number; functions = []; workers = []; variables = []; initialisers = [] };
+    }

@@ -29,11 +29,12 @@ use Rattle.type_model.specs.declared.basic.SemType.{SemType}
 use Rattle.type_model.specs.Calls.{Asked}
 use Rattle.needs.specs.Agreement.{BehindTwins}
 use Rattle.needs.specs.Needs.{all_met}
+use Rattle.type_model.specs.Defined.{IsEnv}
 use Rattle.typed_tree.specs.Listed.{Listed, members}
 use Rattle.check_words.specs.Meets.{meets}
 use Rattle.check_words.specs.State.{State}
 use Rattle.expr_needs.specs.Needs.{Fails, IsOf, IsWanted, Widens, WantsResult, WantsErrorToo, DropsWant, GivesLiteral, Forms, Decides, IsSort, Adds, Compares, Splits, Switches, Turns, Conjoins, Disjoins, Chooses, FillsNil, Tests, Casts, Checks, ChecksPanicking, Traps, Encloses, Describes, IsAccessed, IsIndex, ReadsElement, ReadsField, ReadsOptional, HasField, ExpectsStored, ReadsStored, ReadsStoredField, ChoosesList, ChoosesMapping, BeginsKeys, GivesKey, TakesKey, ComputesKey, ExpectsItem, ExpectsMember, IsItem, IsDetail, LacksCause, IsMember, Declares, IsAssignable, Assigns, ReadsName, Stores, IsIgnorable, Performs, Stops, Returns, ReturnsNil, Breaks, Continues, BeginsBlock, EndsBlock, MakesBlock, MakesIf, Heads, OpensLoop, MakesWhile, IsItemOfLoop, WidensItem, IsCounter, WantsCounter, HasItem, MakesForeach, MakesRange, CallsValue, CallsMethod, ExpectsArgument, IsArgument, BeginsAnonymous, HasParameter, BeginsValue, IsNew, WaitsForAny, Receives, Sends, SendsAndWaits, Flushes, MakesList, MakesError, WaitsForAll, HasRest, MakesCall, MakesMapping, MakesAnonymous, Starts, GivesNamed, CallsNamed, Awaits, IsOperand, UpdatesName, UpdatesElement, UpdatesField, BeginsMatch, HasPattern, BeginsClause, EndsClause, MakesMatch, EntersFile, NamesParameter, EndsFunction, EndsValueFunction, BeginsWorker, EndsWorker, EndsModule, BeginsInitial, EndsInitial, BeginsFunction, IsConstant, Need, MemberSeen}
-use Rattle.check_answers.specs.Answers.{Agrees, HasNoResults, HaveValues, IsFlat, IsLiteralValid, IsSettled, Twins, keeping}
+use Rattle.check_answers.specs.Answers.{Agrees, HasNoResults, HaveValues, IsFlat, IsLiteralValid, IsSettled, Twins, keeping, nothing_open}
 use Rattle.check_answers.specs.TwinTypes.{TwinAtoms}
 
 -- a type has the same shapes over atoms that are twins
@@ -207,6 +208,13 @@ module _ (passes : List AtomDef → Asked → TypeLimit → Type 0) (names : Nam
       HaveValues names → (needs : Listed Need) → All IsSettled (members needs) → (s t : State) → Twins s t
       → Alike (BehindTwins Twins (keeping (meets passes names))) s t (all_met (keeping (meets passes names)) needs) (all_met (keeping (meets passes names)) needs)
 
+  -- and so do they from where a package begins
+  abbrev pub BeginningsAgree : Type 0
+  BeginningsAgree =
+      HaveValues names → (env : List AtomDef) → IsEnv env → (number : ℕ) → (needs : Listed Need) → All IsSettled (members needs)
+      → Alike (BehindTwins Twins (keeping (meets passes names))) (nothing_open env number) (nothing_open env number)
+      (all_met (keeping (meets passes names)) needs) (all_met (keeping (meets passes names)) needs)
+
 -- whatever the names of the package stand for
 module _ (passes : List AtomDef → Asked → TypeLimit → Type 0) where
   abbrev pub ValuesAgreeAlways : Type 0
@@ -250,3 +258,6 @@ module _ (passes : List AtomDef → Asked → TypeLimit → Type 0) where
 
   abbrev pub SettledLinesAgreeAlways : Type 0
   SettledLinesAgreeAlways = (names : Names) → SettledLinesAgree passes names
+
+  abbrev pub BeginningsAgreeAlways : Type 0
+  BeginningsAgreeAlways = (names : Names) → BeginningsAgree passes names

@@ -1,5 +1,5 @@
 //! Laws of answers. These calls do nothing: their clauses are laws.
-ghost use Rattle.check_answers.specs.Laws.{ActionsAgreeAlways, BranchesAgreeAlways, CallsAgreeAlways, ConstructorsAgreeAlways, LinesAgreeAlways, MadeAtomsAgreeAlways, MatchesAgreeAlways, MembersAgreeAlways, NamesAgreeAlways, SettledLinesAgreeAlways, StatementsAgreeAlways, TwinsOfAtoms, UnitsAgreeAlways, UpdatesAgreeAlways, ValuesAgreeAlways};
+ghost use Rattle.check_answers.specs.Laws.{ActionsAgreeAlways, BeginningsAgreeAlways, BranchesAgreeAlways, CallsAgreeAlways, ConstructorsAgreeAlways, LinesAgreeAlways, MadeAtomsAgreeAlways, MatchesAgreeAlways, MembersAgreeAlways, NamesAgreeAlways, SettledLinesAgreeAlways, StatementsAgreeAlways, TwinsOfAtoms, UnitsAgreeAlways, UpdatesAgreeAlways, ValuesAgreeAlways};
 
 use type_model::Types;
 
@@ -88,4 +88,9 @@ pub fn lines_agree<T: Types>()
 /// Needs one behind another of which nothing is left open: where constants have values two runs of all come to the same.
 pub fn settled_lines_agree<T: Types>()
     ensures { SettledLinesAgreeAlways T.passes }
+{}
+
+/// From where a package begins two runs of all its needs, if nothing of them is left open, come to the same.
+pub fn beginnings_agree<T: Types>()
+    ensures { BeginningsAgreeAlways T.passes }
 {}

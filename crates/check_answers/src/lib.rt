@@ -18,7 +18,7 @@
 mod laws;
 
 pub use laws::{
-    actions_agree, branches_agree, calls_agree, constructors_agree, lines_agree, made_atoms_agree,
-    matches_agree, members_agree, names_agree, settled_lines_agree, statements_agree,
-    types_stay_twins, units_agree, updates_agree, values_agree,
+    actions_agree, beginnings_agree, branches_agree, calls_agree, constructors_agree, lines_agree,
+    made_atoms_agree, matches_agree, members_agree, names_agree, settled_lines_agree,
+    statements_agree, types_stay_twins, units_agree, updates_agree, values_agree,
 };
