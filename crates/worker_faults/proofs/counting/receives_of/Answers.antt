@@ -1,0 +1,13 @@
+use Rattle.std.proofs.Common.{◌∙◌, ap}
+use Rattle.worker_pairing.specs.Events.{count, receives_from}
+use Rattle.worker_faults.specs.Routes.{kinds_said}
+use Rattle.worker_faults.proofs.Counted.{kinds-none, kinds-read}
+use Rattle.worker_faults.proofs.counting.receives_of.Goals as goal
+
+pub returns-in-Some : goal.returns-in-Some
+returns-in-Some c =
+    c.count_receives.ensures ∙ ap (λ ss. count (receives_from c.args.from) (kinds_said ss)) c.deref.ensures.value
+    ∙ ap (count (receives_from c.args.from)) (kinds-read c.args.workers.now c.args.worker c.in-Some.member.now c.in-Some.ensures.lookup.3.0 c.in-Some.ensures.lookup.1)
+
+pub returns-in-None : goal.returns-in-None
+returns-in-None c = ap (count (receives_from c.args.from)) (kinds-none c.args.workers.now c.args.worker c.in-None.ensures.lookup.3)
