@@ -1,3 +1,4 @@
+mod Beyond
 mod Codes
 mod Combined
 mod Counted

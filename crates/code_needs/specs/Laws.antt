@@ -1,5 +1,5 @@
 -- The laws of needs.
-use Rattle.std.specs.Prelude.{◌↔◌, ℕ, Bool, List, Option}
+use Rattle.std.specs.Prelude.{◌↔◌, ◌≤◌, ◌<◌, ℕ, Bool, List, Option, length}
 use Rattle.type_model.specs.declared.atoms.AtomDef.{AtomDef}
 use Rattle.type_model.specs.declared.basic.SemType.{SemType}
 use Rattle.operations.specs.declared.operation.Operation.{Operation}
@@ -10,7 +10,7 @@ use Rattle.stack_code.specs.declared.code.Unit.{Unit as CodeUnit}
 use Rattle.stack_code.specs.Flow.{IsTypedAt}
 use Rattle.stack_code.specs.Places.{Station, Tally}
 use Rattle.stack_code.specs.Tables.{HasFields}
-use Rattle.stack_code.specs.WellTyped.{PlaceHolds}
+use Rattle.stack_code.specs.WellTyped.{PlaceHolds, WellTyped}
 use Rattle.code_needs.specs.CodeNeeds.{NeedsAt, Passes, TellsMade}
 use Rattle.code_needs.specs.Combining.{AreMet}
 use Rattle.code_needs.specs.FieldNeeds.{FieldsPass}
@@ -39,3 +39,14 @@ NeedsDecideCode =
 -- the fields of a code hold exactly where their numbers pass and their needs are met
 abbrev pub NeedsDecideFields : Type 0
 NeedsDecideFields = (code : Code) → HasFields code ↔ FieldsPass code
+
+-- where its fields pass, a number that is no place has nothing to hold
+abbrev pub NothingBeyond : Type 0
+NothingBeyond = (code : Code) (p : ℕ) → FieldsPass code → length code.instrs ≤ p → PlaceHolds code p
+
+-- a code is well typed exactly where its fields and all its places pass, and each of their needs is met
+abbrev pub NeedsDecideAll : Type 0
+NeedsDecideAll =
+    (code : Code) (made : ℕ → ℕ → Tally → Bool) → TellsMade code made →
+    WellTyped code
+    ↔ (FieldsPass code × ((p : ℕ) → p < length code.instrs → Passes code made p × ((need : Need) → NeedsAt code made p need → IsMet code.atoms need)))

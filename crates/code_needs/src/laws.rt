@@ -1,5 +1,5 @@
 //! Laws of needs. These calls do nothing: their clauses are laws.
-ghost use Rattle.code_needs.specs.Laws.{NeedsDecideCode, NeedsDecideFields, NeedsDecidePlaces, NeedsDecideRows};
+ghost use Rattle.code_needs.specs.Laws.{NeedsDecideAll, NeedsDecideCode, NeedsDecideFields, NeedsDecidePlaces, NeedsDecideRows, NothingBeyond};
 
 /// An operation is typed exactly where the tests of its row pass and its needs are met.
 pub fn needs_decide_rows()
@@ -22,4 +22,11 @@ pub fn needs_decide_code()
 /// units' slots, rest parameters and workers, of their own atoms, of initialisers, and of main.
 pub fn needs_decide_fields()
     ensures { NeedsDecideFields }
+{}
+
+/// Where the fields of a code pass, a number that is no place has nothing to hold. So a code is well typed exactly where its
+/// fields and all its places pass and each of their needs is met.
+pub fn needs_decide_all()
+    ensures beyond { NothingBeyond }
+    ensures all { NeedsDecideAll }
 {}

@@ -4,7 +4,7 @@
 //! - [`needs_decide_rows`]: the operations, row by row.
 //! - [`needs_decide_places`]: the places of a unit.
 //! - [`needs_decide_code`]: the places of a code, with what its workers say to one another.
-//! - [`needs_decide_fields`]: the fields beside instructions and maps.
+//! - [`needs_decide_fields`]: the fields beside instructions and maps; [`needs_decide_all`]: a whole code.
 //!
 //! The definitions are files of `specs/`:
 //!
@@ -19,4 +19,7 @@ mod kind;
 mod laws;
 
 pub use kind::Kind;
-pub use laws::{needs_decide_code, needs_decide_fields, needs_decide_places, needs_decide_rows};
+pub use laws::{
+    needs_decide_all, needs_decide_code, needs_decide_fields, needs_decide_places,
+    needs_decide_rows,
+};
