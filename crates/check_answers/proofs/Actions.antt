@@ -1,17 +1,13 @@
 -- Waits and messages: two runs of each need agree, but for waits that add an atom and those of futures.
-use Rattle.std.proofs.Common.{◌≡◌, ◌<◌, ◌+◌, ◌++◌, ℕ, zero, suc, Bool, true, false, List, [], ◌∷◌, Any, length, map, slice_get, slice_index_or, Option, Some, None, Result, Ok, Err, arith, inl, inr, refl, sym, subst, ap, ◌∙◌}
+use Rattle.std.proofs.Common.{◌≡◌, ℕ, zero, suc, Bool, true, false, List, [], ◌∷◌, Any, length, map, Option, Some, None, Result, Ok, Err, arith, inr, refl, sym, subst, ap, ◌∙◌}
 use Rattle.std.specs.List.{AllZip}
 use Rattle.bal_base.specs.declared.fault.Fault.{Fault}
 use Rattle.bal_base.specs.declared.fault.FaultCode.TheVariants.{NeedsType}
 use Rattle.bal_base.specs.declared.place.Place.{Place}
-use Rattle.bal_base.specs.declared.shape.Shape.{Shape}
-use Rattle.bal_base.specs.Valid.{IsValid}
 use Rattle.bal_tree.specs.declared.action.Peer.{Peer}
 use Rattle.bal_tree.specs.declared.name.QualifiedName.{QualifiedName}
 use Rattle.checks.specs.Agreement.{AreTwins, SameFault}
-use Rattle.checks.specs.Checks.{Gives, Refuses, gives, gives_some, refuses}
-use Rattle.descriptors.specs.Described.{IsPlain}
-use Rattle.operations.specs.Kinds.{IsError, IsNil}
+use Rattle.checks.specs.Checks.{Gives, Refuses, refuses}
 use Rattle.type_model.specs.declared.basic.SemType.{SemType}
 use Rattle.type_model.specs.declared.basic.Ty.{Ty}
 use Rattle.type_model.specs.Membership.{In}
@@ -25,12 +21,11 @@ use Rattle.expr_needs.specs.declared.expected.Expected.TheVariants as expected
 use Rattle.expr_needs.specs.declared.kind.Kind.TheVariants as kind
 use Rattle.check_words.specs.Actions.{ArePresent, IsOfAny, NilOrErrors, awaited, flush_fails, flushes, futures, known_result, makes_message, may_fail, message_to, peer_named, peer_of, receives, receives_as, result_of, sends, sends_and_waits, sent_before, site_now, takes_wants, waits_for_any}
 use Rattle.check_words.specs.Sharing.{SameOption}
-use Rattle.check_words.specs.State.{Site, State}
+use Rattle.check_words.specs.State.{Site}
 use Rattle.check_words.specs.Seen.{worker_named}
 use Rattle.check_words.specs.Words.{Atoms, Step, makes_strict}
 use Rattle.check_answers.specs.Pieces.{DoesForm, SamePieces, form_pieces}
 use Rattle.check_answers.specs.TwinStates.{ResultTwins, SharedTwins, SiteTwins}
-use Rattle.check_answers.specs.TwinTypes.{TwinTypes}
 use Rattle.check_answers.proofs.Leading.{Any2, Leads, Pairs, leads-fails, leads-gives, leads-nothing, leads-some, leads-then}
 use Rattle.check_answers.proofs.Meanings.{AlikeShapes, plain-twin}
 use Rattle.check_answers.proofs.Questions.{Before, Behind, D, Equal, W, kind-strict-leads, strict-leads, typed-leads}

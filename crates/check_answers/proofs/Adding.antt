@@ -1,8 +1,8 @@
 -- Atoms that are added in two runs.
-use Rattle.std.proofs.Common.{◌≡◌, ◌++◌, ◌+◌, ◌≤◌, ℕ, List, [], ◌∷◌, length, length-append, All, IfSome, Option, inl, inr, refl, sym, subst, ap, ◌∙◌}
+use Rattle.std.proofs.Common.{◌≡◌, ◌++◌, ℕ, List, length, Option, inl, inr, sym, ◌∙◌}
 use Rattle.std.specs.List.{AllZip}
 use Rattle.bal_base.specs.declared.place.Place.{Place}
-use Rattle.checks.specs.Agreement.{Alike, AreTwins, Corresponds}
+use Rattle.checks.specs.Agreement.{Alike, Corresponds}
 use Rattle.checks.specs.Checks.{Check, Gives, Refuses}
 use Rattle.checks.specs.Questions.{adds}
 use Rattle.type_model.specs.declared.atoms.AtomDef.{AtomDef}
@@ -10,21 +10,18 @@ use Rattle.type_model.specs.declared.atoms.AtomDef.TheVariants.{List as ListAtom
 use Rattle.type_model.specs.declared.atoms.FieldDef.{FieldDef}
 use Rattle.type_model.specs.declared.basic.Ty.{Ty}
 use Rattle.type_model.specs.Defined.{DefBelow, IsClosed, TyBelow}
-use Rattle.check_words.specs.Sharing.{SameOption}
 use Rattle.check_words.specs.State.{State}
 use Rattle.check_words.specs.Words.{Atoms, asking}
 use Rattle.check_answers.specs.Answers.{TwinsOver}
 use Rattle.check_answers.specs.TwinStates.{StateTwins}
 use Rattle.check_answers.specs.TwinTypes.{SettledTwins, TwinAtoms, TwinDefs, TwinFields, TwinTypes}
 use Rattle.check_answers.proofs.Agreeing.{behind-over}
-use Rattle.check_answers.proofs.Fixed.{These, leads-at}
 use Rattle.check_answers.proofs.Growing.{sem-later, settled-later}
-use Rattle.check_answers.proofs.Leading.{Any2, Leads, Pairs, leads-asks, leads-from, leads-to}
+use Rattle.check_answers.proofs.Leading.{Leads, Pairs, leads-asks, leads-to}
 use Rattle.check_answers.proofs.Mapping.{state-map}
 use Rattle.check_answers.proofs.Questions.{Before, Behind, D, Equal, before-atoms}
 use Rattle.check_answers.proofs.Setting.{with-atoms}
 use Rattle.check_answers.proofs.Settling.{option-both, zip-both}
-use Rattle.check_answers.proofs.Words.{At}
 use Rattle.check_answers.proofs.Zips.{zip-append, zip-long}
 
 module _ (m n more others : Atoms) (first : IsClosed m) (second : IsClosed n) where

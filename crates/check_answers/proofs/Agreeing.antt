@@ -1,5 +1,5 @@
 -- From runs of one check to what is said of a need.
-use Rattle.std.proofs.Common.{◌≡◌, List, refl, sym, subst}
+use Rattle.std.proofs.Common.{List, refl, sym, subst}
 use Rattle.checks.specs.Checks.{Gives, Refuses}
 use Rattle.descriptors.specs.declared.names.Names.{Names}
 use Rattle.type_model.specs.declared.answers.TypeLimit.{TypeLimit}

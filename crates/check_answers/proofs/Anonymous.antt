@@ -1,11 +1,11 @@
 -- Anonymous functions that are made: two runs of the need agree.
-use Rattle.std.proofs.Common.{◌≡◌, ◌++◌, ◌+◌, ℕ, Bool, List, [], ◌∷◌, length, take, Option, Some, None, refl, sym, subst, ap, ◌∙◌}
+use Rattle.std.proofs.Common.{◌≡◌, ◌++◌, ◌+◌, ℕ, Bool, List, [], ◌∷◌, take, Option, Some, None, refl, sym, subst, ap}
 use Rattle.std.specs.List.{AllZip}
 use Rattle.bal_base.specs.declared.place.Place.{Place}
 use Rattle.checks.specs.Agreement.{AreTwins}
-use Rattle.descriptors.specs.Described.{IsCopy, plain}
+use Rattle.descriptors.specs.Described.{plain}
 use Rattle.type_model.specs.declared.atoms.AtomDef.{AtomDef}
-use Rattle.type_model.specs.declared.atoms.AtomDef.TheVariants.{Arrow, Future as FutureAtom, List as ListAtom}
+use Rattle.type_model.specs.declared.atoms.AtomDef.TheVariants.{List as ListAtom}
 use Rattle.type_model.specs.declared.basic.SemType.{Atom, SemType}
 use Rattle.type_model.specs.declared.basic.Ty.{Ty}
 use Rattle.type_model.specs.Defined.{IsClosed}
@@ -15,13 +15,13 @@ use Rattle.typed_tree.specs.SharedTypes.{Shared, sem_of}
 use Rattle.typed_tree.specs.Views.{IsFunctionOf}
 use Rattle.check_words.specs.Calls.{AreOwnAtoms, IsRestOf, fixed_types, makes_anonymous, typed_unit}
 use Rattle.check_words.specs.Sharing.{SameOption}
-use Rattle.check_words.specs.State.{State, UnitAtWork, all_but}
+use Rattle.check_words.specs.State.{UnitAtWork}
 use Rattle.check_words.specs.Words.{Atoms}
 use Rattle.check_answers.specs.Answers.{TwinsOver}
 use Rattle.check_answers.specs.Pieces as say
 use Rattle.check_answers.specs.Pieces.{SamePieces, captured_pieces}
 use Rattle.check_answers.specs.TwinStates.{PartTwins, SharedTwins, UnitTwins}
-use Rattle.check_answers.specs.TwinTypes.{SettledTwins, TwinAtoms, TwinDefs, TwinTypes}
+use Rattle.check_answers.specs.TwinTypes.{TwinAtoms, TwinDefs, TwinTypes}
 use Rattle.check_answers.proofs.Adding.{Grown, adds-leads, grown-ends}
 use Rattle.check_answers.proofs.Calls.{closes-unit-leads}
 use Rattle.check_answers.proofs.Growing.{settled-later}
@@ -31,7 +31,7 @@ use Rattle.check_answers.proofs.Mapping.{unit-map}
 use Rattle.check_answers.proofs.Meanings.{copies-twin, sem-copies}
 use Rattle.check_answers.proofs.MemberReads.{plain-twins}
 use Rattle.check_answers.proofs.NewAtoms.{copies-zip}
-use Rattle.check_answers.proofs.Questions.{Before, Behind, D, Equal, W, settled-twins}
+use Rattle.check_answers.proofs.Questions.{Before, D, Equal, W, settled-twins}
 use Rattle.check_answers.proofs.SameTrees.{joined-same, parts-same, whole-same}
 use Rattle.check_answers.proofs.Units.{units-written}
 use Rattle.check_answers.proofs.Words.{makes-leads, no-more-leads}

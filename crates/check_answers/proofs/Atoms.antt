@@ -1,5 +1,5 @@
 -- Definitions of atoms in two runs.
-use Rattle.std.proofs.Common.{◌≡◌, ℕ, List, [], ◌∷◌, IsSomeAnd, Option, None, Some, slice_get, refl, sym, subst, ◌∙◌}
+use Rattle.std.proofs.Common.{◌≡◌, ℕ, List, IsSomeAnd, Option, None, Some, slice_get, refl, sym, subst}
 use Rattle.std.specs.List.{AllZip}
 use Rattle.operations.specs.Structures.{IsListAtom, IsMappingAtom}
 use Rattle.type_model.specs.declared.atoms.AtomDef.{AtomDef}

@@ -1,7 +1,6 @@
 -- What is twins one way round is the other way round.
-use Rattle.std.proofs.Common.{◌≡◌, List, [], ◌∷◌, Option, None, Some, sym}
+use Rattle.std.proofs.Common.{List, [], ◌∷◌, Option, None, Some, sym}
 use Rattle.std.specs.List.{AllZip}
-use Rattle.checks.specs.Agreement.{AreTwins}
 use Rattle.checks.proofs.Twins.{twins-sym}
 use Rattle.type_model.specs.declared.atoms.AtomDef.{AtomDef}
 use Rattle.type_model.specs.declared.atoms.AtomDef.TheVariants.{List as ListAtom, Mapping as MappingAtom, Arrow, Error as ErrorAtom, Future as FutureAtom}

@@ -1,5 +1,5 @@
 -- Functions begin, and constants: two runs of each need agree where descriptors add no atoms.
-use Rattle.std.proofs.Common.{◌≡◌, ◌++◌, List, [], ◌∷◌, All, map, Option, None, Some, IfSome, Ok, Err, refl, sym, subst, ap, ◌∙◌}
+use Rattle.std.proofs.Common.{◌≡◌, ◌++◌, List, [], ◌∷◌, All, map, Option, None, Some, IfSome, Ok, Err, refl, sym, subst, ap}
 use Rattle.std.proofs.lemmas.List.Elements.{All-head, All-tail}
 use Rattle.std.specs.List.{AllZip}
 use Rattle.std.specs.Global.{Box}

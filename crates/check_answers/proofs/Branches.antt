@@ -1,5 +1,5 @@
 -- Branches and loops: two runs of each need agree.
-use Rattle.std.proofs.Common.{◌≡◌, ◌&&◌, ◌++◌, ℕ, Bool, true, false, List, [], ◌∷◌, length, fold, Option, Some, None, refl, sym, subst, ap, ◌∙◌}
+use Rattle.std.proofs.Common.{◌≡◌, ◌&&◌, ℕ, Bool, true, List, [], ◌∷◌, Some, None, refl, ap, ◌∙◌}
 use Rattle.std.specs.List.{AllZip}
 use Rattle.bal_base.specs.declared.place.Place.{Place}
 use Rattle.bal_base.specs.declared.text.Name.{Name}
@@ -7,9 +7,7 @@ use Rattle.bal_tree.specs.declared.name.Word.{Word}
 use Rattle.bal_tree.specs.declared.stmt.RangeOp.{RangeOp}
 use Rattle.checks.specs.Agreement.{AreTwins}
 use Rattle.checks.specs.Checks.{◌▷◌}
-use Rattle.descriptors.specs.Described.{plain}
 use Rattle.flow_narrowing.specs.declared.flow.Flow.{Flow}
-use Rattle.flow_narrowing.specs.declared.flow.Variable.{Variable}
 use Rattle.type_model.specs.declared.answers.Keys.TheVariants.{AnyIndex}
 use Rattle.type_model.specs.declared.answers.TypeLimit.{TypeLimit}
 use Rattle.type_model.specs.declared.atoms.AtomDef.{AtomDef}
@@ -19,11 +17,10 @@ use Rattle.type_model.specs.Calls.{Asked}
 use Rattle.typed_tree.specs.declared.expr.TypedExpr.{TypedExpr}
 use Rattle.typed_tree.specs.declared.stmt.RangeEnd.{RangeEnd}
 use Rattle.typed_tree.specs.declared.stmt.Source.{Source}
-use Rattle.typed_tree.specs.declared.stmt.Source.TheVariants as source
 use Rattle.typed_tree.specs.declared.stmt.TypedStmt.{TypedStmt}
 use Rattle.typed_tree.specs.Exprs.{type_of}
 use Rattle.typed_tree.specs.Listed.{◌&◌}
-use Rattle.typed_tree.specs.SharedTypes.{Shared, sem_of}
+use Rattle.typed_tree.specs.SharedTypes.{sem_of}
 use Rattle.expr_needs.specs.declared.kind.Kind.{Kind}
 use Rattle.expr_needs.specs.declared.kind.Kind.TheVariants as kind
 use Rattle.check_words.specs.Branches.{at_head, behind, has_item, heads, is_counter, is_item_of_loop, item_type_at, item_variable, kind_slot, makes_foreach, makes_if, makes_range, makes_while, opens_loop, range_end, wants_counter, widens_item}
@@ -38,7 +35,7 @@ use Rattle.check_answers.specs.TwinStates.{BlockTwins, ChoiceTwins, FlowTwins, P
 use Rattle.check_answers.specs.TwinTypes.{TwinTypes}
 use Rattle.check_answers.proofs.Fixed.{These, these-choice-closed, these-flow}
 use Rattle.check_answers.proofs.Keeping.{WithParts, keeps-block, keeps-choice, keeps-flow, leads-parts, part-kept}
-use Rattle.check_answers.proofs.Leading.{Any2, Leads, Pairs, leads-from, leads-gives, leads-over, leads-some, leads-then}
+use Rattle.check_answers.proofs.Leading.{Any2, Leads, Pairs, leads-from, leads-over, leads-some, leads-then}
 use Rattle.check_answers.proofs.Meanings.{kinds-twin}
 use Rattle.check_answers.proofs.MemberReads.{member-at-leads, plain-twins}
 use Rattle.check_answers.proofs.Narrowing.{flow-retyped}
@@ -47,7 +44,7 @@ use Rattle.check_answers.proofs.SameTrees.{whole-same}
 use Rattle.check_answers.proofs.Statements.{adds-stmt-leads, closes-block-leads, has-local-leads, pieces-equal, stmts-same, takes-part-leads, takes-want-leads}
 use Rattle.check_answers.proofs.StmtWriting.{foreach-written, if-written, while-written}
 use Rattle.check_answers.proofs.Values.{joins-leads, wants-some-weak, wants-weak, widened-leads}
-use Rattle.check_answers.proofs.Words.{At, changes-flow-leads, closes-choice-leads, flow-leads, new-slot-leads, opens-choice-leads, part-leads, sets-flow-leads, takes-leads, two-leads, wanted-leads}
+use Rattle.check_answers.proofs.Words.{changes-flow-leads, closes-choice-leads, flow-leads, new-slot-leads, opens-choice-leads, part-leads, sets-flow-leads, takes-leads, two-leads, wanted-leads}
 use Rattle.check_answers.proofs.Zips.{zip-last}
 
 module _ (m n : Atoms) where

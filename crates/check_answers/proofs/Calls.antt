@@ -1,14 +1,11 @@
 -- Calls and anonymous functions: two runs of each need agree, but for those that add atoms.
-use Rattle.std.proofs.Common.{◌≡◌, ◌||◌, ◌++◌, ℕ, suc, Bool, true, false, List, [], ◌∷◌, fold, length, map, Option, Some, None, is_some, slice_get, if◌then◌else◌, refl, sym, subst, ap, ◌∙◌}
+use Rattle.std.proofs.Common.{◌≡◌, ◌||◌, ◌++◌, ℕ, suc, Bool, true, false, List, [], ◌∷◌, fold, length, map, Option, Some, None, is_some, if◌then◌else◌, refl, sym, subst, ap, ◌∙◌}
 use Rattle.std.specs.List.{AllZip, list_any}
 use Rattle.bal_base.specs.declared.fault.FaultCode.TheVariants.{Arity, Duplicate, NoField}
 use Rattle.bal_base.specs.declared.place.Place.{Place}
 use Rattle.bal_base.specs.declared.text.Name.{Name}
 use Rattle.bal_tree.specs.declared.name.Word.{Word}
 use Rattle.checks.specs.Agreement.{AreTwins}
-use Rattle.descriptors.specs.declared.names.Signature.{Signature}
-use Rattle.descriptors.specs.Described.{IsCopy}
-use Rattle.flow_narrowing.specs.declared.flow.Flow.{Flow}
 use Rattle.flow_narrowing.specs.declared.flow.Variable.{Variable}
 use Rattle.operations.specs.declared.library.LibraryCall.{LibraryCall}
 use Rattle.operations.specs.declared.library.LibraryCall.TheVariants.{Push}
@@ -19,30 +16,28 @@ use Rattle.type_model.specs.declared.basic.Ty.{Ty}
 use Rattle.type_model.specs.Calls.{Asked}
 use Rattle.type_model.specs.Places.{is_same_text}
 use Rattle.typed_tree.specs.declared.expr.TypedExpr.{TypedExpr}
-use Rattle.typed_tree.specs.declared.unit.Captured.{Captured}
 use Rattle.typed_tree.specs.Exprs.{type_of}
 use Rattle.typed_tree.specs.SharedTypes.{Shared, sem_of}
 use Rattle.check_words.specs.Calls.{Capture, argument_fits, begins_anonymous, begins_value, calls, calls_library, calls_method, calls_value, capture_if, captured_as, captures, closes_unit, expects_argument, expects_by, expects_of_library, expects_pushed, has_parameter, in_function, is_argument, is_captured, is_new, is_receiver, is_seen, new_number, one_more, opens_unit, parameter, parameter_of, picks, unit_around, unit_within, wants_copy, wants_kind, with_captured, with_parameter}
 use Rattle.check_words.specs.Library.{LibraryRow, Takes, argument_of, methods_named, takes_so_many}
-use Rattle.check_words.specs.Members.{IsStored}
 use Rattle.check_words.specs.Sharing.{SameOption, SameShared, SameUnit}
-use Rattle.check_words.specs.State.{CallAtWork, Called, IsLast, OfFunction, OfLibrary, OfValue, State, UnitAtWork, all_but, find_variable, shared_now, with_variable}
+use Rattle.check_words.specs.State.{CallAtWork, Called, OfFunction, OfLibrary, OfValue, State, UnitAtWork, all_but, find_variable, shared_now}
 use Rattle.check_words.specs.Words.{Atoms, sem}
 use Rattle.check_answers.specs.Pieces as say
-use Rattle.check_answers.specs.TwinStates.{CallTwins, CalledTwins, CapturedTwins, FlowTwins, PartTwins, SharedTwins, UnitTwins, VariableTwins}
-use Rattle.check_answers.specs.TwinTypes.{TwinAtoms, TwinTypes}
+use Rattle.check_answers.specs.TwinStates.{CallTwins, CalledTwins, CapturedTwins, PartTwins, SharedTwins, UnitTwins, VariableTwins}
+use Rattle.check_answers.specs.TwinTypes.{TwinAtoms}
 use Rattle.check_answers.proofs.Handed.{shared-handed, unit-handed}
-use Rattle.check_answers.proofs.Leading.{Any2, Leads, Pairs, leads-becomes, leads-either, leads-fails, leads-from, leads-gives, leads-handles, leads-nothing, leads-some, leads-then, leads-unless}
+use Rattle.check_answers.proofs.Leading.{Any2, Leads, Pairs, leads-becomes, leads-either, leads-fails, leads-gives, leads-handles, leads-nothing, leads-some, leads-then, leads-unless}
 use Rattle.check_answers.proofs.Meanings.{copies-twin, itself-twin, kinds-twin}
 use Rattle.check_answers.proofs.MemberReads.{member-at-leads}
-use Rattle.check_answers.proofs.Questions.{Before, Behind, D, Equal, W, before-atoms, below-if-leads, whether-kind-leads}
+use Rattle.check_answers.proofs.Questions.{Before, Behind, D, Equal, before-atoms, below-if-leads, whether-kind-leads}
 use Rattle.check_answers.proofs.Seeing.{narrowed-both, now-twins, variables-found}
-use Rattle.check_answers.proofs.Setting.{with-done, with-found, with-units, with-ways}
+use Rattle.check_answers.proofs.Setting.{with-done, with-units, with-ways}
 use Rattle.check_answers.proofs.Statements.{with-variable-same}
 use Rattle.check_answers.proofs.Storing.{stored-twin}
 use Rattle.check_answers.proofs.Values.{wants-some-weak, wants-weak}
-use Rattle.check_answers.proofs.Words.{At, call-leads, no-more-leads, opens-call-leads, part-leads, sets-call-leads, sets-unit-leads, unit-leads, want-leads, wanted-leads}
-use Rattle.check_answers.proofs.Zips.{zip-append, zip-but, zip-last, zip-long, zip-map, zip-one}
+use Rattle.check_answers.proofs.Words.{call-leads, no-more-leads, opens-call-leads, part-leads, sets-call-leads, sets-unit-leads, unit-leads, want-leads, wanted-leads}
+use Rattle.check_answers.proofs.Zips.{zip-append, zip-but, zip-last, zip-long, zip-one}
 
 module _ (m n : Atoms) where
   abbrev B : Pairs

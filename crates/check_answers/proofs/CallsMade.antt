@@ -1,18 +1,17 @@
 -- Calls that are made: two runs of the need agree.
-use Rattle.std.proofs.Common.{◌≡◌, ◌≢◌, ◌++◌, ◌+◌, ◌<◌, ◌≤◌, ℕ, suc, List, [], ◌∷◌, All, length, Option, Some, None, arith, refl, sym, subst, ap, ◌∙◌}
+use Rattle.std.proofs.Common.{◌≡◌, ◌≢◌, ◌++◌, ◌+◌, ◌<◌, ℕ, suc, List, [], ◌∷◌, All, length, Option, Some, None, arith, refl, sym, subst, ap}
 use Rattle.std.specs.List.{AllZip}
 use Rattle.std.proofs.lemmas.List.Elements.{All-nil}
 use Rattle.bal_base.specs.declared.place.Place.{Place}
 use Rattle.bal_base.specs.declared.shape.Shape.{Shape}
 use Rattle.checks.specs.Agreement.{Alike, AreTwins, BothKeep}
-use Rattle.checks.specs.Checks.{Gives, Refuses, gives_some, ◌▷◌}
+use Rattle.checks.specs.Checks.{Gives, Refuses, ◌▷◌}
 use Rattle.checks.specs.Questions.{member}
 use Rattle.checks.proofs.Twins.{applied-alike, member-alike}
 use Rattle.descriptors.specs.declared.names.Signature.{Signature}
 use Rattle.descriptors.specs.Described.{IsCopy, IsPlain, plain}
 use Rattle.operations.specs.declared.library.LibraryCall.{LibraryCall}
 use Rattle.operations.specs.declared.library.LibraryCall.TheVariants.{Abs, Cause, Clone, CloneReadOnly, Detail, FromString, Get, HasKey, Keys, ListLength, MappingLength, Message, Pop, Print, Println, Push, Readln, RemoveItem, RemoveKey, Reverse, Slice, StartsWith, StringLength, Substring, ToCodePointInts, ToLowerAscii, ToString, ToUpperAscii, Trim}
-use Rattle.operations.specs.Kinds.{IsDetail, IsError, IsInteger}
 use Rattle.type_model.specs.declared.answers.Keys.{Keys as MemberKeys}
 use Rattle.type_model.specs.declared.answers.Keys.TheVariants.{AnyField, AnyIndex}
 use Rattle.type_model.specs.declared.answers.TypeLimit.{TypeLimit}
@@ -31,10 +30,9 @@ use Rattle.typed_tree.specs.SharedTypes.{Shared, sem_of}
 use Rattle.expr_needs.specs.declared.kind.Kind.{Kind}
 use Rattle.expr_needs.specs.declared.kind.Kind.TheVariants as kind
 use Rattle.check_words.specs.Calls.{AreTypesOf, IsType, applies_to, callee_unit, field_of, gives_by, lists_by, makes_call, makes_call_of, makes_library, member_of, receiver_type, receivers}
-use Rattle.check_words.specs.Library.{LibraryRow}
 use Rattle.check_words.specs.Sharing.{SameOption}
 use Rattle.check_words.specs.State.{CallAtWork, Called, IsLast, OfFunction, OfLibrary, OfValue, State, all_but}
-use Rattle.check_words.specs.Words.{Atoms, OfKind, Step, asking, closes_call, makes_strict, makes_typed, sem}
+use Rattle.check_words.specs.Words.{Atoms, OfKind, Step, closes_call, makes_strict, sem}
 use Rattle.check_answers.specs.Answers.{ClonesNothing, IsNoClone, TwinsOver}
 use Rattle.check_answers.specs.Pieces as say
 use Rattle.check_answers.specs.TwinStates.{CallTwins, CalledTwins, PartTwins, SharedTwins}
@@ -43,11 +41,11 @@ use Rattle.check_answers.proofs.Adding.{Grown, adds-leads, grown-ends}
 use Rattle.check_answers.proofs.Agreeing.{behind-over}
 use Rattle.check_answers.proofs.Fixed.{These, these-some}
 use Rattle.check_answers.proofs.Growing.{settled-later}
-use Rattle.check_answers.proofs.Leading.{Any2, Leads, Pairs, leads-asking, leads-becomes, leads-from, leads-gives, leads-nothing, leads-regroup, leads-some, leads-then, leads-to}
-use Rattle.check_answers.proofs.Made.{group, same-atom, types-later}
+use Rattle.check_answers.proofs.Leading.{Any2, Leads, Pairs, leads-asking, leads-becomes, leads-gives, leads-nothing, leads-regroup, leads-some, leads-then, leads-to}
+use Rattle.check_answers.proofs.Made.{group, same-atom}
 use Rattle.check_answers.proofs.Meanings.{copies-twin, itself-twin, kinds-twin, same-twin}
 use Rattle.check_answers.proofs.MemberReads.{plain-twins}
-use Rattle.check_answers.proofs.Questions.{Before, Behind, D, Equal, W, before-atoms, strict-leads, typed-leads}
+use Rattle.check_answers.proofs.Questions.{Before, Behind, D, Equal, before-atoms, strict-leads, typed-leads}
 use Rattle.check_answers.proofs.Setting.{with-calls}
 use Rattle.check_answers.proofs.Words.{parts-leads}
 use Rattle.check_answers.proofs.Zips.{zip-but, zip-last}

@@ -1,18 +1,16 @@
 -- Which choice of a constructor fits, in two runs.
-use Rattle.std.proofs.Common.{◌≡◌, ◌↔◌, ◌⊎◌, ◌≤◌, ◌++◌, ◌+◌, ℕ, List, [], ◌∷◌, length, All, Any, IsTrue, IsSome, IsSomeAnd, IfSome, Option, None, Some, inl, inr, refl, sym, subst, ap, ◌∙◌}
+use Rattle.std.proofs.Common.{◌≡◌, ◌⊎◌, ◌≤◌, ◌++◌, ◌+◌, ℕ, List, [], ◌∷◌, length, All, Any, IsTrue, IsSome, IsSomeAnd, IfSome, Option, None, Some, inl, inr, refl, sym, subst, ◌∙◌}
 use Rattle.std.specs.List.{AllZip}
-use Rattle.std.proofs.lemmas.List.Elements.{All-cons, All-head, All-nil, All-tail, All-weaker}
+use Rattle.std.proofs.lemmas.List.Elements.{All-cons, All-head, All-nil, All-tail}
 use Rattle.bal_base.specs.declared.place.Place.{Place}
 use Rattle.bal_base.specs.declared.text.Text.{Text}
 use Rattle.bal_tree.specs.declared.name.Literal.{Literal}
-use Rattle.checks.specs.Checks.{Check, Gives, Refuses}
-use Rattle.checks.specs.Agreement.{AreTwins}
+use Rattle.checks.specs.Checks.{Gives, Refuses}
 use Rattle.operations.specs.Rows.{shape_of}
-use Rattle.type_model.specs.declared.atoms.AtomDef.{AtomDef}
 use Rattle.type_model.specs.declared.atoms.FieldDef.{FieldDef}
 use Rattle.type_model.specs.declared.basic.Choice.{Choice}
 use Rattle.type_model.specs.declared.basic.Ty.{Ty}
-use Rattle.type_model.specs.Places.{item_type, key_type}
+use Rattle.type_model.specs.Places.{item_type}
 use Rattle.expr_needs.specs.Needs.{MemberSeen}
 use Rattle.check_words.specs.Constructors.{IsFirst, IsLiteralIn, KeyFits, LengthFits, ListFits, LiteralsFit, MappingFits, MemberFits, RequiredAreThere, first_fit, literal_fits, member_type}
 use Rattle.check_words.specs.Sharing.{SameOption}

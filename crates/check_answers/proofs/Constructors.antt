@@ -1,14 +1,13 @@
 -- Constructors: two runs of each need agree, but for those that make atoms.
-use Rattle.std.proofs.Common.{◌≡◌, ◌++◌, ℕ, Bool, true, false, List, [], ◌∷◌, length, All, IfSome, IsSomeAnd, Option, Some, None, unwrap_or, inl, inr, refl, sym, subst, ap, ◌∙◌}
+use Rattle.std.proofs.Common.{◌≡◌, ◌++◌, ℕ, Bool, true, false, List, [], ◌∷◌, length, All, IfSome, IsSomeAnd, Option, Some, None, unwrap_or, refl, sym, subst, ap, ◌∙◌}
 use Rattle.std.specs.List.{AllZip, list_any}
 use Rattle.bal_base.specs.declared.fault.FaultCode.TheVariants.{Duplicate, ReadOnlyHolds}
 use Rattle.bal_base.specs.declared.place.Place.{Place}
 use Rattle.bal_base.specs.declared.text.Text.{Text}
 use Rattle.bal_tree.specs.declared.name.Literal.{Literal}
 use Rattle.checks.specs.Agreement.{AreTwins}
-use Rattle.descriptors.specs.Described.{IsCopy, plain}
+use Rattle.descriptors.specs.Described.{plain}
 use Rattle.operations.specs.Structures.{IsListAtom, IsMappingAtom}
-use Rattle.operations.specs.declared.operation.Constant.TheVariants as constant
 use Rattle.type_model.specs.declared.answers.TypeLimit.{TypeLimit}
 use Rattle.type_model.specs.declared.atoms.AtomDef.{AtomDef}
 use Rattle.type_model.specs.declared.atoms.FieldDef.{FieldDef}
@@ -24,25 +23,24 @@ use Rattle.typed_tree.specs.SharedTypes.{Shared}
 use Rattle.expr_needs.specs.declared.expected.Expected.{Expected}
 use Rattle.expr_needs.specs.declared.expected.Expected.TheVariants as expected
 use Rattle.expr_needs.specs.Needs.{MemberSeen}
-use Rattle.check_words.specs.Constructors.{IsFrozenType, IsItemWant, IsLastKey, IsMemberWant, IsReadonlyType, IsWantCopy, ListFits, MappingFits, added_type, adds_member, at_work, begins_keys, chooses_by, chooses_constructor, chooses_for, computes_key, expects_item, expects_member, gives_new_key, is_detail, is_frozen, is_item, is_key, lacks_cause, may_stand, member_type, takes_key, with_key, with_member}
+use Rattle.check_words.specs.Constructors.{IsFrozenType, IsItemWant, IsMemberWant, IsReadonlyType, IsWantCopy, ListFits, MappingFits, added_type, adds_member, at_work, begins_keys, chooses_by, chooses_constructor, chooses_for, computes_key, expects_item, expects_member, gives_new_key, is_detail, is_frozen, is_item, is_key, lacks_cause, may_stand, member_type, takes_key, with_key, with_member}
 use Rattle.check_words.specs.Sharing.{SameOption}
-use Rattle.check_words.specs.State.{ConstructorAtWork, IsLast, State}
-use Rattle.check_words.specs.Values.{SingleOf}
-use Rattle.check_words.specs.Words.{Atoms, opens_constructor, sem, sets_constructor, some_over, wants_no_more, whether_within}
+use Rattle.check_words.specs.State.{ConstructorAtWork}
+use Rattle.check_words.specs.Words.{Atoms, opens_constructor, sem, sets_constructor, wants_no_more, whether_within}
 use Rattle.check_answers.specs.Answers.{IsLiteralValid}
 use Rattle.check_answers.specs.TwinStates.{ConstructorTwins, PartTwins, SharedTwins}
-use Rattle.check_answers.specs.TwinTypes.{SettledTwins, TwinAtoms, TwinFields, TwinTypes}
+use Rattle.check_answers.specs.TwinTypes.{TwinAtoms, TwinFields}
 use Rattle.check_answers.proofs.Atoms.{with-lists, with-mappings}
 use Rattle.check_answers.proofs.Choosing.{fit-leads, list-fits, mapping-fits}
 use Rattle.check_answers.proofs.Back.{atoms-back}
-use Rattle.check_answers.proofs.Leading.{Any2, Leads, Pairs, leads-done, leads-either, leads-fails, leads-from, leads-gives, leads-over, leads-then, leads-to, leads-unless}
+use Rattle.check_answers.proofs.Leading.{Any2, Leads, Pairs, leads-done, leads-either, leads-fails, leads-from, leads-gives, leads-over, leads-then, leads-unless}
 use Rattle.check_answers.proofs.Meanings.{copies-twin, itself-twin, same-twin}
 use Rattle.check_answers.proofs.Members.{item-twins, key-twins}
 use Rattle.check_answers.proofs.MemberReads.{key-leads}
-use Rattle.check_answers.proofs.Questions.{Before, Behind, D, Equal, W, before-atoms, before-behind, below-if-leads, settled-twins, stays, whether-leads}
+use Rattle.check_answers.proofs.Questions.{Before, Behind, D, Equal, W, before-atoms, before-behind, below-if-leads, settled-twins, whether-leads}
 use Rattle.check_answers.proofs.SameTrees.{parts-same}
 use Rattle.check_answers.proofs.Values.{wants-weak, widened-leads}
-use Rattle.check_answers.proofs.Words.{At, constructor-leads, makes-leads, no-more-leads, opens-constructor-leads, part-leads, sets-constructor-leads, want-leads, wants-leads}
+use Rattle.check_answers.proofs.Words.{constructor-leads, makes-leads, no-more-leads, opens-constructor-leads, part-leads, sets-constructor-leads, want-leads}
 use Rattle.check_answers.proofs.Writing.{implied-type, implied-written}
 use Rattle.check_answers.proofs.Zips.{last-same, zip-long, zip-map, zip-one}
 

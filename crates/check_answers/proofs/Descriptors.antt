@@ -1,5 +1,5 @@
 -- Descriptors that add no atoms: two runs of each agree.
-use Rattle.std.proofs.Common.{◌≡◌, Bool, true, false, List, Option, Some, Result, Ok, Err, inr, refl, sym, subst, ap, ◌∙◌}
+use Rattle.std.proofs.Common.{◌≡◌, Bool, true, false, Option, Some, Result, Ok, Err, inr, sym, subst, ap, ◌∙◌}
 use Rattle.bal_base.specs.declared.fault.FaultCode.{FaultCode}
 use Rattle.bal_base.specs.declared.fault.Kept.TheVariants.{Nothing}
 use Rattle.bal_base.specs.declared.place.Place.{Place}
@@ -12,7 +12,7 @@ use Rattle.checks.specs.Questions.{IsFault}
 use Rattle.checks.proofs.Alike.{▷-alike}
 use Rattle.descriptors.specs.declared.names.Names.{Names}
 use Rattle.descriptors.specs.declared.names.Scope.{Scope}
-use Rattle.descriptors.specs.Described.{IsAnyFunction, IsBuiltin, IsIntersection, IsOptional, IsRewritten, IsUnion, choices_with, described, described_whole, gives_named, rewritten, with_choices}
+use Rattle.descriptors.specs.Described.{IsAnyFunction, IsBuiltin, IsIntersection, IsOptional, IsRewritten, IsUnion, choices_with, described, described_whole, gives_named, with_choices}
 use Rattle.descriptors.specs.Descriptors.{Descriptor, builtin, value, named, optional, union, intersection, array, repeated, tuple, map_of, closed_record, open_record, any_error, error_with, any_function, function_from, future_of, descriptor_of, is_readonly}
 use Rattle.descriptors.specs.Naming.{type_named}
 use Rattle.type_model.specs.declared.basic.Ty.{Ty}

@@ -1,11 +1,11 @@
 -- Each need of which nothing is left open, and lines of them.
-use Rattle.std.proofs.Common.{All, List, refl}
+use Rattle.std.proofs.Common.{List, refl}
 use Rattle.std.proofs.lemmas.List.Elements.{All-weaker}
 use Rattle.descriptors.specs.declared.names.Names.{Names}
 use Rattle.type_model.specs.declared.answers.TypeLimit.{TypeLimit}
 use Rattle.type_model.specs.declared.atoms.AtomDef.{AtomDef}
 use Rattle.type_model.specs.Calls.{Asked}
-use Rattle.typed_tree.specs.Listed.{Listed, members}
+use Rattle.typed_tree.specs.Listed.{members}
 use Rattle.expr_needs.specs.Needs.{Need, Fails, IsOf, IsWanted, Widens, WantsResult, WantsErrorToo, DropsWant, GivesLiteral, Forms, Decides, IsSort, Adds, Compares, Splits, Switches, Turns, Conjoins, Disjoins, Chooses, FillsNil, Tests, Casts, Checks, ChecksPanicking, Traps, Encloses, Describes, IsAccessed, IsIndex, ReadsElement, ReadsField, ReadsOptional, HasField, ExpectsStored, ReadsStored, ReadsStoredField, ChoosesList, ChoosesMapping, BeginsKeys, GivesKey, TakesKey, ComputesKey, ExpectsItem, ExpectsMember, IsItem, IsDetail, LacksCause, IsMember, Declares, IsAssignable, Assigns, ReadsName, Stores, IsIgnorable, Performs, Stops, Returns, ReturnsNil, Breaks, Continues, BeginsBlock, EndsBlock, MakesBlock, MakesIf, Heads, OpensLoop, MakesWhile, IsItemOfLoop, WidensItem, IsCounter, WantsCounter, HasItem, MakesForeach, MakesRange, CallsValue, CallsMethod, ExpectsArgument, IsArgument, BeginsAnonymous, HasParameter, BeginsValue, IsNew, WaitsForAny, Receives, Sends, SendsAndWaits, Flushes, MakesList, MakesError, WaitsForAll, HasRest, MakesCall, MakesMapping, MakesAnonymous, Starts, GivesNamed, CallsNamed, Awaits, IsOperand, UpdatesName, UpdatesElement, UpdatesField, BeginsMatch, HasPattern, BeginsClause, EndsClause, MakesMatch, EntersFile, NamesParameter, EndsFunction, EndsValueFunction, BeginsWorker, EndsWorker, EndsModule, BeginsInitial, EndsInitial, BeginsFunction, IsConstant}
 use Rattle.check_answers.specs.Answers.{Agrees, HaveValues, IsSettled}
 use Rattle.check_answers.specs.Laws.{SettledLinesAgree}

@@ -1,5 +1,5 @@
 -- Reads of fields, which add an atom: two runs of each need agree.
-use Rattle.std.proofs.Common.{◌≡◌, ◌++◌, ℕ, false, List, [], ◌∷◌, Option, Some, None, refl, sym, subst, ap, ◌∙◌}
+use Rattle.std.proofs.Common.{◌≡◌, ◌++◌, ℕ, false, List, [], ◌∷◌, Some, refl, sym, subst}
 use Rattle.std.specs.List.{AllZip}
 use Rattle.bal_base.specs.declared.fault.FaultCode.TheVariants.{NoField}
 use Rattle.bal_base.specs.declared.place.Place.{Place}
@@ -12,22 +12,22 @@ use Rattle.type_model.specs.declared.answers.TypeLimit.{TypeLimit}
 use Rattle.type_model.specs.declared.atoms.AtomDef.{AtomDef}
 use Rattle.type_model.specs.declared.atoms.AtomDef.TheVariants.{Mapping as MappingAtom}
 use Rattle.type_model.specs.declared.atoms.FieldDef.{FieldDef}
-use Rattle.type_model.specs.declared.basic.SemType.{Atom, SemType}
+use Rattle.type_model.specs.declared.basic.SemType.{Atom}
 use Rattle.type_model.specs.declared.basic.Ty.{Ty}
 use Rattle.type_model.specs.Calls.{Asked}
 use Rattle.type_model.specs.Defined.{IsClosed}
 use Rattle.type_model.proofs.Same.{itself}
 use Rattle.typed_tree.specs.Exprs.{type_of}
-use Rattle.check_words.specs.Members.{HaveField, field_type, has_key, reads_field, reads_stored_field}
+use Rattle.check_words.specs.Members.{HaveField, has_key, reads_field, reads_stored_field}
 use Rattle.check_words.specs.Words.{Atoms, asking, sem}
 use Rattle.check_answers.specs.Answers.{TwinsOver}
 use Rattle.check_answers.specs.TwinTypes.{SettledTwins, TwinAtoms, TwinDefs, TwinFields, TwinTypes}
-use Rattle.check_answers.proofs.Adding.{Grown, adds-leads, grown-ends, grown-leads}
+use Rattle.check_answers.proofs.Adding.{Grown, adds-leads, grown-ends}
 use Rattle.check_answers.proofs.Growing.{settled-later}
 use Rattle.check_answers.proofs.Leading.{Any2, Leads, Pairs, leads-regroup, leads-then, leads-to, leads-unless}
 use Rattle.check_answers.proofs.Meanings.{plain-twin}
 use Rattle.check_answers.proofs.Members.{self-twins}
-use Rattle.check_answers.proofs.Questions.{Before, Behind, D, Equal, before-atoms, is-below-leads, strict-leads}
+use Rattle.check_answers.proofs.Questions.{Before, D, Equal, before-atoms, is-below-leads, strict-leads}
 use Rattle.check_answers.proofs.MemberReads.{member-at-leads, plain-twins}
 use Rattle.check_answers.proofs.Values.{wants-some-weak}
 use Rattle.check_answers.proofs.Words.{part-leads, two-leads}

@@ -1,9 +1,8 @@
 -- Two runs from two given states, where something is known of the first.
-use Rattle.std.proofs.Common.{◌≡◌, List, refl, sym, subst, ◌∙◌, ap}
-use Rattle.checks.specs.Checks.{Check, gives, gives_some, ◌▷◌}
-use Rattle.flow_narrowing.specs.declared.flow.Flow.{Flow}
+use Rattle.std.proofs.Common.{◌≡◌, refl, sym, subst}
+use Rattle.checks.specs.Checks.{Check, gives_some}
 use Rattle.type_model.specs.declared.basic.Ty.{Ty}
-use Rattle.check_words.specs.State.{ChoiceAtWork, IsLast, MatchAtWork, State, UnitAtWork, Ways, all_but, ways_or_same}
+use Rattle.check_words.specs.State.{IsLast, State, Ways, all_but}
 use Rattle.check_words.specs.Words.{Atoms, closes_choice, flow_now, unit_now, ways_now}
 use Rattle.check_answers.specs.Answers.{AreWaysOf, IsFlowOf}
 use Rattle.check_answers.specs.TwinStates.{ChoiceTwins, FlowTwins, UnitTwins, WaysTwins}

@@ -1,5 +1,5 @@
 -- Twins stay twins where atoms are added.
-use Rattle.std.proofs.Common.{◌≡◌, ◌≤◌, ◌+◌, ◌++◌, ◌<◌, ℕ, List, length, length-append, arith}
+use Rattle.std.proofs.Common.{◌++◌, List, length, length-append, arith}
 use Rattle.checks.specs.Agreement.{AreTwins}
 use Rattle.type_model.specs.declared.atoms.AtomDef.{AtomDef}
 use Rattle.type_model.specs.declared.basic.SemType.{SemType}
@@ -7,7 +7,7 @@ use Rattle.type_model.specs.declared.basic.Ty.{Ty}
 use Rattle.type_model.specs.Defined.{IsClosed, IsDefined, TyBelow}
 use Rattle.type_model.proofs.DefinedLaws.{TyBelow-more}
 use Rattle.type_model.proofs.Laws.{In-append}
-use Rattle.check_answers.specs.TwinTypes.{SettledTwins, TwinTypes}
+use Rattle.check_answers.specs.TwinTypes.{SettledTwins}
 
 module _ (m n more others : List AtomDef) (first : IsClosed m) (second : IsClosed n) where
   pub sem-later : (s t : SemType) → IsDefined m s → IsDefined n t → AreTwins m s n t → AreTwins (m ++ more) s (n ++ others) t

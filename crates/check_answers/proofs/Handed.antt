@@ -9,7 +9,7 @@ use Rattle.typed_tree.specs.declared.unit.Captured.{Captured}
 use Rattle.typed_tree.specs.SharedTypes.{Shared}
 use Rattle.check_words.specs.Sharing.{SameCaptured, SameChoice, SameFlow, SameMatch, SameOption, SameShared, SameUnit, SameVariable, SameWays}
 use Rattle.check_words.specs.State.{ChoiceAtWork, MatchAtWork, UnitAtWork, Ways}
-use Rattle.check_answers.specs.Pieces.{IsCaptured, Said, captured_pieces}
+use Rattle.check_answers.specs.Pieces.{IsCaptured, Said}
 use Rattle.check_answers.specs.TwinStates.{CapturedTwins, ChoiceTwins, ClauseTwins, FlowTwins, MatchTwins, SharedTwins, UnitTwins, VariableTwins, WaysTwins}
 
 -- two lists that correspond, and copies of both

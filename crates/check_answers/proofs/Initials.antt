@@ -1,9 +1,7 @@
 -- Initial values of module variables: two runs of each need agree.
-use Rattle.std.proofs.Common.{◌≡◌, ◌++◌, ℕ, Bool, true, false, List, [], ◌∷◌, Option, None, Some, refl, sym, subst, ap, ◌∙◌}
-use Rattle.std.specs.List.{AllZip}
+use Rattle.std.proofs.Common.{◌≡◌, ◌++◌, ℕ, Bool, true, false, [], ◌∷◌, Option, None, Some, refl, sym, subst, ap, ◌∙◌}
 use Rattle.bal_base.specs.declared.place.Place.{Place}
 use Rattle.bal_tree.specs.declared.def.VariableDef.{VariableDef}
-use Rattle.checks.specs.Checks.{gives_some, ◌▷◌}
 use Rattle.descriptors.specs.declared.names.Names.{Names}
 use Rattle.descriptors.specs.declared.names.Scope.{Scope}
 use Rattle.descriptors.specs.Described.{IsCopy}
@@ -16,7 +14,7 @@ use Rattle.expr_needs.specs.declared.kind.Kind.TheVariants as kind
 use Rattle.check_words.specs.Actions.{site_now}
 use Rattle.check_words.specs.Calls.{opens_unit}
 use Rattle.check_words.specs.Sharing.{SameOption, SameUnit}
-use Rattle.check_words.specs.State.{Done, InitialiserAtWork, Site, State, UnitAtWork}
+use Rattle.check_words.specs.State.{Done, InitialiserAtWork, UnitAtWork}
 use Rattle.check_words.specs.Units.{IsInitial, IsModuleVariable, begins_initial, ends_initial, ends_value, initialiser_now, initialiser_or_new, initialiser_unit, keeps_at_work, sets_initialiser, variable_type}
 use Rattle.check_words.specs.Words.{Atoms}
 use Rattle.check_answers.specs.Pieces as say
@@ -32,7 +30,7 @@ use Rattle.check_answers.proofs.Meanings.{copies-twin, itself-twin, kinds-twin}
 use Rattle.check_answers.proofs.Questions.{Before, Behind, D, Equal, W, before-atoms, before-behind, settled-twins}
 use Rattle.check_answers.proofs.SameTrees.{whole-same}
 use Rattle.check_answers.proofs.Setting.{with-initialiser, with-units, with-ways}
-use Rattle.check_answers.proofs.Statements.{pieces-equal, takes-part-leads}
+use Rattle.check_answers.proofs.Statements.{takes-part-leads}
 use Rattle.check_answers.proofs.Units.{changes-done-leads}
 use Rattle.check_answers.proofs.Values.{drops-want-leads}
 use Rattle.check_answers.proofs.Words.{At, at-atoms, wanted-leads, wants-leads}

@@ -1,5 +1,5 @@
 -- Atoms are twins of themselves, and so is a state in which nothing is open.
-use Rattle.std.proofs.Common.{ℕ, List, [], ◌∷◌, Option, None, Some, IfOk, IfSome, length, refl}
+use Rattle.std.proofs.Common.{ℕ, List, [], ◌∷◌, Option, None, Some, IfOk, length, refl}
 use Rattle.std.proofs.lemmas.List.Elements.{All-nil}
 use Rattle.std.specs.List.{AllZip}
 use Rattle.descriptors.specs.declared.names.Names.{Names}
@@ -16,7 +16,7 @@ use Rattle.check_words.specs.Sharing.{SameOption}
 use Rattle.check_words.specs.Stands.{CallBelow, ChoiceBelow, ConstructorBelow, MatchBelow, PartBelow, SharedBelow, Stands, UnitBelow}
 use Rattle.check_answers.specs.Answers.{Twins, nothing_open}
 use Rattle.check_answers.specs.Laws.{BeginningsAgree}
-use Rattle.check_answers.specs.TwinTypes.{TwinAtoms, TwinDefs, TwinFields, TwinTypes}
+use Rattle.check_answers.specs.TwinTypes.{TwinDefs, TwinFields, TwinTypes}
 use Rattle.check_answers.proofs.EachNeed.{settled-lines-agree}
 
 module _ (m : List AtomDef) where

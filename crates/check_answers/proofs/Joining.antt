@@ -1,16 +1,12 @@
 -- Flows that are joined and narrowed in two runs.
-use Rattle.std.proofs.Common.{◌≡◌, ◌⊎◌, ◌||◌, ◌<◌, ℕ, zero, suc, Bool, true, false, List, [], ◌∷◌, length, get_or, slice_get, IsSomeAnd, Option, None, Some, refl, sym, subst, ap, ◌∙◌, arith}
+use Rattle.std.proofs.Common.{◌≡◌, ◌||◌, ◌<◌, ℕ, zero, suc, Bool, true, false, List, [], ◌∷◌, length, get_or, slice_get, IsSomeAnd, Option, None, Some, refl, sym, subst, ap, ◌∙◌, arith}
 use Rattle.std.specs.List.{AllZip}
 use Rattle.std.proofs.lemmas.List.Elements.{AllZip-get_or}
 use Rattle.std.proofs.lemmas.Option.{slice_get-get_or, slice_get_within}
-use Rattle.bal_base.specs.declared.shape.Shape.{Shape}
-use Rattle.bal_base.specs.Valid.{IsValid}
-use Rattle.checks.specs.Agreement.{AreTwins}
 use Rattle.descriptors.specs.Described.{IsUnion, with_choices}
 use Rattle.flow_narrowing.specs.declared.flow.Flow.{Flow}
 use Rattle.flow_narrowing.specs.declared.flow.Variable.{Variable}
-use Rattle.flow_narrowing.specs.Flows.{AreJoined, AreSame, IsJoin, IsJoined, NarrowedTo, UnionOf, joins, now, or_declared}
-use Rattle.type_model.specs.declared.atoms.AtomDef.{AtomDef}
+use Rattle.flow_narrowing.specs.Flows.{AreJoined, IsJoin, IsJoined, NarrowedTo, UnionOf, joins, now, or_declared}
 use Rattle.type_model.specs.declared.basic.Ty.{Ty}
 use Rattle.type_model.proofs.Same.{either}
 use Rattle.typed_tree.specs.SharedTypes.{Shared}

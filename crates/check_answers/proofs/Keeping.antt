@@ -1,14 +1,14 @@
 -- Checks that leave the parts that were found as they are.
 use Rattle.std.proofs.Common.{◌≡◌, List, refl, sym, subst, ◌∙◌}
 use Rattle.std.specs.List.{AllZip}
-use Rattle.checks.specs.Checks.{Check, Gives, Refuses, gives, gives_some, ◌▷◌}
+use Rattle.checks.specs.Checks.{Check, Gives, Refuses, gives_some, ◌▷◌}
 use Rattle.flow_narrowing.specs.declared.flow.Flow.{Flow}
 use Rattle.needs.specs.Needs.{does}
 use Rattle.type_model.specs.declared.basic.Ty.{Ty}
 use Rattle.typed_tree.specs.declared.expr.TypedExpr.{TypedExpr}
 use Rattle.check_words.specs.State.{State}
 use Rattle.check_words.specs.Statements.{closes_block, takes_part}
-use Rattle.check_words.specs.Words.{Atoms, becomes, by_handles, closes_choice, last_part, sets_flow}
+use Rattle.check_words.specs.Words.{Atoms, becomes, by_handles, closes_choice, sets_flow}
 use Rattle.check_answers.specs.TwinStates.{PartTwins}
 use Rattle.check_answers.proofs.Leading.{Leads, Pairs, leads-from, leads-gives, leads-some, leads-then}
 use Rattle.check_answers.proofs.Words.{At, takes-leads}

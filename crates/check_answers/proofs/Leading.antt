@@ -1,6 +1,5 @@
 -- Two runs of checks of states: from states that correspond in one way both lead to states that correspond in another one.
-use Rattle.std.proofs.Common.{◌≡◌, Bool, true, false, List, inl, inr, refl, sym, subst, ap, ◌∙◌}
-use Rattle.bal_base.specs.declared.fault.Fault.{Fault}
+use Rattle.std.proofs.Common.{◌≡◌, Bool, true, false, inl, inr, sym, subst, ◌∙◌}
 use Rattle.bal_base.specs.declared.fault.FaultCode.{FaultCode}
 use Rattle.bal_base.specs.declared.place.Place.{Place}
 use Rattle.checks.specs.Agreement.{Alike, BothKeep, Corresponds}
@@ -8,7 +7,7 @@ use Rattle.checks.specs.Checks.{Check, Gives, Outcome, Refuses, either, gives, g
 use Rattle.checks.proofs.Alike.{▷-alike}
 use Rattle.needs.specs.Needs.{asks, does}
 use Rattle.check_words.specs.State.{State}
-use Rattle.check_words.specs.Words.{Atoms, Step, asking, becomes, by_handles, done, fails, some_over, unless}
+use Rattle.check_words.specs.Words.{Atoms, asking, becomes, by_handles, done, fails, some_over, unless}
 
 -- which states correspond
 abbrev pub Pairs : Type 1

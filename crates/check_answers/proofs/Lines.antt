@@ -1,5 +1,5 @@
 -- Needs one behind another: where two runs of each agree, two runs of all do.
-use Rattle.std.proofs.Common.{List, [], ◌∷◌, All, sym, subst}
+use Rattle.std.proofs.Common.{List, [], sym, subst}
 use Rattle.std.proofs.lemmas.List.Elements.{All-head}
 use Rattle.checks.specs.Agreement.{Alike}
 use Rattle.checks.specs.Checks.{Gives, Refuses, gives, gives_some}
@@ -10,7 +10,7 @@ use Rattle.needs.specs.Needs.{all_met}
 use Rattle.type_model.specs.declared.answers.TypeLimit.{TypeLimit}
 use Rattle.type_model.specs.declared.atoms.AtomDef.{AtomDef}
 use Rattle.type_model.specs.Calls.{Asked}
-use Rattle.typed_tree.specs.Listed.{Listed, nothing, one, ◌&◌, members}
+use Rattle.typed_tree.specs.Listed.{nothing, one, ◌&◌, members}
 use Rattle.expr_needs.specs.Needs.{Need}
 use Rattle.check_words.specs.Meets.{meets}
 use Rattle.check_words.specs.State.{State}

@@ -1,5 +1,5 @@
 -- Constructs that make atoms: two runs of each need agree.
-use Rattle.std.proofs.Common.{◌≡◌, ◌↔◌, ◌++◌, ◌+◌, ◌*◌, ℕ, Bool, true, false, List, [], ◌∷◌, IsSomeAnd, IsTrue, length, slice_get, Option, Some, None, refl, sym, subst, ap, ◌∙◌}
+use Rattle.std.proofs.Common.{◌≡◌, ◌↔◌, ◌++◌, ◌+◌, ◌*◌, ℕ, Bool, List, [], ◌∷◌, IsSomeAnd, IsTrue, length, slice_get, Option, Some, None, refl, sym, subst, ap, ◌∙◌}
 use Rattle.std.specs.List.{AllZip}
 use Rattle.bal_base.specs.declared.place.Place.{Place}
 use Rattle.bal_base.specs.declared.shape.Shape.{Shape}
@@ -7,13 +7,12 @@ use Rattle.bal_base.specs.declared.text.Text.{Text}
 use Rattle.bal_base.specs.Valid.{IsValid}
 use Rattle.checks.specs.Checks.{◌▷◌}
 use Rattle.checks.specs.Agreement.{AreTwins}
-use Rattle.descriptors.specs.Described.{IsPlain, plain}
+use Rattle.descriptors.specs.Described.{IsPlain}
 use Rattle.operations.specs.Kinds.{IsReadonly}
 use Rattle.operations.specs.Structures.{IsMade}
 use Rattle.type_model.specs.declared.atoms.AtomDef.{AtomDef}
-use Rattle.type_model.specs.declared.atoms.AtomDef.TheVariants.{Error as ErrorAtom, List as ListAtom, Mapping as MappingAtom}
-use Rattle.type_model.specs.declared.atoms.FieldDef.{FieldDef}
-use Rattle.type_model.specs.declared.basic.SemType.{Atom, SemType}
+use Rattle.type_model.specs.declared.atoms.AtomDef.TheVariants.{List as ListAtom, Mapping as MappingAtom}
+use Rattle.type_model.specs.declared.basic.SemType.{Atom}
 use Rattle.type_model.specs.declared.basic.Ty.{Ty}
 use Rattle.type_model.specs.Defined.{IsClosed}
 use Rattle.type_model.specs.Membership.{Fits}
@@ -21,12 +20,12 @@ use Rattle.type_model.proofs.Same.{both, itself}
 use Rattle.typed_tree.specs.declared.form.StrictForm.{StrictForm}
 use Rattle.typed_tree.specs.declared.form.StrictForm.TheVariants as form
 use Rattle.check_words.specs.Constructors.{IsErrorOver, atom_of, fields_with, makes_error, makes_list}
-use Rattle.check_words.specs.State.{ConstructorAtWork, State}
+use Rattle.check_words.specs.State.{ConstructorAtWork}
 use Rattle.check_words.specs.Words.{Atoms, Step, makes_strict}
 use Rattle.check_answers.specs.Answers.{TwinsOver}
 use Rattle.check_answers.specs.Pieces.{DoesForm, SamePieces, form_pieces}
 use Rattle.check_answers.specs.TwinStates.{ConstructorTwins}
-use Rattle.check_answers.specs.TwinTypes.{SettledTwins, TwinAtoms, TwinDefs, TwinFields, TwinTypes}
+use Rattle.check_answers.specs.TwinTypes.{TwinAtoms, TwinDefs, TwinFields, TwinTypes}
 use Rattle.check_answers.proofs.Adding.{Grown, adds-leads, grown-ends}
 use Rattle.check_answers.proofs.Agreeing.{behind-over}
 use Rattle.check_answers.proofs.Growing.{settled-later}
@@ -34,7 +33,7 @@ use Rattle.check_answers.proofs.Leading.{Any2, Leads, Pairs, leads-gives, leads-
 use Rattle.check_answers.proofs.MemberReads.{plain-twins}
 use Rattle.check_answers.proofs.Meanings.{plain-twin}
 use Rattle.check_answers.proofs.Members.{fits-twins, self-twins}
-use Rattle.check_answers.proofs.Questions.{Before, Behind, D, Equal, W, strict-leads}
+use Rattle.check_answers.proofs.Questions.{Before, Behind, D, Equal, strict-leads}
 use Rattle.check_answers.proofs.Words.{closes-constructor-leads}
 use Rattle.check_answers.proofs.Zips.{zip-map}
 

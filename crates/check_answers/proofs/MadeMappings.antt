@@ -1,5 +1,5 @@
 -- Mappings that are made: two runs of the need agree.
-use Rattle.std.proofs.Common.{◌≡◌, ◌*◌, ◌++◌, ℕ, Bool, true, List, [], ◌∷◌, Option, Some, None, refl, sym, subst, ap, ◌∙◌}
+use Rattle.std.proofs.Common.{◌≡◌, ◌*◌, ◌++◌, ℕ, Bool, true, List, [], ◌∷◌, None, sym, subst, ap, ◌∙◌}
 use Rattle.std.specs.List.{AllZip}
 use Rattle.bal_base.specs.declared.place.Place.{Place}
 use Rattle.type_model.specs.declared.atoms.AtomDef.{AtomDef}

@@ -1,6 +1,5 @@
 -- What corresponds in one way does in each wider one.
-use Rattle.std.proofs.Common.{◌≡◌, List, Option, Result, Ok, Err}
-use Rattle.std.specs.List.{AllZip}
+use Rattle.std.proofs.Common.{Result, Ok, Err}
 use Rattle.bal_base.specs.declared.fault.Fault.{Fault}
 use Rattle.flow_narrowing.specs.declared.flow.Flow.{Flow}
 use Rattle.flow_narrowing.specs.declared.flow.Variable.{Variable}

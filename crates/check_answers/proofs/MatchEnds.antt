@@ -1,13 +1,11 @@
 -- The end of a match: two runs of the need agree.
-use Rattle.std.proofs.Common.{◌≡◌, ◌++◌, ℕ, suc, Bool, true, false, List, [], ◌∷◌, All, length, Option, None, Some, refl, sym, subst, ap, ◌∙◌, if◌then◌else◌}
+use Rattle.std.proofs.Common.{◌≡◌, ℕ, suc, Bool, true, false, List, [], ◌∷◌, All, length, Option, None, Some, refl, sym, subst, ap, ◌∙◌, if◌then◌else◌}
 use Rattle.std.specs.List.{AllZip}
 use Rattle.std.proofs.lemmas.List.Elements.{All-append, All-cons, All-head, All-nil, All-tail}
 use Rattle.bal_base.specs.declared.place.Place.{Place}
 use Rattle.bal_base.specs.declared.text.Name.{Name}
-use Rattle.checks.specs.Checks.{gives, ◌▷◌}
 use Rattle.flow_narrowing.specs.declared.flow.Flow.{Flow}
 use Rattle.flow_narrowing.specs.declared.flow.Variable.{Variable}
-use Rattle.flow_narrowing.specs.Flows.{IsJoin}
 use Rattle.type_model.specs.declared.answers.TypeLimit.{TypeLimit}
 use Rattle.type_model.specs.declared.atoms.AtomDef.{AtomDef}
 use Rattle.type_model.specs.declared.basic.Ty.{Ty}
@@ -20,19 +18,19 @@ use Rattle.typed_tree.specs.Exprs.{type_of}
 use Rattle.typed_tree.specs.SharedTypes.{Shared, sem_of}
 use Rattle.check_words.specs.Branches.{closes_match, joins_all, makes_match, matched_as, some_is_left, with_no_clause}
 use Rattle.check_words.specs.Joins.{joins_from, joins_two}
-use Rattle.check_words.specs.State.{IsLast, MatchAtWork, State, all_but, narrowed_by_name, stopped, with_type}
+use Rattle.check_words.specs.State.{IsLast, MatchAtWork, State, all_but, narrowed_by_name, stopped}
 use Rattle.check_words.specs.StmtViews.{IsMatch}
 use Rattle.check_words.specs.Words.{Atoms}
 use Rattle.check_answers.specs.Answers.{AreEven, MatchIsEven}
 use Rattle.check_answers.specs.Pieces.{SamePieces, clause_pieces}
 use Rattle.check_answers.specs.Pieces as say
-use Rattle.check_answers.specs.TwinStates.{ClauseTwins, FlowTwins, MatchTwins, PartTwins, SharedTwins, StmtTwins}
+use Rattle.check_answers.specs.TwinStates.{ClauseTwins, FlowTwins, MatchTwins, PartTwins, StmtTwins}
 use Rattle.check_answers.specs.TwinTypes.{TwinAtoms}
 use Rattle.check_answers.proofs.Branches.{sets-wider}
 use Rattle.check_answers.proofs.Fixed.{These, these-some}
 use Rattle.check_answers.proofs.Joining.{joins-twin}
 use Rattle.check_answers.proofs.Keeping.{WithParts, part-kept}
-use Rattle.check_answers.proofs.Leading.{Any2, Leads, Pairs, leads-becomes, leads-from, leads-gives, leads-over, leads-then}
+use Rattle.check_answers.proofs.Leading.{Any2, Leads, Pairs, leads-becomes, leads-gives, leads-over, leads-then}
 use Rattle.check_answers.proofs.Mapping.{flow-map}
 use Rattle.check_answers.proofs.Matches.{matched-same}
 use Rattle.check_answers.proofs.Questions.{Before, Behind, D, Equal, W, before-atoms, has-some-leads, settled-twins}
@@ -40,7 +38,7 @@ use Rattle.check_answers.proofs.SameTrees.{joined-same, whole-same}
 use Rattle.check_answers.proofs.Setting.{with-matches}
 use Rattle.check_answers.proofs.Statements.{adds-stmt-leads, pieces-equal}
 use Rattle.check_answers.proofs.StmtWriting.{match-written}
-use Rattle.check_answers.proofs.Words.{At, new-slot-leads}
+use Rattle.check_answers.proofs.Words.{new-slot-leads}
 use Rattle.check_answers.proofs.Zips.{zip-but, zip-last, zip-map, zip-one}
 
 -- ---- how many variables a flow knows of

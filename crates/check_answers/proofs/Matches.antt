@@ -1,14 +1,12 @@
 -- Matches: two runs of each need agree.
-use Rattle.std.proofs.Common.{◌≡◌, ◌++◌, ℕ, Bool, true, false, List, [], ◌∷◌, All, Any, length, map, option_map, Option, None, Some, refl, sym, subst, ap, ◌∙◌}
+use Rattle.std.proofs.Common.{◌≡◌, ◌++◌, Bool, true, false, List, [], ◌∷◌, option_map, Option, None, Some, refl, sym, subst, ap, ◌∙◌}
 use Rattle.std.specs.List.{AllZip}
-use Rattle.std.proofs.lemmas.List.Elements.{All-append, All-cons, All-head, All-nil, All-tail}
 use Rattle.bal_base.specs.declared.fault.FaultCode.TheVariants.{NameAsValue, Unknown}
 use Rattle.bal_base.specs.declared.place.Place.{Place}
 use Rattle.bal_base.specs.declared.text.Name.{Name}
 use Rattle.bal_tree.specs.declared.name.QualifiedName.{QualifiedName}
 use Rattle.bal_tree.specs.declared.stmt.Pattern.{Pattern}
 use Rattle.bal_tree.specs.declared.stmt.Pattern.TheVariants as pattern
-use Rattle.checks.specs.Checks.{gives_some, ◌▷◌}
 use Rattle.descriptors.specs.declared.names.Meaning.{Meaning}
 use Rattle.descriptors.specs.declared.names.Meaning.TheVariants as meaning
 use Rattle.descriptors.specs.declared.names.Names.{Names}
@@ -19,26 +17,23 @@ use Rattle.type_model.specs.declared.answers.TypeLimit.{TypeLimit}
 use Rattle.type_model.specs.declared.atoms.AtomDef.{AtomDef}
 use Rattle.type_model.specs.declared.basic.Ty.{Ty}
 use Rattle.type_model.specs.Calls.{Asked}
-use Rattle.typed_tree.specs.declared.expr.TypedExpr.{TypedExpr}
 use Rattle.typed_tree.specs.declared.stmt.TypedClause.{TypedClause}
 use Rattle.typed_tree.specs.declared.stmt.TypedPattern.{TypedPattern}
 use Rattle.typed_tree.specs.declared.stmt.TypedStmt.{TypedStmt}
-use Rattle.typed_tree.specs.Exprs.{type_of}
-use Rattle.typed_tree.specs.SharedTypes.{Shared, sem_of}
-use Rattle.check_words.specs.Branches.{IsOneOf, adds_pattern, begins_clause, begins_match, closes_match, ends_clause, has_pattern, last_match, matched_as, meaning_pattern, opens_match, place_of_value, seen_pattern, sets_match, value_constant, variable_of_name}
+use Rattle.typed_tree.specs.SharedTypes.{Shared}
+use Rattle.check_words.specs.Branches.{IsOneOf, adds_pattern, begins_clause, begins_match, ends_clause, has_pattern, last_match, matched_as, meaning_pattern, opens_match, place_of_value, seen_pattern, sets_match, value_constant, variable_of_name}
 use Rattle.check_words.specs.Joins.{narrows_to}
-use Rattle.check_words.specs.Seen.{SeenConstant, SeenLibrary, SeenMeaning, SeenNothing, SeenVariable, SeenWorker, looks_up, variable_named}
 use Rattle.check_words.specs.Sharing.{SameMatch, SameOption}
-use Rattle.check_words.specs.State.{MatchAtWork, State, all_but, replaced}
+use Rattle.check_words.specs.State.{MatchAtWork}
 use Rattle.check_words.specs.StmtViews.{IsClause}
-use Rattle.check_words.specs.Words.{Atoms, sem}
+use Rattle.check_words.specs.Words.{Atoms}
 use Rattle.check_answers.specs.Answers.{HaveValues, IsMeaningValued}
 use Rattle.check_answers.specs.Pieces as say
 use Rattle.check_answers.specs.Pieces.{SamePieces, stmt_pieces}
-use Rattle.check_answers.specs.TwinStates.{BlockTwins, ClauseTwins, FlowTwins, MatchTwins, PartTwins, SharedTwins, VariableTwins}
+use Rattle.check_answers.specs.TwinStates.{BlockTwins, ClauseTwins, FlowTwins, MatchTwins, SharedTwins, VariableTwins}
 use Rattle.check_answers.specs.TwinTypes.{TwinAtoms, TwinTypes}
 use Rattle.check_answers.proofs.Handed.{match-handed}
-use Rattle.check_answers.proofs.Leading.{Any2, Leads, Pairs, leads-becomes, leads-fails, leads-from, leads-gives, leads-handles, leads-over, leads-some, leads-then}
+use Rattle.check_answers.proofs.Leading.{Any2, Leads, Pairs, leads-becomes, leads-fails, leads-from, leads-handles, leads-over, leads-some, leads-then}
 use Rattle.check_answers.proofs.Mapping.{flow-map, match-map}
 use Rattle.check_answers.proofs.Meanings.{same-twin}
 use Rattle.check_answers.proofs.Named.{by-valued, constant-in-leads, looks-leads}
@@ -49,7 +44,7 @@ use Rattle.check_answers.proofs.Setting.{with-matches, with-ways}
 use Rattle.check_answers.proofs.Statements.{closes-block-leads, pieces-equal, stmts-same}
 use Rattle.check_answers.proofs.StmtWriting.{clause-written}
 use Rattle.check_answers.proofs.Words.{At, flow-leads, part-leads, sets-flow-leads}
-use Rattle.check_answers.proofs.Zips.{zip-but, zip-last, zip-one, zip-other}
+use Rattle.check_answers.proofs.Zips.{zip-last, zip-one, zip-other}
 
 module _ (m n : Atoms) (twins : TwinAtoms m n) where
   abbrev B : Pairs

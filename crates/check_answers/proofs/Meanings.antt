@@ -8,7 +8,6 @@ use Rattle.type_model.specs.declared.atoms.AtomDef.{AtomDef}
 use Rattle.type_model.specs.declared.basic.Choice.{Choice}
 use Rattle.type_model.specs.declared.basic.SemType.{SemType}
 use Rattle.type_model.specs.declared.basic.Ty.{Ty}
-use Rattle.type_model.specs.Membership.{In}
 use Rattle.type_model.specs.SameType.{IsSameType}
 use Rattle.type_model.proofs.Same.{both, either, itself}
 use Rattle.type_model.proofs.SameTypes.{In-same}

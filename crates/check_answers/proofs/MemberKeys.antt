@@ -1,5 +1,5 @@
 -- Members of mappings: two runs of the need agree.
-use Rattle.std.proofs.Common.{◌≡◌, ◌⊎◌, ℕ, Bool, true, false, List, [], ◌∷◌, All, Option, None, Some, inl, inr, refl, sym, subst, ap, ◌∙◌}
+use Rattle.std.proofs.Common.{◌≡◌, ◌⊎◌, ℕ, Bool, true, false, List, [], ◌∷◌, All, Option, None, Some, inl, inr, sym, subst, ◌∙◌}
 use Rattle.std.specs.List.{AllZip}
 use Rattle.std.proofs.lemmas.List.Elements.{All-head, All-tail}
 use Rattle.bal_base.specs.declared.place.Place.{Place}
@@ -7,7 +7,7 @@ use Rattle.bal_base.specs.declared.shape.Shape.{Str}
 use Rattle.bal_base.specs.declared.text.Text.{Text}
 use Rattle.bal_base.specs.Valid.{IsText}
 use Rattle.checks.specs.Agreement.{Alike, AreTwins, BothKeep}
-use Rattle.checks.specs.Checks.{Gives, Refuses, gives_some, ◌▷◌}
+use Rattle.checks.specs.Checks.{Gives, Refuses}
 use Rattle.operations.specs.Structures.{IsMappingAtom}
 use Rattle.type_model.specs.declared.answers.TypeLimit.{TypeLimit}
 use Rattle.type_model.specs.declared.atoms.AtomDef.{AtomDef}
@@ -15,10 +15,9 @@ use Rattle.type_model.specs.declared.atoms.FieldDef.{FieldDef}
 use Rattle.type_model.specs.declared.basic.SemType.{SemType}
 use Rattle.type_model.specs.Calls.{Asked}
 use Rattle.type_model.specs.Membership.{In}
-use Rattle.type_model.specs.SameType.{IsSameType}
 use Rattle.typed_tree.specs.declared.expr.TypedExpr.{TypedExpr}
-use Rattle.check_words.specs.Constructors.{IsLastKey, fields_of_choice, fits_field, fits_fields, fits_keys, is_below_copy, is_member, names_field}
-use Rattle.check_words.specs.State.{ConstructorAtWork, State}
+use Rattle.check_words.specs.Constructors.{IsLastKey, fits_field, fits_fields, fits_keys, is_below_copy, is_member, names_field}
+use Rattle.check_words.specs.State.{ConstructorAtWork}
 use Rattle.check_words.specs.Words.{Atoms, asking, sem}
 use Rattle.check_answers.specs.Answers.{NamesAreTexts}
 use Rattle.check_answers.specs.TwinStates.{ConstructorTwins, PartTwins}

@@ -1,6 +1,5 @@
 -- Reads and stores of members: two runs of each need agree.
-use Rattle.std.proofs.Common.{◌≡◌, ◌++◌, ℕ, Bool, true, false, List, [], ◌∷◌, Option, Some, None, refl, sym, subst, ap, ◌∙◌}
-use Rattle.std.specs.List.{AllZip}
+use Rattle.std.proofs.Common.{◌≡◌, ◌++◌, Bool, true, false, List, [], ◌∷◌, Some, refl, sym, subst, ap}
 use Rattle.bal_base.specs.declared.fault.FaultCode.TheVariants.{NoField}
 use Rattle.bal_base.specs.declared.place.Place.{Place}
 use Rattle.bal_base.specs.declared.shape.Shape.{Shape}
@@ -10,48 +9,35 @@ use Rattle.checks.specs.Agreement.{AreTwins}
 use Rattle.checks.specs.Checks.{Check}
 use Rattle.descriptors.specs.Described.{plain}
 use Rattle.operations.specs.Kinds.{IsList, IsNil, IsString}
-use Rattle.operations.specs.declared.operation.Constant.TheVariants as constant
 use Rattle.type_model.specs.declared.answers.Keys.{Keys}
 use Rattle.type_model.specs.declared.answers.Keys.TheVariants.{Field}
 use Rattle.type_model.specs.declared.answers.TypeLimit.{TypeLimit}
 use Rattle.type_model.specs.declared.atoms.AtomDef.{AtomDef}
-use Rattle.type_model.specs.declared.atoms.AtomDef.TheVariants.{Mapping as MappingAtom}
-use Rattle.type_model.specs.declared.basic.SemType.{Atom, SemType}
+use Rattle.type_model.specs.declared.basic.SemType.{SemType}
 use Rattle.type_model.specs.declared.basic.Ty.{Ty}
 use Rattle.type_model.specs.Calls.{Asked}
-use Rattle.type_model.specs.Defined.{IsClosed}
-use Rattle.type_model.proofs.Same.{itself}
 use Rattle.typed_tree.specs.declared.expr.TypedExpr.{TypedExpr}
 use Rattle.typed_tree.specs.declared.form.Read.TheVariants as read
-use Rattle.typed_tree.specs.declared.form.StrictForm.{StrictForm}
 use Rattle.typed_tree.specs.declared.form.StrictForm.TheVariants as form
 use Rattle.typed_tree.specs.Exprs.{type_of}
 use Rattle.typed_tree.specs.SharedTypes.{Shared}
-use Rattle.typed_tree.specs.Views.{IsImplied}
 use Rattle.expr_needs.specs.declared.kind.Kind.TheVariants as kind
 use Rattle.check_words.specs.declared.access.Access.{Access}
 use Rattle.check_words.specs.declared.access.Access.TheVariants.{Char, Item, Key}
-use Rattle.check_words.specs.Members.{HaveField, IsStored, accesses, container_kind, expects_stored, field_type, gives_key, has_field, has_key, has_part, index_kind, is_accessed, is_accessed_as, is_index, is_structure, last_access, member_at, names_members, read_of, reads_accessed, reads_element, reads_field, reads_optional, reads_stored, reads_stored_field, some_member_at, stored_type, takes_access}
+use Rattle.check_words.specs.Members.{IsStored, accesses, container_kind, expects_stored, gives_key, has_field, has_part, index_kind, is_accessed, is_accessed_as, is_index, is_structure, last_access, member_at, names_members, reads_accessed, reads_element, reads_optional, reads_stored, some_member_at, stored_type, takes_access}
 use Rattle.check_words.specs.State.{State, all_but}
-use Rattle.check_words.specs.Values.{SingleOf}
-use Rattle.check_words.specs.Words.{Atoms, EitherOf, OfKind, PartOf, Step, asking, is_of, sem}
-use Rattle.check_answers.specs.Answers.{TwinsOver}
-use Rattle.check_answers.specs.Pieces.{SamePieces, form_pieces}
-use Rattle.check_answers.specs.TwinStates.{PartTwins, SharedTwins}
-use Rattle.check_answers.specs.TwinTypes.{SettledTwins, TwinAtoms, TwinTypes}
-use Rattle.check_answers.proofs.Adding.{Grown, adds-leads, grown-ends, grown-leads}
-use Rattle.check_answers.proofs.Growing.{settled-later}
-use Rattle.check_answers.proofs.Leading.{Any2, Leads, Pairs, leads-asking, leads-becomes, leads-either, leads-from, leads-gives, leads-over, leads-some, leads-then, leads-unless}
-use Rattle.check_answers.proofs.Mapping.{part-map}
-use Rattle.check_answers.proofs.Meanings.{either-twin, equal-twin, kinds-twin, part-twin, same-twin}
-use Rattle.check_answers.proofs.Members.{self-twins}
+use Rattle.check_words.specs.Words.{Atoms, asking, is_of, sem}
+use Rattle.check_answers.specs.TwinStates.{PartTwins}
+use Rattle.check_answers.specs.TwinTypes.{TwinAtoms}
+use Rattle.check_answers.proofs.Leading.{Any2, Leads, Pairs, leads-asking, leads-becomes, leads-either, leads-gives, leads-over, leads-some, leads-then, leads-unless}
+use Rattle.check_answers.proofs.Meanings.{either-twin, kinds-twin, part-twin, same-twin}
 use Rattle.check_answers.proofs.Naming.{names-alike}
-use Rattle.check_answers.proofs.Questions.{Before, Behind, D, Equal, W, before-atoms, before-behind, has-some-leads, is-below-leads, is-of-leads, kind-strict-leads, member-leads, settled-twins, some-leads, strict-leads}
+use Rattle.check_answers.proofs.Questions.{Before, Behind, D, Equal, W, before-atoms, has-some-leads, is-of-leads, kind-strict-leads, member-leads, settled-twins, some-leads, strict-leads}
 use Rattle.check_answers.proofs.SameTrees.{parts-same}
 use Rattle.check_answers.proofs.Setting.{with-accesses}
 use Rattle.check_answers.proofs.Storing.{stored-twin}
 use Rattle.check_answers.proofs.Values.{wants-some-weak}
-use Rattle.check_answers.proofs.Words.{At, makes-leads, part-leads, two-leads}
+use Rattle.check_answers.proofs.Words.{makes-leads, part-leads, two-leads}
 use Rattle.check_answers.proofs.Writing.{implied-type, implied-written}
 use Rattle.check_answers.proofs.Zips.{last-same}
 

@@ -1,19 +1,19 @@
 -- A type has the same shapes over atoms that are twins.
 use Rattle.std.proofs.Common.{◌≡◌, ◌≤◌, ◌+◌, ◌↔◌, ◌⊎◌, ℕ, List, [], ◌∷◌, length, All, IsTrue, Option, Some, None, IsSomeAnd, true, false, Bool, slice_get, sym, subst, ap, if◌then◌else◌}
 use Rattle.std.specs.List.{AllZip}
-use Rattle.std.proofs.lemmas.List.Elements.{All-cons, All-head, All-nil, All-tail}
+use Rattle.std.proofs.lemmas.List.Elements.{All-cons, All-head, All-tail}
 use Rattle.bal_base.specs.declared.text.Text.{Text}
 use Rattle.bal_base.specs.declared.shape.Shape.{Shape, Nil, Bool as BoolShape, Int, Str, List', Mapping', Error', Function, Future', Row_of-Shape, end_of-Shape, more_of-Shape, items-the_row-Shape as shapes_in, Row_of-Fields-items-2 as Row_of-Field, end_of-Fields-items-2 as end_of-Field, more_of-Fields-items-2 as more_of-Field, items-the_row-Fields-items-2 as fields_in}
 use Rattle.bal_base.specs.declared.shape.Case.{Held-Case-result, None', Some'}
 use Rattle.bal_base.specs.declared.shape.Graph.{Graph, Graph', Row_of-Case, end_of-Case, more_of-Case}
-use Rattle.bal_base.specs.Valid.{AreValid, CasesValid, FieldsValid, IsFrozen, IsValid, ResultValid}
+use Rattle.bal_base.specs.Valid.{AreValid, CasesValid, FieldsValid, IsValid, ResultValid}
 use Rattle.checks.specs.Agreement.{AreTwins}
 use Rattle.type_model.specs.declared.basic.SemType.{SemType, Basic, Atom, Or', And', Not'}
 use Rattle.type_model.specs.declared.basic.Ty.{Ty}
 use Rattle.type_model.specs.declared.atoms.FieldDef.{FieldDef}
 use Rattle.type_model.specs.declared.atoms.AtomDef.{AtomDef}
 use Rattle.type_model.specs.declared.atoms.AtomDef.TheVariants.{List as ListAtom, Mapping as MappingAtom, Arrow, Error as ErrorAtom, Future as FutureAtom}
-use Rattle.type_model.specs.Membership.{AllIn, CasesMap, EachIn, ErrorFits, Fits, FunctionFits, FutureFits, In, InBy, ListFits, Maps, MappingFits, MembersIn, ResultIn}
+use Rattle.type_model.specs.Membership.{AllIn, CasesMap, EachIn, ErrorFits, Fits, FunctionFits, FutureFits, In, ListFits, Maps, MappingFits, MembersIn, ResultIn}
 use Rattle.type_model.specs.Places.{HasKey, HasRequired, is_same_text, item_type, key_type, or_rest}
 use Rattle.type_model.proofs.Same.{both, either, itself, neither, where_so}
 use Rattle.check_words.specs.Sharing.{SameOption}

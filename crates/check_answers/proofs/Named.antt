@@ -1,10 +1,8 @@
 -- Names as values: two runs of each need agree.
 use Rattle.std.proofs.Common.{◌≡◌, ℕ, Bool, List, Option, None, Some, Result, Ok, Err, IfOk, find, refl, sym, subst, ap, ◌∙◌}
-use Rattle.std.specs.List.{AllZip}
 use Rattle.bal_base.specs.declared.fault.FaultCode.{FaultCode}
 use Rattle.bal_base.specs.declared.fault.FaultCode.TheVariants.{Arity, NameAsValue, Unknown}
 use Rattle.bal_base.specs.declared.place.Place.{Place}
-use Rattle.bal_base.specs.declared.shape.Shape.{Shape}
 use Rattle.bal_base.specs.declared.text.Name.{Name}
 use Rattle.bal_tree.specs.declared.name.Prefix.{Prefix}
 use Rattle.bal_tree.specs.declared.name.Prefix.TheVariants.{Int as IntPrefix, Word as WordPrefix}
@@ -27,34 +25,33 @@ use Rattle.operations.specs.Rows.{shape_of}
 use Rattle.type_model.specs.declared.answers.Keys.TheVariants.{Results}
 use Rattle.type_model.specs.declared.answers.TypeLimit.{TypeLimit}
 use Rattle.type_model.specs.declared.atoms.AtomDef.{AtomDef}
-use Rattle.type_model.specs.declared.basic.SemType.{Atom, SemType}
+use Rattle.type_model.specs.declared.basic.SemType.{Atom}
 use Rattle.type_model.specs.declared.basic.Ty.{Ty}
 use Rattle.type_model.specs.Calls.{Asked}
 use Rattle.type_model.specs.Inclusion.{HasExactly}
 use Rattle.typed_tree.specs.declared.form.StrictForm.TheVariants as form
-use Rattle.typed_tree.specs.SharedTypes.{Shared, sem_of}
 use Rattle.expr_needs.specs.declared.kind.Kind.{Kind}
 use Rattle.expr_needs.specs.declared.kind.Kind.TheVariants as kind
 use Rattle.check_words.specs.Actions.{awaits, awaits_by, awaits_future}
-use Rattle.check_words.specs.Calls.{calls, calls_function, calls_library, calls_meaning, calls_named, calls_seen, calls_seen_value, calls_value, function_takes}
+use Rattle.check_words.specs.Calls.{calls_function, calls_meaning, calls_named, calls_seen, calls_seen_value, calls_value, function_takes}
 use Rattle.check_words.specs.Library.{LibraryRow, functions_of_int, functions_of_io, is_named}
 use Rattle.check_words.specs.Seen.{Seen, SeenConstant, SeenLibrary, SeenMeaning, SeenNothing, SeenVariable, SeenWorker, as_seen, constant_of_int, from_source, in_library, looks_up, or_function, seen_as, seen_behind, variable_or, worker_named, worker_or}
-use Rattle.check_words.specs.State.{Called, OfFunction, OfValue, Site, State, find_variable}
+use Rattle.check_words.specs.State.{OfFunction, Site, State, find_variable}
 use Rattle.check_words.specs.Values.{constant_in, gives_meaning, gives_named, gives_seen}
-use Rattle.check_words.specs.Words.{Atoms, Step, is_of, last_part, sem}
+use Rattle.check_words.specs.Words.{Atoms, is_of, sem}
 use Rattle.check_answers.specs.Answers.{HaveValues, IsMeaningValued}
 use Rattle.check_answers.specs.Pieces.{DoesForm}
-use Rattle.check_answers.specs.TwinStates.{CalledTwins, PartTwins, SharedTwins, SiteTwins, UnitTwins, VariableTwins}
-use Rattle.check_answers.specs.TwinTypes.{TwinAtoms, TwinTypes}
+use Rattle.check_answers.specs.TwinStates.{SharedTwins, SiteTwins, VariableTwins}
+use Rattle.check_answers.specs.TwinTypes.{TwinAtoms}
 use Rattle.check_answers.proofs.Actions.{result-leads, site-leads}
 use Rattle.check_answers.proofs.Calls.{calls-leads, calls-library-leads}
-use Rattle.check_answers.proofs.Leading.{Any2, Leads, Pairs, leads-either, leads-fails, leads-from, leads-over, leads-some, leads-then, leads-unless}
+use Rattle.check_answers.proofs.Leading.{Any2, Leads, Pairs, leads-either, leads-fails, leads-over, leads-some, leads-then, leads-unless}
 use Rattle.check_answers.proofs.Meanings.{copies-twin, either-twin, equal-twin, itself-twin}
 use Rattle.check_answers.proofs.Members.{self-twins}
-use Rattle.check_answers.proofs.Questions.{Before, Behind, D, Equal, W, before-atoms, before-behind, member-leads, of-kind-leads, stays, strict-leads}
+use Rattle.check_answers.proofs.Questions.{Before, Behind, D, Equal, W, before-atoms, member-leads, of-kind-leads, stays, strict-leads}
 use Rattle.check_answers.proofs.Seeing.{SeenTwins, seen-twins}
 use Rattle.check_answers.proofs.Values.{constant-leads, variable-leads, wants-weak}
-use Rattle.check_answers.proofs.Words.{At, at-atoms, opens-call-leads, part-leads, unit-leads, wants-some-leads}
+use Rattle.check_answers.proofs.Words.{at-atoms, opens-call-leads, part-leads, unit-leads, wants-some-leads}
 
 -- ---- what is seen has a value
 

@@ -1,15 +1,13 @@
 -- Which members a key of a type names, in two runs.
-use Rattle.std.proofs.Common.{◌≡◌, ◌⊎◌, ℕ, List, inl, inr, refl, sym, subst, ap, ◌∙◌, pos}
+use Rattle.std.proofs.Common.{◌≡◌, ℕ, List, inl, inr, refl, sym, ap, ◌∙◌, pos}
 use Rattle.bal_base.specs.declared.place.Place.{Place}
 use Rattle.bal_base.specs.declared.shape.Shape.{Int, Shape, Str}
 use Rattle.bal_base.specs.declared.text.Text.{Text}
-use Rattle.bal_base.specs.Valid.{IsValid}
 use Rattle.checks.specs.Agreement.{Alike, AreTwins, BothKeep, IsLimit}
 use Rattle.checks.specs.Checks.{Gives, Refuses}
 use Rattle.bal_base.specs.declared.fault.Fault.{Fault}
-use Rattle.operations.specs.Rows.{IsSingle}
 use Rattle.type_model.specs.declared.answers.Keys.{Keys}
-use Rattle.type_model.specs.declared.answers.Keys.TheVariants.{AnyField, AnyIndex, Field, Index}
+use Rattle.type_model.specs.declared.answers.Keys.TheVariants.{Field, Index}
 use Rattle.type_model.specs.declared.answers.TypeLimit.{TypeLimit}
 use Rattle.type_model.specs.declared.atoms.AtomDef.{AtomDef}
 use Rattle.type_model.specs.declared.basic.SemType.{SemType}

@@ -1,5 +1,5 @@
 -- Waits for several, and parameters that take the rest, which add an atom: two runs of each need agree.
-use Rattle.std.proofs.Common.{◌≡◌, ◌++◌, ◌+◌, ℕ, suc, false, List, [], ◌∷◌, length, map, Option, Some, None, refl, sym, subst, ap, ◌∙◌}
+use Rattle.std.proofs.Common.{◌≡◌, ◌++◌, ℕ, suc, false, List, [], ◌∷◌, length, map, Option, Some, refl, sym, subst, ap, ◌∙◌}
 use Rattle.std.specs.List.{AllZip}
 use Rattle.bal_base.specs.declared.place.Place.{Place}
 use Rattle.bal_base.specs.declared.text.Name.{Name}
@@ -9,7 +9,7 @@ use Rattle.bal_tree.specs.declared.name.Word.{Word}
 use Rattle.checks.specs.Checks.{◌▷◌}
 use Rattle.descriptors.specs.Described.{IsCopy, choice_of, list_of, plain}
 use Rattle.type_model.specs.declared.atoms.AtomDef.{AtomDef}
-use Rattle.type_model.specs.declared.atoms.AtomDef.TheVariants.{List as ListAtom, Mapping as MappingAtom}
+use Rattle.type_model.specs.declared.atoms.AtomDef.TheVariants.{List as ListAtom}
 use Rattle.type_model.specs.declared.basic.SemType.{Atom}
 use Rattle.type_model.specs.declared.basic.Ty.{Ty}
 use Rattle.type_model.specs.Defined.{IsClosed}
@@ -17,9 +17,8 @@ use Rattle.typed_tree.specs.declared.form.StrictForm.TheVariants as form
 use Rattle.typed_tree.specs.SharedTypes.{Shared}
 use Rattle.check_words.specs.Actions.{IsOfAll, awaited, futures, waits_for_all}
 use Rattle.check_words.specs.Calls.{has_rest, parameter, with_rest}
-use Rattle.check_words.specs.Constructors.{fields_with}
 use Rattle.check_words.specs.Seen.{worker_named}
-use Rattle.check_words.specs.State.{State, UnitAtWork, with_variable}
+use Rattle.check_words.specs.State.{UnitAtWork}
 use Rattle.check_words.specs.Words.{Atoms, Step, makes_strict, sets_unit, some_over, unit_now}
 use Rattle.check_answers.specs.Answers.{TwinsOver}
 use Rattle.check_answers.specs.Pieces.{DoesForm}

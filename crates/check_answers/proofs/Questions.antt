@@ -1,6 +1,5 @@
 -- Questions about types of two runs, and parts that are made.
-use Rattle.std.proofs.Common.{◌≡◌, ℕ, Bool, List, [], Option, None, Some, refl, sym, subst, ◌∙◌}
-use Rattle.std.specs.List.{AllZip}
+use Rattle.std.proofs.Common.{◌≡◌, ℕ, List, Option, None, Some, sym, subst}
 use Rattle.bal_base.specs.declared.place.Place.{Place}
 use Rattle.checks.specs.Agreement.{AreTwins}
 use Rattle.checks.specs.Checks.{Check}
@@ -14,11 +13,11 @@ use Rattle.type_model.specs.declared.basic.Ty.{Ty}
 use Rattle.type_model.specs.Calls.{Asked}
 use Rattle.typed_tree.specs.declared.expr.TypedExpr.{TypedExpr}
 use Rattle.typed_tree.specs.declared.form.StrictForm.{StrictForm}
-use Rattle.typed_tree.specs.SharedTypes.{Shared, sem_of}
+use Rattle.typed_tree.specs.SharedTypes.{Shared}
 use Rattle.expr_needs.specs.declared.kind.Kind.{Kind}
-use Rattle.check_words.specs.Sharing.{SameOption, SameShared}
+use Rattle.check_words.specs.Sharing.{SameOption}
 use Rattle.check_words.specs.State.{State}
-use Rattle.check_words.specs.Words.{Atoms, OfKind, Step, asking, below_if, is_of, is_wanted, is_within, makes_strict, makes_typed, some_over, whether_some, whether_within}
+use Rattle.check_words.specs.Words.{Atoms, OfKind, asking, below_if, is_of, is_wanted, is_within, makes_strict, makes_typed, whether_some, whether_within}
 use Rattle.check_answers.specs.Pieces.{SamePieces, form_pieces}
 use Rattle.check_answers.specs.TwinStates.{PartTwins, SharedTwins}
 use Rattle.check_answers.specs.TwinTypes.{SettledTwins, TwinTypes}

@@ -23,7 +23,7 @@ use Rattle.check_words.specs.Seen.{Seen, SeenConstant, SeenLibrary, SeenMeaning,
 use Rattle.check_words.specs.Sharing.{SameOption}
 use Rattle.check_words.specs.State.{Site, State, find_variable, shared_now}
 use Rattle.check_words.specs.Words.{Atoms}
-use Rattle.check_answers.specs.TwinStates.{FlowTwins, SharedTwins, SiteTwins, VariableTwins}
+use Rattle.check_answers.specs.TwinStates.{SharedTwins, SiteTwins, VariableTwins}
 use Rattle.check_answers.proofs.Leading.{Leads, Pairs, leads-some, leads-then}
 use Rattle.check_answers.proofs.Words.{At, unit-leads}
 

@@ -1,5 +1,5 @@
 -- Where all types name only atoms that are there, what corresponds stays so where atoms are added.
-use Rattle.std.proofs.Common.{◌≡◌, ℕ, List, [], ◌∷◌, length, All, IfOk, IfSome, Option, None, Some, Result, Ok, Err}
+use Rattle.std.proofs.Common.{ℕ, List, [], ◌∷◌, length, All, IfOk, IfSome, Option, None, Some, Result, Ok, Err}
 use Rattle.std.specs.List.{AllZip}
 use Rattle.std.proofs.lemmas.List.Elements.{All-head, All-tail}
 use Rattle.bal_base.specs.declared.fault.Fault.{Fault}

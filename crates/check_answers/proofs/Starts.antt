@@ -1,5 +1,5 @@
 -- Calls that are started: two runs of the need agree.
-use Rattle.std.proofs.Common.{◌≡◌, ◌++◌, ◌+◌, ◌<◌, ◌≤◌, ℕ, suc, List, [], ◌∷◌, All, length, length-append, Option, Some, None, IfSome, arith, inl, inr, refl, sym, subst, ap, ◌∙◌}
+use Rattle.std.proofs.Common.{◌≡◌, ◌++◌, ◌<◌, ℕ, suc, List, [], ◌∷◌, All, length, length-append, Option, Some, None, arith, inl, inr, refl, sym, subst, ◌∙◌}
 use Rattle.std.specs.List.{AllZip}
 use Rattle.std.proofs.lemmas.List.Elements.{All-append, All-cons, All-nil, All-weaker}
 use Rattle.bal_base.specs.declared.place.Place.{Place}
@@ -11,7 +11,7 @@ use Rattle.descriptors.specs.declared.names.Signature.{Signature}
 use Rattle.descriptors.specs.Described.{IsCopy, plain}
 use Rattle.type_model.specs.declared.answers.TypeLimit.{TypeLimit}
 use Rattle.type_model.specs.declared.atoms.AtomDef.{AtomDef}
-use Rattle.type_model.specs.declared.atoms.AtomDef.TheVariants.{Future as FutureAtom, List as ListAtom}
+use Rattle.type_model.specs.declared.atoms.AtomDef.TheVariants.{List as ListAtom}
 use Rattle.type_model.specs.declared.basic.SemType.{Atom, SemType}
 use Rattle.type_model.specs.declared.basic.Ty.{Ty}
 use Rattle.type_model.specs.Calls.{Asked}
@@ -23,11 +23,11 @@ use Rattle.typed_tree.specs.declared.form.Callee.TheVariants as callee
 use Rattle.typed_tree.specs.declared.form.StrictForm.TheVariants as form
 use Rattle.typed_tree.specs.Exprs.{type_of}
 use Rattle.check_words.specs.Calls.{AreTypesOf, IsFutureAtom, applies_to, callee_unit, starts, starts_of}
-use Rattle.check_words.specs.State.{CallAtWork, Called, OfFunction, OfLibrary, OfValue, State}
+use Rattle.check_words.specs.State.{Called, OfFunction, OfLibrary, OfValue, State}
 use Rattle.check_words.specs.Words.{Atoms, Step, asking, makes_strict, sem}
 use Rattle.check_answers.specs.Answers.{TwinsOver}
-use Rattle.check_answers.specs.TwinStates.{CallTwins, CalledTwins, PartTwins, StateTwins}
-use Rattle.check_answers.specs.TwinTypes.{SettledTwins, TwinAtoms, TwinDefs, TwinTypes}
+use Rattle.check_answers.specs.TwinStates.{CallTwins, CalledTwins, PartTwins}
+use Rattle.check_answers.specs.TwinTypes.{SettledTwins, TwinAtoms, TwinDefs}
 use Rattle.check_answers.proofs.Adding.{adds-leads, atoms-later, grown-ends, Grown}
 use Rattle.check_answers.proofs.CallsMade.{arguments-same, ending}
 use Rattle.check_answers.proofs.Growing.{sem-later, settled-later}
@@ -36,7 +36,7 @@ use Rattle.check_answers.proofs.Made.{group, same-atom}
 use Rattle.check_answers.proofs.Mapping.{state-map}
 use Rattle.check_answers.proofs.Meanings.{equal-twin, sem-copies}
 use Rattle.check_answers.proofs.MemberReads.{plain-twins}
-use Rattle.check_answers.proofs.Questions.{Before, Behind, D, Equal, before-atoms, strict-leads}
+use Rattle.check_answers.proofs.Questions.{Before, D, Equal, before-atoms, strict-leads}
 use Rattle.check_answers.proofs.Setting.{with-atoms}
 use Rattle.check_answers.proofs.Words.{closes-call-leads, parts-leads}
 use Rattle.check_answers.proofs.Zips.{zip-long}

@@ -1,13 +1,10 @@
 -- Statements: two runs of each need agree, but for branches and loops.
-use Rattle.std.proofs.Common.{◌≡◌, ◌++◌, ℕ, Bool, true, false, List, [], ◌∷◌, length, Option, Some, None, is_some, refl, sym, subst, ap, ◌∙◌}
+use Rattle.std.proofs.Common.{◌≡◌, ◌++◌, ℕ, Bool, List, [], ◌∷◌, length, Some, None, refl, sym, subst, ap, ◌∙◌}
 use Rattle.std.specs.List.{AllZip}
 use Rattle.bal_base.specs.declared.fault.FaultCode.TheVariants.{AssignFinal, Ignored, NameAsValue, Unknown}
 use Rattle.bal_base.specs.declared.place.Place.{Place}
 use Rattle.bal_base.specs.declared.text.Name.{Name}
 use Rattle.bal_tree.specs.declared.name.QualifiedName.{QualifiedName}
-use Rattle.bal_tree.specs.declared.name.Word.{Word}
-use Rattle.bal_tree.specs.declared.stmt.AssignOp.{AssignOp}
-use Rattle.bal_tree.specs.declared.stmt.AssignOp.TheVariants.{Add, Divide, Multiply, Set, Subtract}
 use Rattle.checks.specs.Checks.{gives_some}
 use Rattle.descriptors.specs.declared.names.Meaning.{Meaning}
 use Rattle.descriptors.specs.declared.names.Meaning.TheVariants as meaning
@@ -20,31 +17,28 @@ use Rattle.type_model.specs.declared.atoms.AtomDef.{AtomDef}
 use Rattle.type_model.specs.declared.basic.Ty.{Ty}
 use Rattle.type_model.specs.Calls.{Asked}
 use Rattle.typed_tree.specs.declared.expr.TypedExpr.{TypedExpr}
-use Rattle.typed_tree.specs.declared.form.Operator.{Operator}
 use Rattle.typed_tree.specs.declared.stmt.PerformForm.{PerformForm}
 use Rattle.typed_tree.specs.declared.stmt.PerformForm.TheVariants as perform
 use Rattle.typed_tree.specs.declared.stmt.TypedStmt.{TypedStmt}
-use Rattle.typed_tree.specs.Exprs.{type_of}
-use Rattle.typed_tree.specs.Listed.{Listed, joined}
-use Rattle.typed_tree.specs.SharedTypes.{Shared, sem_of}
+use Rattle.typed_tree.specs.Listed.{Listed}
+use Rattle.typed_tree.specs.SharedTypes.{Shared}
 use Rattle.expr_needs.specs.declared.kind.Kind.TheVariants as kind
 use Rattle.check_words.specs.declared.access.Access.{Access}
 use Rattle.check_words.specs.declared.access.Access.TheVariants.{Char, Item, Key}
-use Rattle.check_words.specs.Seen.{Seen, SeenConstant, SeenLibrary, SeenMeaning, SeenNothing, SeenVariable, SeenWorker, looks_up}
-use Rattle.check_words.specs.Sharing.{SameOption}
-use Rattle.check_words.specs.State.{BlockAtWork, State, all_but, outside, replaced, shared_now, stopped, with_type, with_variable}
+use Rattle.check_words.specs.Seen.{Seen, SeenMeaning}
+use Rattle.check_words.specs.State.{BlockAtWork, outside, shared_now, with_variable}
 use Rattle.check_words.specs.Statements.{Assigned, AssignsModule, AssignsVariable, IsAssigned, adds_stmt, assigned_by, assigns, assigns_to, begins_block, breaks, closes_block, continues, declares, ends_block, is_assignable, is_ignorable, last_block, local_variable, makes_block, meaning_assignable, nil_is_result, performs, reads_assigned, reads_name, returns, returns_nil, seen_assignable, stops, store_form, stores, takes_part, takes_want, variable_assignable}
-use Rattle.check_words.specs.StmtViews.{IsBlock, IsBreak, IsContinue, IsPerform, IsReturn, IsReturnNil, IsSet}
+use Rattle.check_words.specs.StmtViews.{IsBlock, IsPerform, IsSet}
 use Rattle.check_words.specs.Words.{Atoms, changes_flow, sem, wants_some}
 use Rattle.check_answers.specs.Pieces as say
 use Rattle.check_answers.specs.Pieces.{Piece, SamePieces, expr_pieces, stmt_pieces, stmts_pieces}
 use Rattle.check_answers.specs.TwinStates.{BlockTwins, FlowTwins, PartTwins, SharedTwins, StmtTwins, VariableTwins}
 use Rattle.check_answers.specs.TwinTypes.{TwinAtoms, TwinTypes}
-use Rattle.check_answers.proofs.Leading.{Any2, Leads, Pairs, leads-becomes, leads-either, leads-fails, leads-from, leads-gives, leads-nothing, leads-over, leads-some, leads-then, leads-unless}
+use Rattle.check_answers.proofs.Leading.{Any2, Leads, Pairs, leads-becomes, leads-either, leads-fails, leads-gives, leads-nothing, leads-over, leads-some, leads-then, leads-unless}
 use Rattle.check_answers.proofs.Meanings.{copies-twin, itself-twin, kinds-twin}
 use Rattle.check_answers.proofs.MemberReads.{takes-access-leads}
 use Rattle.check_answers.proofs.Narrowing.{flow-retyped-at}
-use Rattle.check_answers.proofs.Questions.{Before, Behind, D, Equal, W, before-atoms, before-behind, below-leads, stays, whether-kind-leads}
+use Rattle.check_answers.proofs.Questions.{Before, Behind, D, Equal, before-atoms, below-leads, whether-kind-leads}
 use Rattle.check_answers.proofs.SameTrees.{joined-same, whole-same}
 use Rattle.check_answers.proofs.Seeing.{SeenTwins, by-seen, looks-up-leads, now-twins}
 use Rattle.check_answers.proofs.Setting.{with-blocks}

@@ -1,6 +1,5 @@
 -- What is written of each statement.
-use Rattle.std.proofs.Common.{◌≡◌, ℕ, List, map, Some, None, rules, sym, ap, ◌∙◌}
-use Rattle.std.specs.Global.{Box, Vec}
+use Rattle.std.proofs.Common.{◌≡◌, ℕ, List, map, rules}
 use Rattle.bal_base.specs.declared.place.Place.{Place}
 use Rattle.typed_tree.specs.declared.expr.TypedExpr.{TypedExpr}
 use Rattle.typed_tree.specs.declared.form.Operator.{Operator}

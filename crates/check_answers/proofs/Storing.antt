@@ -1,8 +1,7 @@
 -- The types of members that are stored, in two runs.
-use Rattle.std.proofs.Common.{◌≡◌, ◌⊎◌, ◌++◌, ℕ, List, [], ◌∷◌, All, Option, None, Some, map, option_to_list, slice_get, inl, inr, refl, sym, subst, ap, ◌∙◌}
+use Rattle.std.proofs.Common.{◌≡◌, ◌++◌, List, [], ◌∷◌, All, Option, None, Some, map, option_to_list, inl, inr, sym, subst, ap, ◌∙◌}
 use Rattle.std.specs.List.{AllZip}
 use Rattle.std.proofs.lemmas.List.Elements.{All-cons, All-head, All-nil, All-tail}
-use Rattle.bal_base.specs.declared.text.Text.{Text}
 use Rattle.checks.specs.Agreement.{AreTwins}
 use Rattle.type_model.specs.declared.answers.Keys.{Keys}
 use Rattle.type_model.specs.declared.answers.Keys.TheVariants.{AnyField, AnyIndex, Field, Index, Results}
@@ -12,7 +11,6 @@ use Rattle.type_model.specs.declared.atoms.FieldDef.{FieldDef}
 use Rattle.type_model.specs.declared.basic.Choice.{Choice}
 use Rattle.type_model.specs.declared.basic.SemType.{SemType}
 use Rattle.type_model.specs.declared.basic.Ty.{Ty}
-use Rattle.type_model.specs.Places.{key_type}
 use Rattle.check_words.specs.Members.{AreChoicesOf, AreOfAtom, AreShared, AreStored, HasChoices, IsStored, all_named, named_member, other_members}
 use Rattle.check_words.specs.Sharing.{SameOption}
 use Rattle.check_words.specs.Words.{Atoms}

@@ -1,5 +1,5 @@
 -- Tests, checks and names: two runs of each need agree.
-use Rattle.std.proofs.Common.{◌≡◌, false, List, Option, None, Some, refl, sym, subst}
+use Rattle.std.proofs.Common.{false, List, Option, None, Some, refl}
 use Rattle.bal_base.specs.declared.place.Place.{Place}
 use Rattle.bal_base.specs.declared.text.Name.{Name}
 use Rattle.bal_tree.specs.declared.name.QualifiedName.{QualifiedName}
@@ -22,7 +22,7 @@ use Rattle.check_answers.specs.TwinTypes.{TwinTypes}
 use Rattle.check_answers.proofs.Leading.{Any2, Leads, Pairs, leads-gives, leads-over, leads-then}
 use Rattle.check_answers.proofs.Mapping.{flow-map}
 use Rattle.check_answers.proofs.Meanings.{part-twin}
-use Rattle.check_answers.proofs.Narrowing.{flow-retyped, flow-retyped-at, narrows-leads}
+use Rattle.check_answers.proofs.Narrowing.{flow-retyped, narrows-leads}
 use Rattle.check_answers.proofs.Questions.{Before, Behind, D, W, before-atoms, below-leads, kind-strict-leads, settled-twins}
 use Rattle.check_answers.proofs.Seeing.{named-found, now-twins}
 use Rattle.check_answers.proofs.Values.{checked-leads, drops-want-leads}

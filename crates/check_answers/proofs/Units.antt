@@ -1,20 +1,13 @@
 -- Workers, functions, variables of modules and packages: two runs of each need agree.
 use Rattle.std.proofs.Common.{◌≡◌, ◌||◌, ◌++◌, ℕ, suc, Bool, true, false, List, [], ◌∷◌, length, map, pred, slice_get, take, Option, None, Some, refl, sym, subst, ap, ◌∙◌}
 use Rattle.std.specs.List.{AllZip, list_any}
-use Rattle.std.specs.Global.{Box, Vec}
 use Rattle.bal_base.specs.declared.fault.FaultCode.TheVariants.{Duplicate, MissingReturn}
 use Rattle.bal_base.specs.declared.place.Place.{Place}
 use Rattle.bal_base.specs.declared.text.Name.{Name}
 use Rattle.bal_tree.specs.declared.def.FunctionDef.{FunctionDef}
-use Rattle.bal_tree.specs.declared.def.VariableDef.{VariableDef}
 use Rattle.bal_tree.specs.declared.def.Worker.{Worker}
 use Rattle.bal_tree.specs.declared.name.Word.{Word}
-use Rattle.checks.specs.Checks.{gives_some, ◌▷◌}
-use Rattle.descriptors.specs.declared.names.Names.{Names}
 use Rattle.descriptors.specs.declared.names.Scope.{Scope}
-use Rattle.descriptors.specs.Described.{IsCopy}
-use Rattle.descriptors.specs.Naming.{entry_in}
-use Rattle.flow_narrowing.specs.declared.flow.Flow.{Flow}
 use Rattle.flow_narrowing.specs.declared.flow.Variable.{Variable}
 use Rattle.type_model.specs.declared.answers.TypeLimit.{TypeLimit}
 use Rattle.type_model.specs.declared.atoms.AtomDef.{AtomDef}
@@ -22,39 +15,35 @@ use Rattle.type_model.specs.declared.basic.Ty.{Ty}
 use Rattle.type_model.specs.Calls.{Asked}
 use Rattle.type_model.specs.Places.{is_same_text}
 use Rattle.typed_tree.specs.declared.expr.TypedExpr.{TypedExpr}
-use Rattle.typed_tree.specs.declared.package.Initial.{Initial}
 use Rattle.typed_tree.specs.declared.package.Initialiser.{Initialiser}
-use Rattle.typed_tree.specs.declared.package.ModuleVariable.{ModuleVariable}
 use Rattle.typed_tree.specs.declared.stmt.TypedStmt.{TypedStmt}
-use Rattle.typed_tree.specs.declared.unit.Captured.{Captured}
 use Rattle.typed_tree.specs.declared.unit.TypedBody.{TypedBody}
-use Rattle.typed_tree.specs.declared.unit.TypedBody.TheVariants as typed
 use Rattle.typed_tree.specs.declared.unit.TypedFunction.{TypedFunction}
 use Rattle.typed_tree.specs.declared.unit.TypedUnit.{TypedUnit}
 use Rattle.typed_tree.specs.declared.unit.TypedWorker.{TypedWorker}
 use Rattle.typed_tree.specs.Listed.{Listed, ◌&◌, joined}
 use Rattle.typed_tree.specs.SharedTypes.{Shared, sem_of}
 use Rattle.expr_needs.specs.declared.kind.Kind.TheVariants as kind
-use Rattle.check_words.specs.Calls.{Capture, captured_as, captures, parameter, typed_unit}
+use Rattle.check_words.specs.Calls.{Capture, parameter, typed_unit}
 use Rattle.check_words.specs.Sharing.{SameOption}
-use Rattle.check_words.specs.State.{BlockAtWork, Done, InitialiserAtWork, Site, State, UnitAtWork, with_variable}
-use Rattle.check_words.specs.Units.{IsBlockBody, IsFunctionOf, IsInitial, IsInitialiser, IsModuleVariable, IsValueBody, adds_function, begins_worker, changes_done, changes_site, ends_by, ends_function, ends_module, ends_value_function, ends_worker, enters_file, in_worker, is_worker_new, keeps_initialiser, names_parameter, outside_functions, sets_initialiser, typed_worker, worker_unit}
+use Rattle.check_words.specs.State.{BlockAtWork, Done, InitialiserAtWork, Site, UnitAtWork}
+use Rattle.check_words.specs.Units.{IsBlockBody, IsFunctionOf, IsInitialiser, IsValueBody, adds_function, begins_worker, changes_done, changes_site, ends_by, ends_function, ends_module, ends_value_function, ends_worker, enters_file, in_worker, is_worker_new, keeps_initialiser, names_parameter, outside_functions, sets_initialiser, typed_worker, worker_unit}
 use Rattle.check_words.specs.Words.{Atoms}
 use Rattle.check_answers.specs.Pieces as say
 use Rattle.check_answers.specs.Pieces.{Piece, SamePieces, all_captured, body_pieces, captured_pieces, expr_pieces, function_pieces, initial_pieces, initialiser_pieces, of_type, of_types, says, stmts_pieces, unit_pieces, worker_pieces}
-use Rattle.check_answers.specs.TwinStates.{BlockTwins, CapturedTwins, DoneTwins, FlowTwins, InitialiserTwins, PartTwins, SharedTwins, SiteTwins, StmtTwins, UnitTwins, VariableTwins}
+use Rattle.check_answers.specs.TwinStates.{BlockTwins, DoneTwins, InitialiserTwins, PartTwins, SharedTwins, SiteTwins, UnitTwins, VariableTwins}
 use Rattle.check_answers.specs.TwinTypes.{TwinTypes}
 use Rattle.check_answers.proofs.Actions.{result-leads, site-leads}
 use Rattle.check_answers.proofs.Calls.{all-as-captured, captures-same, closes-unit-leads, new-leads, number-leads, opens-unit-leads}
 use Rattle.check_answers.proofs.Leading.{Any2, Leads, Pairs, leads-becomes, leads-done, leads-either, leads-fails, leads-over, leads-some, leads-then, leads-unless}
 use Rattle.check_answers.proofs.Meanings.{kinds-twin}
-use Rattle.check_answers.proofs.Questions.{Before, Behind, D, Equal, W, before-atoms, is-below-leads}
+use Rattle.check_answers.proofs.Questions.{Before, D, Equal, before-atoms, is-below-leads}
 use Rattle.check_answers.proofs.SameTrees.{joined-same, whole-same}
 use Rattle.check_answers.proofs.Setting.{with-done, with-initialiser, with-site}
 use Rattle.check_answers.proofs.Statements.{closes-block-leads, pieces-equal, stmts-same, takes-part-leads, with-variable-same}
 use Rattle.check_answers.proofs.Values.{drops-want-leads}
 use Rattle.check_answers.proofs.Words.{changes-flow-leads, unit-leads}
-use Rattle.check_answers.proofs.Zips.{zip-get, zip-long, zip-map, zip-one}
+use Rattle.check_answers.proofs.Zips.{zip-get, zip-long, zip-one}
 
 module _ (m n : Atoms) where
   abbrev B : Pairs

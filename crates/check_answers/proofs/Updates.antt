@@ -1,5 +1,5 @@
 -- Assignments with an operator: two runs of each need agree.
-use Rattle.std.proofs.Common.{◌≡◌, ℕ, Bool, true, false, List, [], ◌∷◌, Option, None, Some, is_some, refl, sym, subst, ap, ◌∙◌}
+use Rattle.std.proofs.Common.{◌≡◌, ℕ, Bool, true, List, [], ◌∷◌, None, Some, is_some, refl, sym, subst, ap, ◌∙◌}
 use Rattle.std.specs.List.{AllZip}
 use Rattle.bal_base.specs.declared.place.Place.{Place}
 use Rattle.bal_tree.specs.declared.name.QualifiedName.{QualifiedName}
@@ -29,12 +29,12 @@ use Rattle.check_words.specs.Values.{operator_of, sort_kind}
 use Rattle.check_words.specs.Words.{Atoms, OfKind, wants_some}
 use Rattle.check_answers.specs.Pieces as say
 use Rattle.check_answers.specs.Pieces.{SamePieces, expr_pieces, of_type, says, target_pieces}
-use Rattle.check_answers.specs.TwinStates.{PartTwins, SharedTwins, StmtTwins, VariableTwins}
+use Rattle.check_answers.specs.TwinStates.{PartTwins, SharedTwins, StmtTwins}
 use Rattle.check_answers.proofs.Leading.{Any2, Leads, Pairs, leads-done, leads-either, leads-gives, leads-some, leads-then}
 use Rattle.check_answers.proofs.Meanings.{kinds-twin}
 use Rattle.check_answers.proofs.MemberReads.{takes-access-leads}
 use Rattle.check_answers.proofs.Narrowing.{flow-retyped-at}
-use Rattle.check_answers.proofs.Questions.{Before, Behind, D, Equal, W, before-atoms, below-leads, of-kind-leads, whether-kind-leads}
+use Rattle.check_answers.proofs.Questions.{Before, Behind, D, Equal, before-atoms, below-leads, of-kind-leads, whether-kind-leads}
 use Rattle.check_answers.proofs.SameTrees.{whole-same}
 use Rattle.check_answers.proofs.Seeing.{narrowed-both}
 use Rattle.check_answers.proofs.Statements.{AssignedTwins, adds-stmt-leads, assigned-leads, pieces-equal, takes-part-leads, takes-want-leads}

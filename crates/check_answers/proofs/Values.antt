@@ -1,12 +1,9 @@
 -- Names, literals, operators and conditions: two runs of each need agree.
-use Rattle.std.proofs.Common.{◌≡◌, ◌&&◌, ◌⊎◌, ℕ, length, Bool, true, false, not, List, [], ◌∷◌, ◌++◌, is_some, Option, None, Some, inl, inr, refl, sym, subst, ap, ◌∙◌}
+use Rattle.std.proofs.Common.{◌≡◌, ◌&&◌, ◌⊎◌, ℕ, length, Bool, true, false, not, List, [], ◌∷◌, ◌++◌, is_some, Option, None, Some, refl, sym, subst, ap, ◌∙◌}
 use Rattle.std.specs.List.{AllZip}
-use Rattle.bal_base.specs.declared.fault.FaultCode.TheVariants.{Captured, NameAsValue, Unknown}
+use Rattle.bal_base.specs.declared.fault.FaultCode.TheVariants.{Captured}
 use Rattle.bal_base.specs.declared.place.Place.{Place}
-use Rattle.bal_base.specs.declared.shape.Shape.{Shape}
-use Rattle.bal_base.specs.declared.text.Name.{Name}
 use Rattle.bal_tree.specs.declared.name.Literal.{Literal}
-use Rattle.bal_tree.specs.declared.name.QualifiedName.{QualifiedName}
 use Rattle.checks.specs.Agreement.{AreTwins}
 use Rattle.descriptors.specs.Described.{IsPlain}
 use Rattle.flow_narrowing.specs.declared.flow.Flow.{Flow}
@@ -26,30 +23,28 @@ use Rattle.typed_tree.specs.declared.form.StrictForm.TheVariants as form
 use Rattle.typed_tree.specs.Exprs.{type_of}
 use Rattle.typed_tree.specs.SharedTypes.{Shared, sem_of}
 use Rattle.typed_tree.specs.Listed.{Listed}
-use Rattle.typed_tree.specs.Views.{IsAnd, IsCheck, IsConditional, IsElvis, IsLocal, IsOr, IsParens, IsStrict, IsTrap}
+use Rattle.typed_tree.specs.Views.{IsAnd, IsCheck, IsConditional, IsElvis, IsLocal, IsOr, IsParens, IsStrict}
 use Rattle.expr_needs.specs.declared.kind.Kind.{Kind}
 use Rattle.expr_needs.specs.declared.kind.Kind.TheVariants as kind
-use Rattle.check_words.specs.Kinds.{IsOfKind}
 use Rattle.check_words.specs.Sharing.{SameOption, SameShared}
-use Rattle.check_words.specs.State.{ChoiceAtWork, IsLast, State, Ways, all_but, shared_now, with_type}
-use Rattle.check_words.specs.Values.{SingleOf, adds_up, casts, checked, chooses, compares, conjoins, constant_of, decided, decides, disjoins, drops_want, encloses, fills_nil, forms, gives_constant, gives_literal, gives_variable, is_of_sort, last_sort, operator_of, sort_kind, sorts, splits, switches, takes_sort, traps, turns, uses, wants_beside_error, wants_error_too, wants_result, way_of, widened, widens, widens_to}
+use Rattle.check_words.specs.State.{State, Ways, all_but, shared_now}
+use Rattle.check_words.specs.Values.{adds_up, casts, checked, chooses, compares, conjoins, decided, decides, disjoins, drops_want, encloses, fills_nil, forms, gives_constant, gives_literal, gives_variable, is_of_sort, last_sort, operator_of, sort_kind, sorts, splits, switches, takes_sort, traps, turns, uses, wants_beside_error, wants_error_too, wants_result, way_of, widened, widens, widens_to}
 use Rattle.check_words.specs.Joins.{joins_two}
-use Rattle.check_words.specs.Words.{Atoms, EitherOf, OfKind, One, PartOf, SharedOf, Step, Three, Two, UnionOf, is_of, makes, sem, sets_ways, some_over, wants, wants_some}
+use Rattle.check_words.specs.Words.{Atoms, OfKind, One, PartOf, SharedOf, Step, Three, Two, UnionOf, is_of, makes, sem, sets_ways, wants, wants_some}
 use Rattle.check_answers.specs.Answers.{OtherIsEven}
 use Rattle.check_answers.specs.Pieces as say
 use Rattle.check_answers.specs.Pieces.{Piece, SamePieces, expr_pieces, written}
-use Rattle.check_answers.specs.TwinStates.{ChoiceTwins, FlowTwins, PartTwins, SharedTwins, VariableTwins, WaysTwins}
-use Rattle.check_answers.specs.TwinTypes.{SettledTwins, TwinTypes}
+use Rattle.check_answers.specs.TwinStates.{FlowTwins, PartTwins, SharedTwins, VariableTwins, WaysTwins}
 use Rattle.check_answers.proofs.Fixed.{These, these-choice-closed, these-ways}
 use Rattle.check_answers.proofs.Joining.{joins-twin}
-use Rattle.check_answers.proofs.Leading.{Any2, Leads, Pairs, leads-becomes, leads-done, leads-either, leads-fails, leads-from, leads-gives, leads-over, leads-some, leads-then, leads-to, leads-unless}
+use Rattle.check_answers.proofs.Leading.{Any2, Leads, Pairs, leads-becomes, leads-done, leads-either, leads-from, leads-gives, leads-over, leads-some, leads-then, leads-unless}
 use Rattle.check_answers.proofs.Mapping.{flow-map}
 use Rattle.check_answers.proofs.Meanings.{either-twin, kinds-twin, part-twin, plain-twin, same-twin, shared-twin, union-twin}
-use Rattle.check_answers.proofs.Questions.{Before, Behind, D, Equal, W, before-atoms, before-behind, is-of-leads, kind-strict-leads, of-kind-leads, settled-twins, stays, strict-leads, typed-leads, whether-kind-leads}
+use Rattle.check_answers.proofs.Questions.{Before, Behind, D, Equal, W, before-atoms, before-behind, is-of-leads, kind-strict-leads, of-kind-leads, settled-twins, strict-leads, whether-kind-leads}
 use Rattle.check_answers.proofs.SameTrees.{parts-same, strict-same, whole-same}
 use Rattle.check_answers.proofs.Seeing.{narrowed-both, now-twins}
 use Rattle.check_answers.proofs.Setting.{with-sorts}
-use Rattle.check_answers.proofs.Words.{At, at-atoms, closes-choice-leads, flow-leads, makes-leads, new-slot-leads, no-more-leads, opens-choice-leads, part-leads, sets-flow-leads, sets-ways-leads, two-leads, unit-leads, want-leads, wanted-leads, wants-leads, wants-some-leads, ways-leads}
+use Rattle.check_answers.proofs.Words.{closes-choice-leads, flow-leads, makes-leads, new-slot-leads, no-more-leads, opens-choice-leads, part-leads, sets-flow-leads, sets-ways-leads, two-leads, unit-leads, want-leads, wanted-leads, wants-leads, wants-some-leads, ways-leads}
 use Rattle.check_answers.proofs.Writing.{and-type, and-written, check-type, check-written, conditional-type, conditional-written, elvis-type, elvis-written, local-type, local-written, or-type, or-written, parens-type, parens-written, trap-type, trap-written}
 use Rattle.check_answers.proofs.Zips.{last-same, option-map}
 

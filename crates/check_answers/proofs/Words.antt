@@ -1,15 +1,14 @@
 -- The words of needs: two runs of each, from states that correspond.
-use Rattle.std.proofs.Common.{◌≡◌, ◌++◌, ℕ, Bool, List, [], ◌∷◌, length, Option, None, Some, refl, sym, subst, ap, ◌∙◌}
+use Rattle.std.proofs.Common.{◌≡◌, ◌++◌, ℕ, List, [], ◌∷◌, length, Option, None, Some, sym, subst, ap, ◌∙◌}
 use Rattle.std.specs.List.{AllZip}
-use Rattle.checks.specs.Checks.{gives, ◌▷◌}
 use Rattle.flow_narrowing.specs.declared.flow.Flow.{Flow}
 use Rattle.flow_narrowing.specs.Flows.{AreSame}
 use Rattle.type_model.specs.declared.basic.Ty.{Ty}
 use Rattle.typed_tree.specs.declared.expr.TypedExpr.{TypedExpr}
 use Rattle.typed_tree.specs.SharedTypes.{Shared}
 use Rattle.check_words.specs.Sharing.{SameChoice, SameOption, SameUnit, SameWays}
-use Rattle.check_words.specs.State.{CallAtWork, ChoiceAtWork, ConstructorAtWork, State, UnitAtWork, Ways, all_but, replaced, ways_or_same}
-use Rattle.check_words.specs.Words.{Atoms, becomes, changes_flow, closes_call, closes_choice, closes_constructor, done, flow_now, last_call, last_choice, last_constructor, last_part, last_parts, last_two, last_want, last_wants, makes, new_slot, opens_call, opens_choice, opens_constructor, sets_call, sets_constructor, sets_flow, sets_unit, sets_ways, some_over, takes, unit_now, wanted, wants as wanting, wants_no_more, wants_some, ways_now}
+use Rattle.check_words.specs.State.{CallAtWork, ChoiceAtWork, ConstructorAtWork, State, UnitAtWork, Ways, all_but, ways_or_same}
+use Rattle.check_words.specs.Words.{Atoms, becomes, changes_flow, closes_call, closes_choice, closes_constructor, flow_now, last_call, last_choice, last_constructor, last_part, last_parts, last_two, last_want, last_wants, makes, new_slot, opens_call, opens_choice, opens_constructor, sets_call, sets_constructor, sets_flow, sets_unit, sets_ways, takes, unit_now, wanted, wants as wanting, wants_no_more, wants_some, ways_now}
 use Rattle.check_answers.specs.TwinStates.{CallTwins, ChoiceTwins, ConstructorTwins, FlowTwins, PartTwins, SharedTwins, StateTwins, UnitTwins, WaysTwins}
 use Rattle.check_answers.proofs.Handed.{choice-handed, option-copies, unit-handed, want-handed, ways-handed}
 use Rattle.check_answers.proofs.Leading.{Any2, Leads, Pairs, leads-becomes, leads-does, leads-gives, leads-handles, leads-over, leads-some, leads-then}

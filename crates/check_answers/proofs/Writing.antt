@@ -1,26 +1,16 @@
 -- What is written of each node.
-use Rattle.std.proofs.Common.{◌≡◌, ℕ, Bool, List, map, Some, None, rules, ap, ◌∙◌}
-use Rattle.std.specs.Global.{Box, Vec}
+use Rattle.std.proofs.Common.{◌≡◌, ℕ, Bool, List, map, rules, ap, ◌∙◌}
 use Rattle.bal_base.specs.declared.place.Place.{Place}
 use Rattle.operations.specs.declared.operation.Constant.{Constant}
 use Rattle.typed_tree.specs.declared.expr.AnonymousFunction.{AnonymousFunction}
 use Rattle.typed_tree.specs.declared.expr.TypedExpr.{TypedExpr, TypedExpr-F, fold_out-TypedExpr, map-TypedExpr, out-TypedExpr}
 use Rattle.typed_tree.specs.declared.expr.TypedExpr.TheOpen as layer
-use Rattle.typed_tree.specs.declared.form.Operator.{Operator}
 use Rattle.typed_tree.specs.declared.form.StrictForm.{StrictForm}
-use Rattle.typed_tree.specs.declared.stmt.PerformForm.{PerformForm}
-use Rattle.typed_tree.specs.declared.stmt.Source.{Source}
-use Rattle.typed_tree.specs.declared.stmt.TypedClause.{TypedClause}
-use Rattle.typed_tree.specs.declared.stmt.TypedPattern.{TypedPattern}
-use Rattle.typed_tree.specs.declared.stmt.TypedStmt.{TypedStmt}
-use Rattle.typed_tree.specs.declared.stmt.UpdateTarget.{UpdateTarget}
 use Rattle.typed_tree.specs.Exprs.{type_of}
-use Rattle.typed_tree.specs.Listed.{Listed, ◌&◌, joined}
+use Rattle.typed_tree.specs.Listed.{◌&◌, joined}
 use Rattle.typed_tree.specs.SharedTypes.{Shared}
 use Rattle.typed_tree.specs.Views.{IsAnd, IsCheck, IsConditional, IsElvis, IsFunctionOf, IsImplied, IsLocal, IsOr, IsParens, IsStrict, IsTrap}
 use Rattle.typed_tree.proofs.ExprLayers.{expr_layers}
-use Rattle.typed_tree.proofs.StmtLayers.{stmt_layers}
-use Rattle.check_words.specs.StmtViews.{IsBlock, IsBreak, IsClause, IsContinue, IsForeach, IsIf, IsMatch, IsPerform, IsReturn, IsReturnNil, IsSet, IsUpdate, IsWhile}
 use Rattle.check_answers.specs.Pieces as say
 use Rattle.check_answers.specs.Pieces.{Piece, Written, clause_pieces, expr_pieces, expr_step, form_pieces, function_head, says, source_pieces, stmt_pieces, stmts_pieces, target_pieces, whole, with_type, written}
 

@@ -1,7 +1,6 @@
 -- Lists of two runs, member by member.
-use Rattle.std.proofs.Common.{◌≡◌, ◌-◌, ◌++◌, ◌+◌, ◌<◌, ℕ, zero, suc, List, [], ◌∷◌, length, length-append, map, take, Option, Some, None, slice_get, arith, sym, subst, ap, ◌∙◌, refl}
+use Rattle.std.proofs.Common.{◌≡◌, ◌-◌, ◌++◌, ℕ, zero, suc, List, [], ◌∷◌, length, length-append, take, Option, Some, None, slice_get, arith, sym, subst, ap, ◌∙◌, refl}
 use Rattle.std.specs.List.{AllZip}
-use Rattle.std.proofs.lemmas.List.Elements.{length_all_zip}
 use Rattle.check_words.specs.Sharing.{SameOption}
 use Rattle.check_words.specs.State.{AreLast, IsLast, all_but, replaced}
 

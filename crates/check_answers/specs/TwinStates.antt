@@ -1,5 +1,5 @@
 -- States of two runs that correspond: the same, but for types that do.
-use Rattle.std.specs.Prelude.{◌≡◌, ℕ, List, Option, Result, Ok, Err, ⊤}
+use Rattle.std.specs.Prelude.{◌≡◌, Result, Ok, Err, ⊤}
 use Rattle.std.specs.List.{AllZip}
 use Rattle.bal_base.specs.declared.fault.Fault.{Fault}
 use Rattle.checks.specs.Agreement.{SameFault}
@@ -7,7 +7,6 @@ use Rattle.flow_narrowing.specs.declared.flow.Flow.{Flow}
 use Rattle.flow_narrowing.specs.declared.flow.Variable.{Variable}
 use Rattle.type_model.specs.declared.basic.Ty.{Ty}
 use Rattle.typed_tree.specs.declared.expr.TypedExpr.{TypedExpr}
-use Rattle.typed_tree.specs.declared.package.Initial.{Initial}
 use Rattle.typed_tree.specs.declared.stmt.TypedClause.{TypedClause}
 use Rattle.typed_tree.specs.declared.stmt.TypedStmt.{TypedStmt}
 use Rattle.typed_tree.specs.declared.unit.Captured.{Captured}

@@ -1,6 +1,6 @@
 -- Types and atoms of two runs that mean the same. A type may be written in more than one way, so two runs of a check may have other types
 -- that are the same sets of shapes, with the same constructor choices; and an atom of the one run has the number of one of the other.
-use Rattle.std.specs.Prelude.{◌≡◌, List, length, Option, ⊤}
+use Rattle.std.specs.Prelude.{◌≡◌, List, length}
 use Rattle.std.specs.List.{AllZip}
 use Rattle.checks.specs.Agreement.{AreTwins}
 use Rattle.type_model.specs.declared.atoms.AtomDef.{AtomDef}
