@@ -1,0 +1,10 @@
+//! The checks of a function's workers that ask about types.
+//!
+//! - [`returns_give_errors`]: what a worker returns in front of one of its messages is an error.
+//!
+//! The definitions stand in `worker_pairing`; `specs/Defined.antt` says of which workers such questions can be asked.
+#![tactic(auto)]
+
+mod returns;
+
+pub use returns::returns_give_errors;
