@@ -29,7 +29,7 @@ pub struct Refused {
 /// The longest texts that are read, in bytes.
 const MOST_BYTES: usize = 4_294_967_295;
 
-/// What the lexer, the parser and the builder of names say of the file, and whether a token stands at the byte.
+/// What the lexer, the parser, the builder of names and the checker of bodies say of the file, and whether a token stands at the byte.
 pub fn tried(alloc: Global, text: &str, mark: usize) -> Result<Said, Memory> {
     if text.len() > MOST_BYTES {
         return Err(Memory);

@@ -8,7 +8,7 @@ use Rattle.type_model.specs.declared.atoms.AtomDef.{AtomDef}
 use Rattle.type_model.specs.Calls.{Asked}
 use Rattle.code_needs.specs.Needs.{IsMet, Need}
 
--- the need is met; or it isn't, and a shape shows it
+-- the need is met; or it isn't, and a valid shape stands beside that, of which nothing more is said
 abbrev pub Answers : List AtomDef → Need → Answer → Type 0
 Answers env need Yes = IsMet env need
 Answers env need (No x) = IsValid x × (¬ (IsMet env need))

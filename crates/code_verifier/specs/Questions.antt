@@ -35,7 +35,7 @@ IsAskable env (ask.HasMade t atom immutable) = (atom < length env) × IsDefined 
 abbrev pub IsYes : List AtomDef → Question → Type 0
 IsYes env q = IsMet env (need_of q)
 
--- all needs are met; or all before one are, and a shape shows that this one isn't
+-- all needs are met; or all before one are and this one isn't, and a valid shape stands beside that
 abbrev pub Answered : List AtomDef → List Question → Option Shape → Type 0
 Answered env qs None = All (IsYes env) qs
 Answered env qs (Some x) = (k : ℕ) × (q : Question) × (slice_get qs k ≡ Some q) × All (IsYes env) (take k qs) × IsValid x × (¬ (IsYes env q))
