@@ -37,7 +37,7 @@ use Rattle.stack_code.specs.Frames.{IsLowest, TallyIs, TopFits}
 use Rattle.stack_code.specs.Good.{Good, GoodCommon, IsKnown, IsToRun, StrandAt, StrandFits}
 use Rattle.stack_code.specs.Places.{IsStation, IsWorkerUnit, Station, tally_at}
 use Rattle.stack_code.specs.Tables.{HasRest, IsInherent, IsInitialiser, IsInitialiserWell, IsMain, UnitAt}
-use Rattle.stack_code.specs.Values.{AllFit, Fits, GoodHeap, IsMade, IsWithinAtom, code_types}
+use Rattle.stack_code.specs.Values.{AreKeysApart, AllFit, Fits, GoodHeap, IsMade, IsWithinAtom, code_types}
 use Rattle.stack_code.specs.WellTyped.{WellTyped}
 use Rattle.code_keeping.specs.Laws.{StartsWell}
 use Rattle.code_keeping.proofs.Entering.{begins, entry-in, nothing-stored}
@@ -80,6 +80,7 @@ module _ (code : Code) (c : Common) (input : List ℕ) (texts : List Text) where
             valid = record { members = all-none _; messages = all-none _; captured = all-none _ };
             closed = record { members = all-none _; details = all-none _; causes = all-none _; captured = all-none _ };
             short = all-none _;
+            apart = all-none _;
           }
 
   module _ (words : ℕ) (known : IsInherent code words) (rest : Option Ty) (is : slice_get code.atoms words ≡ Some (ListAtom [] rest)) (strings : IsSomeAnd rest (λ t. (x : Shape) → IsValid x → (In code.atoms x t.sem ↔ IsString x))) (ok : AreWords texts) where
@@ -133,6 +134,7 @@ module _ (code : Code) (c : Common) (input : List ℕ) (texts : List Text) where
               valid = record { members = all-one (λ s. AreValidMembers s.members) list (All-map IsValidValue Str texts ok.0); messages = all-none _; captured = all-none _ };
               closed = all-closed;
               short = all-one (λ s. size_of s.members < 2 ^ 63) list (subst (λ n. n < 2 ^ 63) (sym (length-map texts Str)) ok.1);
+              apart = all-one (λ s. AreKeysApart s.members) list tt;
             }
           where
             only : (n : ℕ) (s : Structure) → slice_get (list ∷ []) n ≡ Some s → IsFalse s.mutable → ⊥

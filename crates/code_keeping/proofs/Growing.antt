@@ -32,7 +32,7 @@ use Rattle.machine_model.specs.Runs.{Phase, Running}
 use Rattle.stack_code.specs.declared.code.Code.{Code}
 use Rattle.stack_code.specs.Good.{GoodCommon, IsLater, NearlyCommon, NeedIsThere, RunsOne, WorkerStays}
 use Rattle.stack_code.specs.Tables.{IsCallable, IsInherent, UnitAt}
-use Rattle.stack_code.specs.Values.{AllFit, Fits, GoodHeap, IsMade, IsOfStrand, IsWithinAtom, IsWithinUnit, code_types}
+use Rattle.stack_code.specs.Values.{AreKeysApart, AllFit, Fits, GoodHeap, IsMade, IsOfStrand, IsWithinAtom, IsWithinUnit, code_types}
 use Rattle.code_keeping.specs.Rows.{EffectTyped}
 use Rattle.code_keeping.proofs.Changing.{or-there}
 use Rattle.code_keeping.proofs.Later.{activation-later, end-later, to-run-later, variables-later}
@@ -93,6 +93,7 @@ module _ (code : Code) (c : Common) (w : World) (good : GoodHeap code c) (grows 
     pub made : All (IsMade code d) (values_of s.members)
     pub valid : AreValidMembers s.members
     pub short : size_of s.members < 2 ^ 63
+    pub apart : AreKeysApart s.members
 
   pub record IsNewError (n : ℕ) (e : ErrorObject) : Type 0 where
     pub message : IsText e.message
@@ -226,6 +227,7 @@ module _ (code : Code) (c : Common) (w : World) (good : GoodHeap code c) (grows 
           };
           closed = closed;
           short = all-from (λ s. size_of s.members < 2 ^ 63) new.structures (λ n s e. short-of n s (grown.structures n s e));
+          apart = all-from (λ s. AreKeysApart s.members) new.structures (λ n s e. apart-of n s (grown.structures n s e));
         }
       where
         mutable-of : (n : ℕ) (s : Structure) → (slice_get old.structures n ≡ Some s) ⊎ IsNewStructure n s → IsWithinAtom code d s
@@ -243,6 +245,10 @@ module _ (code : Code) (c : Common) (w : World) (good : GoodHeap code c) (grows 
         short-of : (n : ℕ) (s : Structure) → (slice_get old.structures n ≡ Some s) ⊎ IsNewStructure n s → size_of s.members < 2 ^ 63
         short-of n s (inl e) = all-at (λ s. size_of s.members < 2 ^ 63) old.structures n s good.short e
         short-of n s (inr is) = is.short
+
+        apart-of : (n : ℕ) (s : Structure) → (slice_get old.structures n ≡ Some s) ⊎ IsNewStructure n s → AreKeysApart s.members
+        apart-of n s (inl e) = all-at (λ s. AreKeysApart s.members) old.structures n s good.apart e
+        apart-of n s (inr is) = is.apart
 
         message-of : (n : ℕ) (e : ErrorObject) → (slice_get old.errors n ≡ Some e) ⊎ IsNewError n e → IsText e.message
         message-of n e (inl is) = all-at (λ e. IsText e.message) old.errors n e good.valid.messages is

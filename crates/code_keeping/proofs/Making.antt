@@ -33,7 +33,7 @@ use Rattle.machine_model.specs.Runs.{Running}
 use Rattle.stack_code.specs.declared.code.Code.{Code}
 use Rattle.stack_code.specs.Good.{IsLater, NearlyCommon, NeedIsThere, WorkerStays}
 use Rattle.stack_code.specs.Tables.{IsInherent}
-use Rattle.stack_code.specs.Values.{AllFit, GoodHeap, IsMade, IsMadeError, IsWithinAtom, IsWithinUnit, code_types}
+use Rattle.stack_code.specs.Values.{AreKeysApart, AllFit, GoodHeap, IsMade, IsMadeError, IsWithinAtom, IsWithinUnit, code_types}
 use Rattle.code_keeping.specs.Rows.{EffectTyped}
 use Rattle.code_keeping.proofs.Later.{activation-later, end-later, to-run-later, variables-later}
 use Rattle.code_keeping.proofs.Lists.{all-at, at-some, some-to}
@@ -215,6 +215,7 @@ module _ (code : Code) (c : Common) (message : Text) (valid : IsText message) (g
         };
         closed = closed good.closed;
         short = All-append (λ s. size_of s.members < 2 ^ 63) h.structures (detail ∷ []) good.short (all-one (λ s. size_of s.members < 2 ^ 63) detail (omega arith));
+        apart = All-append (λ s. AreKeysApart s.members) h.structures (detail ∷ []) good.apart (all-one (λ s. AreKeysApart s.members) detail tt);
       }
 
   pub error-made : IsMadeError code d (Error (length h.errors))

@@ -45,7 +45,7 @@ module _ (code : Code) (c : Common) (a : ℕ) (x y : Activation) (ex : slice_get
   d = changed c a y
 
   heap-so : GoodHeap code c → GoodHeap code d
-  heap-so h = record { mutable = h.mutable; immutable = h.immutable; members = h.members; functions = h.functions; valid = h.valid; closed = h.closed; short = h.short }
+  heap-so h = record { mutable = h.mutable; immutable = h.immutable; members = h.members; functions = h.functions; valid = h.valid; closed = h.closed; short = h.short; apart = h.apart }
 
   worker-so : (b w : ℕ) → IsWorkerOf code c b w → IsWorkerOf code d b w
   worker-so b w h = by (same-or-not a b)

@@ -194,6 +194,7 @@ module _ (code : Code) (c : Common) where
         valid = h.valid;
         closed = h.closed;
         short = h.short;
+        apart = h.apart;
       }
 
   many : length z.strands ≡ length c.strands

@@ -1,19 +1,16 @@
 -- What each step of well-typed code keeps, as laws.
-use Rattle.std.specs.Prelude.{◌≡◌, ◌≢◌, ℕ, List, [], ◌∷◌, Option, Some, All, length, ⊤}
+use Rattle.std.specs.Prelude.{◌≡◌, ◌≢◌, ℕ, List, [], ◌∷◌, Option, Some, length}
 use Rattle.bal_base.specs.declared.text.Text.{Text}
 use Rattle.operations.specs.declared.library.LibraryCall.{LibraryCall}
-use Rattle.operations.specs.declared.library.LibraryCall.TheVariants.{CloneReadOnly, StringLength}
 use Rattle.operations.specs.declared.operation.Operation.TheVariants as op
 use Rattle.value_model.specs.declared.filler.Filler.{Filler}
-use Rattle.value_model.specs.declared.value.Value.{Value}
 use Rattle.value_model.specs.Heap.{IsClosed}
 use Rattle.value_model.specs.Meaning.{Answers}
-use Rattle.value_model.specs.World.{World}
 use Rattle.run_model.specs.Common.{Common}
 use Rattle.run_model.specs.Facts.{KnowsFillers}
 use Rattle.run_model.specs.Library.{LibraryAnswers}
 use Rattle.machine_model.specs.Keeping.{Invariant, IsKept}
-use Rattle.machine_model.specs.Machine.{Ask, Does, Frame, On, State, Step, Stuck}
+use Rattle.machine_model.specs.Machine.{Frame, State, Step}
 use Rattle.machine_model.specs.Runs.{AreWords, IsReached, Phase, Running, start}
 use Rattle.machine_model.specs.Strands.{StrandsHold}
 use Rattle.stack_code.specs.declared.code.Code.{Code}
@@ -25,8 +22,6 @@ use Rattle.stack_code.specs.Values.{IsMadeError, StackFits}
 use Rattle.stack_code.specs.WellTyped.{WellTyped}
 use Rattle.code_keeping.specs.Laws.{AskComes, IsDoneAt}
 use Rattle.code_keeping.specs.Rows.{Comes}
-use Rattle.code_keeping_copies.specs.Laws.{HasKeysApart}
-use Rattle.code_keeping_library.specs.Laws.{IsShort}
 
 -- what holds of each state, where an error that is thrown is one of a closed heap
 abbrev pub kept_invariant : Code → Invariant Standing
@@ -70,17 +65,9 @@ CallsAreNotThere natives = (fillers : ℕ → List Filler) (code : Code) → Has
 
 -- ---- where the library answers as its table says
 
--- calls that are done whatever else holds: the length of a string is an int only where strings are short, and a read-only clone has a
--- shape only where keys are apart
-abbrev pub IsPlainCall : LibraryCall → Type 0
-IsPlainCall call = (call ≢ StringLength) × (call ≢ CloneReadOnly)
-
-abbrev pub HasPlainCalls : Code → Type 0
-HasPlainCalls code = (p : ℕ) (call : LibraryCall) (atom : Option ℕ) (count : ℕ) → command_at code p ≡ Some (Do (op.Library call atom count)) → IsPlainCall call
-
--- nothing is asked of such code either
-abbrev pub PlainCallsAreDone : Type 0
-PlainCallsAreDone = (fillers : ℕ → List Filler) (code : Code) → WellTyped code → HasPlainCalls code → LibraryIsDone fillers LibraryAnswers code
+-- nothing is asked of any well-typed code
+abbrev pub LibraryCallsAreDone : Type 0
+LibraryCallsAreDone = (fillers : ℕ → List Filler) (code : Code) → WellTyped code → LibraryIsDone fillers LibraryAnswers code
 
 -- ---- no state that is reached is stuck
 
@@ -102,35 +89,12 @@ HasNext natives fillers code s = Comes (Step natives (codes fillers code) s)
 abbrev pub IsSafe : Answers → (ℕ → List Filler) → Code → Phase → State Standing → Type 0
 IsSafe natives fillers code phase s = Good code phase s × (phase ≡ Running → GoesOnTyped natives fillers code s.common s.frames × HasNext natives fillers code s)
 
--- the strings whose length is asked are short, and where a value is cloned read-only no mapping has a key twice
-abbrev pub IsWithinBounds : LibraryCall → List Value → World → Type 0
-IsWithinBounds call args w = (call ≡ StringLength → All IsShort args) × (call ≡ CloneReadOnly → HasKeysApart w.heap)
-
--- a call that is asked for is within bounds
-abbrev pub AsksWithinBounds : Common → Ask Standing → Type 0
-AsksWithinBounds c (On k) = ⊤
-AsksWithinBounds c (Does o vs k) = (call : LibraryCall) (atom : Option ℕ) (count : ℕ) → o ≡ op.Library call atom count → IsWithinBounds call vs c.world
-AsksWithinBounds c Stuck = ⊤
-
-abbrev pub TopIsWithinBounds : (ℕ → List Filler) → Code → Common → List (Frame Standing) → Type 0
-TopIsWithinBounds fillers code c [] = ⊤
-TopIsWithinBounds fillers code c (f ∷ fs) = AsksWithinBounds c ((codes fillers code).look f.unit f.control)
-
--- so it is in each state that the run reaches
-abbrev pub StaysWithinBounds : (ℕ → List Filler) → Code → List Text → List ℕ → ℕ → Type 0
-StaysWithinBounds fillers code words input ticks =
-    (phase : Phase) (s : State Standing) → IsReached LibraryAnswers (codes fillers code) words input ticks phase s → TopIsWithinBounds fillers code s.common s.frames
-
--- each state that a run of well-typed code reaches is safe, under any order, as long as its calls are within bounds
+-- each state that a run of well-typed code reaches is safe, under any order
 abbrev pub WellTypedCodeIsSafe : Type 0
 WellTypedCodeIsSafe =
     (fillers : ℕ → List Filler) (code : Code) → WellTyped code → FillersAreKnown fillers code →
-    (words : List Text) (input : List ℕ) (ticks : ℕ) → AreWords words → StaysWithinBounds fillers code words input ticks →
+    (words : List Text) (input : List ℕ) (ticks : ℕ) → AreWords words →
     (phase : Phase) (s : State Standing) → IsReached LibraryAnswers (codes fillers code) words input ticks phase s → IsSafe LibraryAnswers fillers code phase s
-
--- and those of code that makes plain calls alone are
-abbrev pub PlainCodeStaysWithinBounds : Type 0
-PlainCodeStaysWithinBounds = (fillers : ℕ → List Filler) (code : Code) → HasPlainCalls code → (words : List Text) (input : List ℕ) (ticks : ℕ) → StaysWithinBounds fillers code words input ticks
 
 -- and each run begins: there is a state before the first pick
 abbrev pub WellTypedCodeBegins : Type 0

@@ -1,5 +1,5 @@
 //! Laws of each step of well-typed code. These calls do nothing: their clauses are laws.
-ghost use Rattle.code_keeping_all.specs.Laws.{CallsAreNotThere, CodeGoesOn, CodeIsKept, PlainCallsAreDone, PlainCodeStaysWithinBounds, ReachedCodeIsGood, WellTypedCodeBegins, WellTypedCodeIsSafe};
+ghost use Rattle.code_keeping_all.specs.Laws.{CallsAreNotThere, CodeGoesOn, CodeIsKept, LibraryCallsAreDone, ReachedCodeIsGood, WellTypedCodeBegins, WellTypedCodeIsSafe};
 
 use run_model::Meaning;
 
@@ -13,19 +13,15 @@ pub fn code_is_kept<N: Meaning>()
     ensures without { CallsAreNotThere N.answers }
 {}
 
-/// Nothing is asked either of code that makes all calls of the library but the length of a string and read-only clones, where the library
-/// answers as its table says.
-pub fn plain_calls_are_done()
-    ensures { PlainCallsAreDone }
+/// Nothing is asked either of code whose library answers as its table says.
+pub fn library_calls_are_done()
+    ensures { LibraryCallsAreDone }
 {}
 
 /// So well-typed code is never stuck, whatever it calls: each state that its run reaches is good, and while a strand runs the operands of
 /// its last frame are of the static types of its place, it goes on by itself or something comes of what it asks for, and the state has a
-/// next one. That is so as long as the run's calls of the library are within bounds: the strings whose length is asked are short, and where
-/// a value is cloned read-only no mapping has a key twice. Code that makes neither of these two calls stays within bounds. And each run of
-/// well-typed code begins.
+/// next one. And each run of well-typed code begins.
 pub fn well_typed_code_is_safe()
     ensures safe { WellTypedCodeIsSafe }
-    ensures plain { PlainCodeStaysWithinBounds }
     ensures begins { WellTypedCodeBegins }
 {}

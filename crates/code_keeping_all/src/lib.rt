@@ -3,4 +3,4 @@
 
 mod laws;
 
-pub use laws::{code_is_kept, plain_calls_are_done, well_typed_code_is_safe};
+pub use laws::{code_is_kept, library_calls_are_done, well_typed_code_is_safe};

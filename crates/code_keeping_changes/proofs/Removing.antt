@@ -25,7 +25,7 @@ use Rattle.run_model.specs.Stores.{StillFits, atom_of, remove_entry, stored}
 use Rattle.machine_model.specs.Runs.{Running}
 use Rattle.stack_code.specs.declared.code.Code.{Code}
 use Rattle.stack_code.specs.Good.{GoodCommon}
-use Rattle.stack_code.specs.Values.{AllFit, Fits, IsMade, code_types}
+use Rattle.stack_code.specs.Values.{AreKeysApart, ComeOnce, AllFit, Fits, IsMade, code_types}
 use Rattle.stack_code.specs.WellTyped.{WellTyped}
 use Rattle.code_keeping.specs.Kinds.{Ints, Lists, Mappings, Strings}
 use Rattle.code_keeping.proofs.Coming.{Does, IsTyped, does-else, does-unless, panics-typed}
@@ -74,10 +74,29 @@ left-few (e ∷ es) key = by (is_same_text e.0 key) (left-few es key)
     by true l = let q : length es ≤ length (e ∷ es) = omega arith in q
     by false l = let q : length (e ∷ remove_entry es key) ≤ length (e ∷ es) = omega (arith, l) in q
 
+-- keys that are apart stay apart
+left-none : (es : List (Text × Value)) (key other : Text) → entry_at es other ≡ None → entry_at (remove_entry es key) other ≡ None
+left-none [] key other none = refl
+left-none (e ∷ es) key other none = by (is_same_text e.0 key) (λ k. left-none es key other k) (is_same_text e.0 other) refl none
+  where
+    by : (b : Bool) → (entry_at es other ≡ None → entry_at (remove_entry es key) other ≡ None) → (o : Bool) → is_same_text e.0 other ≡ o → (if o then Some e.1 else entry_at es other) ≡ None →
+        entry_at (if b then es else e ∷ remove_entry es key) other ≡ None
+    by b more true is none = absurd (let q : ⊥ = cc in q)
+    by true more false is none = none
+    by false more false is none = ap (λ o. if o then Some e.1 else entry_at (remove_entry es key) other) is ∙ more none
+
+left-apart : (es : List (Text × Value)) (key : Text) → ComeOnce es → ComeOnce (remove_entry es key)
+left-apart [] key h = h
+left-apart (e ∷ es) key (none, h) = by (is_same_text e.0 key) (left-apart es key h)
+  where
+    by : (b : Bool) → ComeOnce (remove_entry es key) → ComeOnce (if b then es else e ∷ remove_entry es key)
+    by true more = h
+    by false more = (left-none es key e.0 none, more)
+
 -- ---- the structure without it, and what is given
 
 module _ (code : Code) (t : WellTyped code) (c : Common) (good : GoodCommon code c Running) (result : Option SemType) (n : ℕ) (s : Structure) (e : slice_get c.world.heap.structures n ≡ Some s) (mutable : IsTrue s.mutable)
-    (m : Members) (kind : AreAlike s.members m) (still : StillFits (code_types code) c.world s m) (made : All (IsMade code c) (values_of m)) (valid : AreValidMembers m) (few : size_of m < 2 ^ 63) where
+    (m : Members) (kind : AreAlike s.members m) (still : StillFits (code_types code) c.world s m) (made : All (IsMade code c) (values_of m)) (valid : AreValidMembers m) (apart : AreKeysApart m) (few : size_of m < 2 ^ 63) where
   abbrev after : Common
   after = d code c good n s e mutable m kind []
 
@@ -89,6 +108,7 @@ module _ (code : Code) (t : WellTyped code) (c : Common) (good : GoodCommon code
             (of-some (MembersBelong (code_types code) c.world.heap m) (atom_of (code_types code) s) definition (ap (λ o. option_and_then (λ b. slice_get code.atoms b) o) ea ∙ ed) still);
         made = all-to (IsMade code c) (IsMade code after) (made-there code c (world-then code c good n s e mutable m kind []) good.nearly.heap (grows code c good n s e mutable m kind [])) (values_of m) made;
         valid = valid;
+        apart = apart;
       }
 
   removed-typed : (P : Shape → Type 0) (v : Value) → ((r : SemType) → ResultHas code.atoms (Some r) P → Fits code c v r) → ResultHas code.atoms result P → IsTyped code c good result (gives (stored c.world n s m []) v)
@@ -116,7 +136,7 @@ module _ (code : Code) (t : WellTyped code) (c : Common) (good : GoodCommon code
       subst (λ o. IsTyped code c good result (found (stored c.world n s (Items (remove vs k)) []) IndexOutOfRange o)) (sym ev)
       (removed-typed code t c good result n s e mutable (Items (remove vs k)) (subst (λ x. AreAlike x (Items (remove vs k))) (sym is) tt) still
       (left-all (IsMade code c) vs k (subst (λ x. All (IsMade code c) (values_of x)) is (all-at (λ s. All (IsMade code c) (values_of s.members)) c.world.heap.structures n s good.nearly.heap.members e)))
-      (left-all IsValidValue vs k (subst AreValidMembers is (all-at (λ s. AreValidMembers s.members) c.world.heap.structures n s good.nearly.heap.valid.members e)))
+      (left-all IsValidValue vs k (subst AreValidMembers is (all-at (λ s. AreValidMembers s.members) c.world.heap.structures n s good.nearly.heap.valid.members e))) tt
       (let l = left-short vs k lt in let short = subst (λ x. size_of x < 2 ^ 63) is (all-at (λ s. size_of s.members < 2 ^ 63) c.world.heap.structures n s good.nearly.heap.short e) in omega (arith, l, short))
       (AtIndexes code.atoms a) v (λ r within. item-fits code t c good n s vs e is a fits v (k, ev) r within) has)))))
 
@@ -130,6 +150,7 @@ module _ (code : Code) (t : WellTyped code) (c : Common) (good : GoodCommon code
       (removed-typed code t c good result n s e mutable (Entries (remove_entry es key)) (subst (λ x. AreAlike x (Entries (remove_entry es key))) (sym is) tt) still
       (values-all (IsMade code c) (remove_entry es key) (left-entries (λ e. IsMade code c e.1) es key (entries-made code t c good.nearly.heap n s es e is short)))
       (left-entries (λ e. IsText e.0 × IsValidValue e.1) es key (subst AreValidMembers is (all-at (λ s. AreValidMembers s.members) c.world.heap.structures n s good.nearly.heap.valid.members e)))
+      (left-apart es key (subst AreKeysApart is (all-at (λ s. AreKeysApart s.members) c.world.heap.structures n s good.nearly.heap.apart e)))
       (let l = left-few es key in omega (arith, l, short))
       (AtKeys code.atoms a) v (λ r within. (
         good.nearly.heap.closed,

@@ -22,11 +22,9 @@ use Rattle.machine_model.proofs.Once.{some-same}
 use Rattle.stack_code.specs.declared.code.Code.{Code}
 use Rattle.code_keeping.specs.Kinds.{Errors, Functions, Futures, kind_of}
 use Rattle.code_keeping.proofs.Lists.{at-some, some-there, there}
-use Rattle.code_keeping_heap.proofs.Mapped.{AreApart}
 use Rattle.code_keeping_sends.proofs.Copying.{IsMutableAt}
 use Rattle.code_keeping_fillers.proofs.Fillers.{of-contained}
 use Rattle.code_keeping_fillers.proofs.Walks.{IsAmong}
-use Rattle.code_keeping_copies.specs.Laws.{ComeOnce}
 
 -- ---- anydata all through
 
@@ -116,11 +114,6 @@ atom-data code a h (StrShape t) (valid, inside) = tt
 atom-data code a h (Error' box detail) (valid, inside) = h (Error' box detail) valid tt inside
 atom-data code a h (FunctionShape isolated graph) (valid, inside) = h (FunctionShape isolated graph) valid tt inside
 atom-data code a h (Future' s results) (valid, inside) = h (Future' s results) valid tt inside
-
--- keys that are apart, told twice
-pub once-apart : (es : List (Text × Value)) → ComeOnce es → AreApart es
-once-apart [] h = tt
-once-apart (e ∷ es) (none, h) = (none, once-apart es h)
 
 -- ---- mutable structures among values
 

@@ -25,23 +25,23 @@ use Rattle.code_keeping.proofs.Done.{row-done-at, takes-all}
 use Rattle.code_keeping.proofs.Operands.{one-fit}
 use Rattle.code_keeping_library.proofs.Calls.{Answered, does-call-at}
 use Rattle.code_keeping_library.proofs.Lists.{Row}
-use Rattle.code_keeping_copies.specs.Laws.{KeysAreApart, ReadOnlyClonesAreDone}
+use Rattle.code_keeping_copies.specs.Laws.{ReadOnlyClonesAreDone}
 use Rattle.code_keeping_copies.proofs.Freezing.{frozen-typed}
 
-module _ (code : Code) (t : WellTyped code) (c : Common) (good : GoodCommon code c Running) (apart : KeysAreApart c) (result : Option SemType) (v : Value) (a : SemType) (fits : Fits code c v a) (holds : IsWithin code.atoms IsAnydata a) (has : ResultHas code.atoms result IsImmutableData) where
-  pub freeze-typed : IsTyped code c good result (freezes c.world v)
+module _ (code : Code) (t : WellTyped code) (c : Common) (good : GoodCommon code c Running) (result : Option SemType) (v : Value) (a : SemType) (fits : Fits code c v a) (holds : IsWithin code.atoms IsAnydata a) (has : ResultHas code.atoms result IsImmutableData) where
+  freeze-typed : IsTyped code c good result (freezes c.world v)
   freeze-typed = by (has_cycle c.world.heap (reached_from c.world v)) refl
     where
       by : (b : Bool) → has_cycle c.world.heap (reached_from c.world v) ≡ b → IsTyped code c good result (if b then panics c.world CyclicValue else within (gives (with_copies false c.world v) (copy_of c.world v)))
       by true e = panics-typed code c good result CyclicValue refl
-      by false e = frozen-typed code t c good.nearly.heap v e apart a fits holds result good has
+      by false e = frozen-typed code t c good.nearly.heap v e a fits holds result good has
 
-clone-read-only : (fillers : ℕ → List Filler) (code : Code) (t : WellTyped code) (place : Surroundings) (c : Common) → KeysAreApart c → Row fillers code t place c CloneReadOnly
-clone-read-only fillers code t place c apart atom count names operands result vs asker good (long, typed) fit =
+pub clone-read-only : (fillers : ℕ → List Filler) (code : Code) (t : WellTyped code) (place : Surroundings) (c : Common) → Row fillers code t place c CloneReadOnly
+clone-read-only fillers code t place c atom count names operands result vs asker good (long, typed) fit =
     one-fit code c (Answered fillers code t place c CloneReadOnly atom count asker result) operands vs _ typed fit
-    (λ a v (within, (none, has)) f. does-call-at fillers code t place c good result CloneReadOnly atom count asker (v ∷ []) (does-else code c good result (freezes c.world v) (freeze-typed code t c good apart result v a f within has)))
+    (λ a v (within, (none, has)) f. does-call-at fillers code t place c good result CloneReadOnly atom count asker (v ∷ []) (does-else code c good result (freezes c.world v) (freeze-typed code t c good result v a f within has)))
 
 pub read-only-clones-are-done : ReadOnlyClonesAreDone
-read-only-clones-are-done fillers atom count code c t apart =
+read-only-clones-are-done fillers atom count code c t =
     row-done-at LibraryAnswers fillers code c t (op.Library CloneReadOnly atom count) refl (λ h. h) (takes-all count (op.Library CloneReadOnly atom count) (λ captured l. refl) (λ code place os r h. h.0))
-    (λ u station names. clone-read-only fillers code t (surroundings code u station) c apart atom count names)
+    (λ u station names. clone-read-only fillers code t (surroundings code u station) c atom count names)

@@ -238,6 +238,7 @@ module _ (fillers : ℕ → List Filler) (code : Code) (t : WellTyped code) (kno
           made = all-from (IsMade code then) values (λ i x ex. (in-place i x ex).2.0);
           valid = all-from IsValidValue values (λ i x ex. (in-place i x ex).2.0.1);
           short = let g : length values ≤ sum_by (λ (x : Structure). x.greatest + 1) ss = greatest-at ss (first + j) (built inside (NewList a) p) 0 at in omega (arith, g, small);
+          apart = tt;
         }
       where
         p : ℕ
@@ -275,6 +276,7 @@ module _ (fillers : ℕ → List Filler) (code : Code) (t : WellTyped code) (kno
           made = All-nil (IsMade code then);
           valid = All-nil _;
           short = omega arith;
+          apart = tt;
         }
 
     new-built : (j : ℕ) (f : Filler) → slice_get all j ≡ Some f → New f → slice_get ss (first + j) ≡ Some (built inside f (next + offset inside j all)) → NewAt j (built inside f (next + offset inside j all))

@@ -27,7 +27,7 @@ use Rattle.machine_model.proofs.Once.{some-same}
 use Rattle.stack_code.specs.declared.code.Code.{Code}
 use Rattle.stack_code.specs.Good.{GoodCommon}
 use Rattle.stack_code.specs.Tables.{IsInherent}
-use Rattle.stack_code.specs.Values.{IsMade, code_types}
+use Rattle.stack_code.specs.Values.{AreKeysApart, IsMade, code_types}
 use Rattle.code_keeping.specs.Rows.{EffectTyped}
 use Rattle.code_keeping.proofs.Growing.{IsGrown, IsNewStructure, front-or-behind, gave-typed, get-front, get-last, later, made-there, one-given, within-gave}
 use Rattle.code_keeping.proofs.Lists.{at-some, of-some}
@@ -107,6 +107,7 @@ module _ (code : Code) (c : Common) (good : GoodCommon code c Running) (atom : �
     pub belong : MembersBelong (code_types code) world-then.heap members definition
     pub made : All (IsMade code c) (values_of members)
     pub valid : AreValidMembers members
+    pub apart : AreKeysApart members
     pub unmarked : IsSmall → (x : Shape) × IsValid x × IsUnmarked x × In code.atoms x (Atom atom)
     pub frozen : IsSmall → IsTrue immutable → (x : Shape) × IsValid x × HasShape world-then.heap x (Struct number) × In code.atoms x (Atom atom)
 
@@ -123,6 +124,7 @@ module _ (code : Code) (c : Common) (good : GoodCommon code c Running) (atom : �
           made = all-to (IsMade code c) (IsMade code d) (made-there code c world-then good.nearly.heap grows) (values_of members) fine.made;
           valid = fine.valid;
           short = short small;
+          apart = fine.apart;
         }
 
     grown : IsGrown code c world-then good.nearly.heap grows

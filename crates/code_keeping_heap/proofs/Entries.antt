@@ -17,12 +17,11 @@ use Rattle.run_model.specs.Local.{twice}
 use Rattle.run_model.specs.Operands.{pairs_of}
 use Rattle.run_model.specs.Stores.{entries_from, set_entry}
 use Rattle.stack_code.specs.declared.code.Code.{Code}
-use Rattle.stack_code.specs.Values.{AllFit, Fits, GoodHeap}
+use Rattle.stack_code.specs.Values.{AllFit, ComeOnce, Fits, GoodHeap}
 use Rattle.stack_code.specs.WellTyped.{WellTyped}
 use Rattle.code_keeping.specs.Kinds.{Strings}
 use Rattle.code_keeping.proofs.OfKind.{of-kind}
 use Rattle.code_keeping.proofs.Operands.{a-string, strings}
-use Rattle.code_keeping_heap.proofs.Mapped.{AreApart}
 
 -- ---- pairs of operands
 
@@ -134,7 +133,7 @@ set-other (e ∷ es) key other v ne none = by (is_same_text e.0 key) refl (λ k.
     by true same more false is none = ap (λ o. if o then Some v else entry_at es other) is ∙ none
     by false same more false is none = ap (λ o. if o then Some e.1 else entry_at (set_entry es key v) other) is ∙ more none
 
-set-apart : (es : List (Text × Value)) (key : Text) (v : Value) → AreApart es → AreApart (set_entry es key v)
+pub set-apart : (es : List (Text × Value)) (key : Text) (v : Value) → ComeOnce es → ComeOnce (set_entry es key v)
 set-apart [] key v h = (refl, tt)
 set-apart (e ∷ es) key v (none, h) = by (is_same_text e.0 key) refl (set-apart es key v h)
   where
@@ -145,10 +144,10 @@ set-apart (e ∷ es) key v (none, h) = by (is_same_text e.0 key) refl (set-apart
         on false k = refl
         on true k = let z : is_same_text e.0 key ≡ true = text-same e.0 key (sym (same-text key e.0 k)) in absurd (let q : ⊥ = cc in q)
 
-    by : (b : Bool) → is_same_text e.0 key ≡ b → AreApart (set_entry es key v) → AreApart (if b then (e.0, v) ∷ es else e ∷ set_entry es key v)
+    by : (b : Bool) → is_same_text e.0 key ≡ b → ComeOnce (set_entry es key v) → ComeOnce (if b then (e.0, v) ∷ es else e ∷ set_entry es key v)
     by true same more = (none, h)
     by false same more = (set-other es key e.0 v (not-same same) none, more)
 
-pub entries-apart : (es ps : List (Text × Value)) → AreApart es → AreApart (entries_from es ps)
+pub entries-apart : (es ps : List (Text × Value)) → ComeOnce es → ComeOnce (entries_from es ps)
 entries-apart es [] h = h
 entries-apart es (p ∷ ps) h = entries-apart (set_entry es p.0 p.1) ps (set-apart es p.0 p.1 h)

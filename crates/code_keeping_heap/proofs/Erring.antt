@@ -35,7 +35,7 @@ use Rattle.machine_model.specs.Runs.{Running}
 use Rattle.stack_code.specs.declared.code.Code.{Code}
 use Rattle.stack_code.specs.CodeMachine.{code_facts}
 use Rattle.stack_code.specs.Good.{GoodCommon}
-use Rattle.stack_code.specs.Values.{Fits, IsMade, code_types}
+use Rattle.stack_code.specs.Values.{ComeOnce, Fits, IsMade, code_types}
 use Rattle.stack_code.specs.WellTyped.{WellTyped}
 use Rattle.code_keeping.specs.Kinds.{Errors, Kind, Nils, Strings, kind_of, members_kind, structure_kind, value_kind}
 use Rattle.code_keeping.specs.Rows.{EffectTyped}
@@ -49,7 +49,7 @@ use Rattle.code_keeping.proofs.Staying.{stays-same}
 use Rattle.code_keeping_heap.proofs.Adding.{greatest-last}
 use Rattle.code_keeping_heap.proofs.Entries.{PairFits, entries-all, entries-apart, entries-there, paired, pairs-long, strings-of}
 use Rattle.code_keeping_heap.proofs.Making.{one-there}
-use Rattle.code_keeping_heap.proofs.Mapped.{AreApart, IsFrozenAs, IsHeld, entry-all, frozen-as}
+use Rattle.code_keeping_heap.proofs.Mapped.{IsFrozenAs, IsHeld, entry-all, frozen-as}
 use Rattle.code_keeping_heap.proofs.Mapping.{HasFrozen, frozen-shape, frozen-stands, frozen-valid, pair-frozen, pairs-all}
 use Rattle.code_keeping_heap.proofs.Reading.{has-stands}
 use Rattle.code_keeping_heap.proofs.Sorting.{Fields, has-any}
@@ -57,7 +57,7 @@ use Rattle.code_keeping_heap.proofs.Sorting.{Fields, has-any}
 -- ---- an error with this detail
 
 module _ (code : Code) (t : WellTyped code) (c : Common) (good : GoodCommon code c Running) (message : Text) (cause : Option ℕ) (es : List (Text × Value)) (text : IsText message) (there : IfSome cause (λ n. n < length c.world.heap.errors)) (made : All (λ e. IsMade code c e.1) es)
-    (texts : All (λ e. IsText e.0) es) (apart : AreApart es) (frozen : All (HasFrozen code c) es) where
+    (texts : All (λ e. IsText e.0) es) (apart : ComeOnce es) (frozen : All (HasFrozen code c) es) where
   abbrev heap : Heap
   heap = c.world.heap
 
@@ -137,6 +137,7 @@ module _ (code : Code) (t : WellTyped code) (c : Common) (good : GoodCommon code
           made = by es made;
           valid = λ k x l. (texts k x l, (made k x l).1);
           short = few;
+          apart = apart;
         }
       where
         by : (es : List (Text × Value)) → All (λ e. IsMade code c e.1) es → All (IsMade code d) (map (λ e. e.1) es)

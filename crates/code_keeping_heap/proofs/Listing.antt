@@ -79,6 +79,7 @@ module _ (code : Code) (t : WellTyped code) (c : Common) (good : GoodCommon code
         defined = ea;
         belong = (long, belong-there);
         made = made-all;
+        apart = tt;
         valid = all-to (IsMade code c) _ (λ v m. m.1) vs made-all;
         unmarked = λ small.
             let (xs, shown) = all-shown code c t good.nearly.heap vs made-all in

@@ -36,7 +36,7 @@ use Rattle.run_model.specs.Common.{Common}
 use Rattle.machine_model.proofs.Once.{some-same}
 use Rattle.stack_code.specs.declared.code.Code.{Code}
 use Rattle.stack_code.specs.Tables.{IsInherent}
-use Rattle.stack_code.specs.Values.{Fits, GoodHeap, IsMade, IsWithinAtom, code_types}
+use Rattle.stack_code.specs.Values.{ComeOnce, Fits, GoodHeap, IsMade, IsWithinAtom, code_types}
 use Rattle.stack_code.specs.WellTyped.{WellTyped}
 use Rattle.code_keeping.specs.Kinds.{Mappings, members_kind, structure_kind, value_kind}
 use Rattle.code_keeping.proofs.Lists.{all-at, at-some, of-some, some-there, some-to}
@@ -205,16 +205,12 @@ module _ (code : Code) (c : Common) (es : List (Text × Value)) (ps : Fields) (z
 
 -- ---- entries whose keys are apart
 
-abbrev pub AreApart : List (Text × Value) → Type 0
-AreApart [] = ⊤
-AreApart (e ∷ es) = (entry_at es e.0 ≡ None) × AreApart es
-
 none-some : (o : Option Value) → o ≡ None → IsSomeAnd o (λ v. ⊤) → ⊥
 none-some None e h = h
 none-some (Some v) e h = let q : ⊥ = cc in q
 
 module _ (code : Code) (c : Common) where
-  apart-fields : (es : List (Text × Value)) (ps : Fields) → AllZip (IsFieldOf code c) es ps → AreApart es → length (sorted ps) ≡ length ps
+  apart-fields : (es : List (Text × Value)) (ps : Fields) → AllZip (IsFieldOf code c) es ps → ComeOnce es → length (sorted ps) ≡ length ps
   apart-fields [] [] zip apart = refl
   apart-fields [] (p ∷ ps) zip apart = absurd zip
   apart-fields (e ∷ es) [] zip apart = absurd zip
@@ -222,11 +218,11 @@ module _ (code : Code) (c : Common) where
       put-more p.0 p.1 (sorted ps) (λ has. none-some (entry_at es e.0) none (subst (λ k. IsSomeAnd (entry_at es k) (λ v. ⊤)) is.0 (has-all (λ k. IsSomeAnd (entry_at es k) (λ v. ⊤)) (sorted ps) (sorted-found code c es ps zip) p.0 has)))
       ∙ ap suc (apart-fields es ps zip apart)
 
-  pub as-many-fields : (es : List (Text × Value)) (ps : Fields) → AllZip (IsFieldOf code c) es ps → AreApart es → length es ≡ length (sorted ps)
+  pub as-many-fields : (es : List (Text × Value)) (ps : Fields) → AllZip (IsFieldOf code c) es ps → ComeOnce es → length es ≡ length (sorted ps)
   as-many-fields es ps zip apart = zip-long (IsFieldOf code c) es ps zip ∙ sym (apart-fields es ps zip apart)
 
 -- in a heap where each value has the shape of its field
-pub apart-held : (h : Heap) (es : List (Text × Value)) (ps : Fields) → AllZip (λ e f. (f.0 ≡ e.0) × HasShape h f.1 e.1) es ps → AreApart es → All (IsHeld h es) ps
+pub apart-held : (h : Heap) (es : List (Text × Value)) (ps : Fields) → AllZip (λ e f. (f.0 ≡ e.0) × HasShape h f.1 e.1) es ps → ComeOnce es → All (IsHeld h es) ps
 apart-held h [] [] zip apart = All-nil _
 apart-held h [] (p ∷ ps) zip apart = absurd zip
 apart-held h (e ∷ es) [] zip apart = absurd zip

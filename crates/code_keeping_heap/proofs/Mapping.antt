@@ -36,7 +36,7 @@ use Rattle.stack_code.specs.declared.code.Unit.{Unit as CodeUnit}
 use Rattle.stack_code.specs.Good.{GoodCommon}
 use Rattle.stack_code.specs.Places.{Station, surroundings}
 use Rattle.stack_code.specs.Tables.{IsInherent}
-use Rattle.stack_code.specs.Values.{GoodHeap, IsMade, code_types}
+use Rattle.stack_code.specs.Values.{ComeOnce, GoodHeap, IsMade, code_types}
 use Rattle.stack_code.specs.WellTyped.{WellTyped}
 use Rattle.code_keeping.specs.Rows.{EffectTyped, NamesWell}
 use Rattle.code_keeping.proofs.Coming.{Does, RowHolds, does-else, on-world}
@@ -46,7 +46,7 @@ use Rattle.code_keeping.proofs.Serving.{all-to}
 use Rattle.code_keeping.proofs.Shapes.{has-shape}
 use Rattle.code_keeping_heap.proofs.Adding.{IsFine, added, at-last, grows, number, short, structure-typed, world-then}
 use Rattle.code_keeping_heap.proofs.Entries.{PairFits, entries-all, entries-apart, entries-there, paired, strings-of}
-use Rattle.code_keeping_heap.proofs.Mapped.{AreApart, EntriesBelong, IsFieldOf, IsHeld, apart-held, as-many-fields, fields-shown, mapping-in, mapping-of, mapping-stands, mapping-valid, sorted-in, sorted-short, sorted-texts, sorted-valid}
+use Rattle.code_keeping_heap.proofs.Mapped.{EntriesBelong, IsFieldOf, IsHeld, apart-held, as-many-fields, fields-shown, mapping-in, mapping-of, mapping-stands, mapping-valid, sorted-in, sorted-short, sorted-texts, sorted-valid}
 use Rattle.code_keeping_heap.proofs.Shaping.{IsShown, has-frozen}
 use Rattle.code_keeping_heap.proofs.Sorting.{Fields, sorted, sorted-all, sorted-rises}
 
@@ -91,7 +91,7 @@ module _ (code : Code) (c : Common) where
       let frozen : IsFrozen x = within x (valid, belongs x valid stands) in
       (x, (valid, stands), frozen, has-frozen code t c good p.1 made x frozen stands)
 
-  module _ (h : Heap) (still : (v : Value) (x : Shape) → IsMade code c v → HasShape c.world.heap x v → HasShape h x v) (es : List (Text × Value)) (made : All (λ e. IsMade code c e.1) es) (texts : All (λ e. IsText e.0) es) (apart : AreApart es) (few : length es < 2 ^ 63)
+  module _ (h : Heap) (still : (v : Value) (x : Shape) → IsMade code c v → HasShape c.world.heap x v → HasShape h x v) (es : List (Text × Value)) (made : All (λ e. IsMade code c e.1) es) (texts : All (λ e. IsText e.0) es) (apart : ComeOnce es) (few : length es < 2 ^ 63)
       (frozen : All HasFrozen es) (n : ℕ) (s : Structure) (at : slice_get h.structures n ≡ Some s) (is-frozen : IsFalse s.mutable) (is : s.members ≡ Entries es) where
     abbrev own : Fields
     own = (fields-frozen es frozen).0
@@ -139,7 +139,7 @@ module _ (code : Code) (c : Common) where
 -- ---- the row
 
 module _ (code : Code) (t : WellTyped code) (c : Common) (good : GoodCommon code c Running) (atom : ℕ) (immutable : Bool) (es : List (Text × Value)) (known : IsInherent code atom) (fields : List FieldDef) (rest : Option Ty) (ea : slice_get code.atoms atom ≡ Some (MappingAtom fields rest))
-    (made : All (λ e. IsMade code c e.1) es) (texts : All (λ e. IsText e.0) es) (apart : AreApart es) (belongs : EntriesBelong code c.world.heap es fields rest) (may : IsTrue immutable → All (HasFrozen code c) es) where
+    (made : All (λ e. IsMade code c e.1) es) (texts : All (λ e. IsText e.0) es) (apart : ComeOnce es) (belongs : EntriesBelong code c.world.heap es fields rest) (may : IsTrue immutable → All (HasFrozen code c) es) where
   abbrev w : World
   w = world-then code c good atom immutable (Entries es)
 
@@ -171,6 +171,7 @@ module _ (code : Code) (t : WellTyped code) (c : Common) (good : GoodCommon code
         defined = ea;
         belong = belong-there;
         made = values-made;
+        apart = apart;
         valid = valid-entries es made texts;
         unmarked = λ small.
             let (ps, zip) = fields-shown code c t good.nearly.heap es made in

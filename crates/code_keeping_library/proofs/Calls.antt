@@ -120,6 +120,12 @@ module _ (fillers : ℕ → List Filler) (code : Code) (t : WellTyped code) (pla
       (λ a v (within, (none, has)) f. an-int c.world.heap (λ z. Answered Abs atom count asker result (z ∷ [])) v (of-kind code t c good.nearly.heap (λ k. k ≡ Ints) v a f (λ x h. integers x (within x h)))
       (λ n. does-call good result Abs atom count asker (Int n ∷ []) (λ a. does-int code c good result (pos (unsigned_abs n)) has)))
 
+  pub string-length : Row StringLength
+  string-length atom count operands result vs asker good (long, typed) fit =
+      one-fit code c (Answered StringLength atom count asker result) operands vs _ typed fit
+      (λ a v (within, (none, has)) f. a-string c.world.heap (λ z. Answered StringLength atom count asker result (z ∷ [])) v (of-kind code t c good.nearly.heap (λ k. k ≡ Strings) v a f (λ x h. strings x (within x h)))
+      (λ s. does-call good result StringLength atom count asker (Str s ∷ []) (λ a. does-int code c good result (pos (length s)) has)))
+
   pub starts-with : Row StartsWith
   starts-with atom count operands result vs asker good (long, typed) fit =
       two-fit code c (Answered StartsWith atom count asker result) operands vs _ typed fit
@@ -235,7 +241,7 @@ pub measures-are-done : MeasuresAreDone
 measures-are-done = (of-row ListLength list-length, of-row MappingLength mapping-length, of-row HasKey has-key)
 
 pub text-calls-are-done : TextCallsAreDone
-text-calls-are-done = (of-row Abs abs, of-row StartsWith starts-with, of-row Message message, of-row Cause cause)
+text-calls-are-done = (of-row Abs abs, of-row StartsWith starts-with, of-row Message message, of-row Cause cause, of-row StringLength string-length)
 
 pub input-is-done : InputIsDone
 input-is-done = of-row Readln readln

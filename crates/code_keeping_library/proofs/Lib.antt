@@ -1,7 +1,6 @@
 pub mod Written
 pub mod Texts
 pub mod Calls
-pub mod Lengths
 pub mod Lists
 pub mod Errors
 pub mod Members

@@ -41,7 +41,7 @@ module _ (code : Code) (c : Common) (good : GoodCommon code c Running) (input ou
       stay None = tt
 
   heap-so : GoodHeap code c → GoodHeap code d
-  heap-so h = record { mutable = h.mutable; immutable = h.immutable; members = h.members; functions = h.functions; valid = h.valid; closed = h.closed; short = h.short }
+  heap-so h = record { mutable = h.mutable; immutable = h.immutable; members = h.members; functions = h.functions; valid = h.valid; closed = h.closed; short = h.short; apart = h.apart }
 
   need-so : (need : Need) → NeedIsThere code c need → NeedIsThere code d need
   need-so (Message a from to) m = m

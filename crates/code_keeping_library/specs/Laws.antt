@@ -1,23 +1,11 @@
 -- What steps of well-typed code keep that call the library, as laws.
-use Rattle.std.specs.Prelude.{◌≡◌, ◌<◌, ◌^◌, ℕ, List, Option, Some, All, length, ⊤}
+use Rattle.std.specs.Prelude.{ℕ, List, Option}
 use Rattle.operations.specs.declared.library.LibraryCall.{LibraryCall}
 use Rattle.operations.specs.declared.library.LibraryCall.TheVariants.{Abs, Cause, Detail, FromString, Get, HasKey, Keys, ListLength, MappingLength, Message, Print, Println, Readln, Reverse, Slice, StartsWith, StringLength, Substring, ToCodePointInts, ToLowerAscii, ToString, ToUpperAscii, Trim}
 use Rattle.operations.specs.declared.operation.Operation.TheVariants as op
 use Rattle.value_model.specs.declared.filler.Filler.{Filler}
-use Rattle.value_model.specs.declared.value.Value.{Value}
-use Rattle.value_model.specs.declared.value.Value.TheVariants.{Nil, Bool as Truth, Int, Str, Struct, Error, Function, Future}
-use Rattle.run_model.specs.Common.{Common}
 use Rattle.run_model.specs.Library.{LibraryAnswers}
-use Rattle.machine_model.specs.Keeping.{AskFits}
-use Rattle.machine_model.specs.Machine.{Frame}
-use Rattle.machine_model.specs.Runs.{Running}
-use Rattle.stack_code.specs.declared.code.Code.{Code}
-use Rattle.stack_code.specs.CodeMachine.{Standing, code_facts, codes}
-use Rattle.stack_code.specs.Commands.{Do, command_at}
-use Rattle.stack_code.specs.Frames.{TopFits}
-use Rattle.stack_code.specs.Good.{GoodCommon, code_invariant}
-use Rattle.stack_code.specs.WellTyped.{WellTyped}
-use Rattle.code_keeping.specs.Laws.{AskComes, IsDone}
+use Rattle.code_keeping.specs.Laws.{IsDone}
 
 -- the call is done, where the library answers as its table says
 abbrev pub CallIsDone : LibraryCall → Type 0
@@ -33,7 +21,7 @@ MeasuresAreDone = CallIsDone ListLength × CallIsDone MappingLength × CallIsDon
 
 -- of ints, strings and errors
 abbrev pub TextCallsAreDone : Type 0
-TextCallsAreDone = CallIsDone Abs × CallIsDone StartsWith × CallIsDone Message × CallIsDone Cause
+TextCallsAreDone = CallIsDone Abs × CallIsDone StartsWith × CallIsDone Message × CallIsDone Cause × CallIsDone StringLength
 
 -- strings are made of a string
 abbrev pub TextsAreMade : Type 0
@@ -58,24 +46,3 @@ ErrorsAreGiven = CallIsDone Detail × CallIsDone FromString
 -- the text of any value
 abbrev pub ValuesArePrinted : Type 0
 ValuesArePrinted = CallIsDone ToString
-
--- ---- the length of a string
-
--- a string has no more characters than an int counts
-abbrev pub IsShort : Value → Type 0
-IsShort Nil = ⊤
-IsShort (Truth b) = ⊤
-IsShort (Int i) = ⊤
-IsShort (Str t) = length t < 2 ^ 63
-IsShort (Struct n) = ⊤
-IsShort (Error n) = ⊤
-IsShort (Function n) = ⊤
-IsShort (Future strand unit) = ⊤
-
--- it is done where the strings among the frame's operands are short, of which what is kept says nothing
-abbrev pub LengthsAreDone : Type 0
-LengthsAreDone =
-    (fillers : ℕ → List Filler) (atom : Option ℕ) (count : ℕ) (code : Code) (c : Common) → WellTyped code → (depth : ℕ) (f : Frame Standing) → GoodCommon code c Running → TopFits code c f →
-    command_at code f.control.place ≡ Some (Do (op.Library StringLength atom count)) → All IsShort f.control.local.stack →
-    let ask = (codes fillers code).look f.unit f.control in
-    AskFits LibraryAnswers (codes fillers code) (code_invariant code) c depth f ask × AskComes LibraryAnswers (code_facts fillers code) c depth f ask

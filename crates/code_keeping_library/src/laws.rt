@@ -1,5 +1,5 @@
 //! Laws of steps that call the library. These calls do nothing: their clauses are laws.
-ghost use Rattle.code_keeping_library.specs.Laws.{ErrorsAreGiven, InputIsDone, LengthsAreDone, ListsAreMade, MeasuresAreDone, MembersAreGiven, OutputIsDone, TextCallsAreDone, TextsAreMade, ValuesArePrinted};
+ghost use Rattle.code_keeping_library.specs.Laws.{ErrorsAreGiven, InputIsDone, ListsAreMade, MeasuresAreDone, MembersAreGiven, OutputIsDone, TextCallsAreDone, TextsAreMade, ValuesArePrinted};
 
 /// What a frame of well-typed code asks for fits, whatever comes, and something comes, where it calls the library to write or read, to ask
 /// for the length, a key or members of a structure, about an int, a string or an error, or for a string that is made of another one or of
@@ -14,9 +14,4 @@ pub fn calls_are_done()
     ensures members { MembersAreGiven }
     ensures errors { ErrorsAreGiven }
     ensures printed { ValuesArePrinted }
-{}
-
-/// So it is where it asks for the length of a string, as far as the strings among its operands are no longer than an int counts.
-pub fn lengths_are_done()
-    ensures { LengthsAreDone }
 {}

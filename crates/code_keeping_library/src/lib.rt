@@ -3,4 +3,4 @@
 
 mod laws;
 
-pub use laws::{calls_are_done, lengths_are_done};
+pub use laws::calls_are_done;

@@ -31,7 +31,7 @@ use Rattle.run_model.specs.Rows.{size_of}
 use Rattle.machine_model.proofs.Once.{some-same}
 use Rattle.stack_code.specs.declared.code.Code.{Code}
 use Rattle.stack_code.specs.Tables.{IsInherent}
-use Rattle.stack_code.specs.Values.{Fits, GoodHeap, IsMade, IsWithinAtom, code_types}
+use Rattle.stack_code.specs.Values.{AreKeysApart, ComeOnce, Fits, GoodHeap, IsMade, IsWithinAtom, code_types}
 use Rattle.code_keeping.proofs.Growing.{IsGrown, IsNewStructure, belongs-there, front-or-behind, get-behind, get-front, later, made-there}
 use Rattle.code_keeping.proofs.Lists.{all-at, at-some, of-some, some-there, some-to, there}
 use Rattle.code_keeping.proofs.Serving.{all-to}
@@ -323,6 +323,22 @@ module _ (code : Code) (c : Common) (good : GoodHeap code c) (root : Value) wher
   members-valid (Items vs) h = all-mapped IsValidValue IsValidValue copied copied-valid vs h
   members-valid (Entries es) h = all-mapped (λ e. IsText e.0 × IsValidValue e.1) (λ e. IsText e.0 × IsValidValue e.1) copied-entry (λ e k. (k.0, copied-valid e.1 k.1)) es h
 
+  none-still : (es : List (Text × Value)) (key : Text) → entry_at es key ≡ None → entry_at (map copied-entry es) key ≡ None
+  none-still [] key e = refl
+  none-still (x ∷ es) key e = by (is_same_text x.0 key) e (λ e. none-still es key e)
+    where
+      by : (b : Bool) → (if b then Some x.1 else entry_at es key) ≡ None → (entry_at es key ≡ None → entry_at (map copied-entry es) key ≡ None) → (if b then Some (copied x.1) else entry_at (map copied-entry es) key) ≡ None
+      by true e more = absurd (let q : ⊥ = cc in q)
+      by false e more = more e
+
+  once-still : (es : List (Text × Value)) → ComeOnce es → ComeOnce (map copied-entry es)
+  once-still [] h = tt
+  once-still (e ∷ es) (none, h) = (none-still es e.0 none, once-still es h)
+
+  members-apart : (m : Members) → AreKeysApart m → AreKeysApart (copied_members first ns m)
+  members-apart (Items vs) h = tt
+  members-apart (Entries es) h = once-still es h
+
   as-many : (m : Members) → size_of (copied_members first ns m) ≡ size_of m
   as-many (Items vs) = length-map vs copied
   as-many (Entries es) = length-map es copied-entry
@@ -345,6 +361,7 @@ module _ (code : Code) (c : Common) (good : GoodHeap code c) (root : Value) wher
         made = members-made s.members (all-at (λ s. All (IsMade code c) (values_of s.members)) heap.structures n s good.members e);
         valid = members-valid s.members (all-at (λ s. AreValidMembers s.members) heap.structures n s good.valid.members e);
         short = subst (λ n. n < 2 ^ 63) (sym (as-many s.members)) (all-at (λ s. size_of s.members < 2 ^ 63) heap.structures n s good.short e);
+        apart = members-apart s.members (all-at (λ s. AreKeysApart s.members) heap.structures n s good.apart e);
       }
     where
       members-there : All (IsThere heap) (values_of s.members)

@@ -110,6 +110,7 @@ module _ (code : Code) (c : Common) (good : GoodCommon code c Running) (unit : �
         valid = h.valid;
         closed = h.closed;
         short = h.short;
+        apart = h.apart;
       }
 
   strand-so : (n : ℕ) (s : Strand) → StrandFits code c n s → StrandFits code d n s

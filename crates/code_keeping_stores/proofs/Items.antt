@@ -130,6 +130,7 @@ module _ (code : Code) (c : Common) (good : GoodCommon code c Running) (n : ℕ)
         record {
           belong = λ a definition ea ed h. by a definition ea ed (list-members code z.world.heap vs definition (subst (λ x. MembersBelong (code_types code) z.world.heap x definition) is h));
           made = all-made;
+          apart = tt;
           valid = all-to (IsMade code z) IsValidValue (λ x h. h.1) (set_item vs k gap v) all-made;
         }
       where

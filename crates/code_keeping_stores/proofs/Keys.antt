@@ -31,7 +31,7 @@ use Rattle.machine_model.specs.Runs.{Running}
 use Rattle.stack_code.specs.declared.code.Code.{Code}
 use Rattle.stack_code.specs.CodeMachine.{code_facts}
 use Rattle.stack_code.specs.Good.{GoodCommon}
-use Rattle.stack_code.specs.Values.{Fits, IsMade, code_types}
+use Rattle.stack_code.specs.Values.{AreKeysApart, ComeOnce, Fits, IsMade, code_types}
 use Rattle.stack_code.specs.WellTyped.{WellTyped}
 use Rattle.code_keeping.specs.Kinds.{Mappings, Strings}
 use Rattle.code_keeping.specs.Rows.{EffectTyped}
@@ -42,7 +42,7 @@ use Rattle.code_keeping.proofs.OfKind.{of-kind}
 use Rattle.code_keeping.proofs.Operands.{a-string, mappings, strings, three-fit}
 use Rattle.code_keeping.proofs.Serving.{all-to}
 use Rattle.code_keeping.proofs.Valuing.{own-same}
-use Rattle.code_keeping_heap.proofs.Entries.{set-all, set-there}
+use Rattle.code_keeping_heap.proofs.Entries.{set-all, set-apart, set-there}
 use Rattle.code_keeping_heap.proofs.Keyed.{at-mapping}
 use Rattle.code_keeping_heap.proofs.Mapped.{EntriesBelong, a-mapping, mapping-members}
 use Rattle.code_keeping_stores.proofs.Storing.{IsFine, d, grows, store-typed, world-then}
@@ -74,6 +74,9 @@ module _ (code : Code) (c : Common) (good : GoodCommon code c Running) (n : ℕ)
   old-made : All (λ e. IsMade code c e.1) es
   old-made = entries-so (IsMade code c) es (subst (λ x. All (IsMade code c) (values_of x)) is (all-at (λ s. All (IsMade code c) (values_of s.members)) c.world.heap.structures n s good.nearly.heap.members e))
 
+  old-apart : ComeOnce es
+  old-apart = subst AreKeysApart is (all-at (λ s. AreKeysApart s.members) c.world.heap.structures n s good.nearly.heap.apart e)
+
   old-valid : AreValidMembers (Entries es)
   old-valid = subst AreValidMembers is (all-at (λ s. AreValidMembers s.members) c.world.heap.structures n s good.nearly.heap.valid.members e)
 
@@ -91,6 +94,7 @@ module _ (code : Code) (c : Common) (good : GoodCommon code c Running) (n : ℕ)
         belong = λ a definition ea ed h. by a definition ea ed (mapping-members code z.world.heap es definition (subst (λ x. MembersBelong (code_types code) z.world.heap x definition) is h));
         made = values-all (IsMade code z) (set_entry es key v) (all-to (λ e. IsMade code c e.1) (λ e. IsMade code z e.1) (λ e h. made-so e.1 h) (set_entry es key v) (set-all (λ e. IsMade code c e.1) es key v old-made made));
         valid = set-all (λ e. IsText e.0 × IsValidValue e.1) es key v old-valid (text, made.1);
+        apart = set-apart es key v old-apart;
       }
     where
       by : (a : ℕ) (definition : AtomDef) → s.atom ≡ Some a → slice_get code.atoms a ≡ Some definition →

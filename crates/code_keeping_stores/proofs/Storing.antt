@@ -24,7 +24,7 @@ use Rattle.machine_model.proofs.Once.{some-same}
 use Rattle.stack_code.specs.declared.code.Code.{Code}
 use Rattle.stack_code.specs.Good.{GoodCommon}
 use Rattle.stack_code.specs.Tables.{IsInherent}
-use Rattle.stack_code.specs.Values.{AllFit, GoodHeap, IsMade, IsWithinAtom, code_types}
+use Rattle.stack_code.specs.Values.{AreKeysApart, AllFit, GoodHeap, IsMade, IsWithinAtom, code_types}
 use Rattle.code_keeping.specs.Rows.{EffectTyped}
 use Rattle.code_keeping.proofs.Changing.{get-set-other, get-set-same, length-set, same-or-not}
 use Rattle.code_keeping.proofs.Growing.{IsGrown, IsNewStructure, front-or-behind, gave-typed, get-front, within-gave, within-so}
@@ -79,6 +79,7 @@ module _ (code : Code) (c : Common) (all : GoodCommon code c Running) (n : ℕ) 
         MembersBelong (code_types code) world-then.heap m definition
     pub made : All (IsMade code d) (values_of m)
     pub valid : AreValidMembers m
+    pub apart : AreKeysApart m
 
   abbrev pub IsSmall : Type 0
   IsSmall = cells world-then.heap ≤ most_cells
@@ -96,7 +97,7 @@ module _ (code : Code) (c : Common) (all : GoodCommon code c Running) (n : ℕ) 
 
   module _ (fine : IsFine) (few : size_of m < 2 ^ 63) (news : AreNew) where
     changed-so : IsNewStructure code c world-then good grows n changed
-    changed-so = record { mutable = λ f. within; frozen = λ f. absurd (let q : ⊥ = cc in q); made = fine.made; valid = fine.valid; short = few }
+    changed-so = record { mutable = λ f. within; frozen = λ f. absurd (let q : ⊥ = cc in q); made = fine.made; valid = fine.valid; short = few; apart = fine.apart }
       where
         within : IsSomeAnd s.atom (IsOfAtom m)
         within =

@@ -131,6 +131,7 @@ module _ (code : Code) (c : Common) (need : Need) (good : GoodCommon code c Runn
           valid = h.valid;
           closed = h.closed;
           short = h.short;
+          apart = h.apart;
         }
 
     count-is : ended_count d.strands ≡ ended_count c.strands

@@ -54,7 +54,7 @@ module _ (code : Code) (fillers : ℕ → List Filler) (t : WellTyped code) (c :
   its = All-head (IsToRun code c) u us all-run
 
   heap-so : GoodHeap code c → GoodHeap code rest
-  heap-so h = record { mutable = h.mutable; immutable = h.immutable; members = h.members; functions = h.functions; valid = h.valid; closed = h.closed; short = h.short }
+  heap-so h = record { mutable = h.mutable; immutable = h.immutable; members = h.members; functions = h.functions; valid = h.valid; closed = h.closed; short = h.short; apart = h.apart }
 
   need-so : (need : Need) → NeedIsThere code c need → NeedIsThere code rest need
   need-so (Message a from to) m = m

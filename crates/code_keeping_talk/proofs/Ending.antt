@@ -124,6 +124,7 @@ module _ (code : Code) (c : Common) (end : End) (good : NearlyCommon code c Runn
           valid = h.valid;
           closed = h.closed;
           short = h.short;
+          apart = h.apart;
         }
 
     count-is : ended_count d.strands ≡ ended_count c.strands + 1

@@ -76,7 +76,7 @@ module _ (code : Code) (c : Common) (place n : ℕ) (good : GoodCommon code c Pi
       stay None = tt
 
   heap-so : GoodHeap code c → GoodHeap code d
-  heap-so h = record { mutable = h.mutable; immutable = h.immutable; members = h.members; functions = h.functions; valid = h.valid; closed = h.closed; short = h.short }
+  heap-so h = record { mutable = h.mutable; immutable = h.immutable; members = h.members; functions = h.functions; valid = h.valid; closed = h.closed; short = h.short; apart = h.apart }
 
   need-so : (need : Need) → NeedIsThere code c need → NeedIsThere code d need
   need-so (Message a from to) m = m

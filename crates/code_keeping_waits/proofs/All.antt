@@ -106,8 +106,11 @@ module _ (code : Code) (fillers : ℕ → List Filler) (natives : Answers) (t : 
     texts : All (λ f. IsText f.name) fields
     texts = all-at (HasTextNames code) code.atoms atom (MappingAtom fields rest) t.fields.types.names ea
 
+    apart : AllPairs (λ f g. f.name ≢ g.name) fields
+    apart = all-at HasDistinctFields code.atoms atom (MappingAtom fields rest) t.fields.types.fields ea
+
     keys : All (λ f. key_type fields rest f.name ≡ Some f.ty) fields
-    keys = own-key fields rest (all-at HasDistinctFields code.atoms atom (MappingAtom fields rest) t.fields.types.fields ea)
+    keys = own-key fields rest apart
 
     -- ---- what comes of the targets
 
@@ -147,7 +150,7 @@ module _ (code : Code) (fillers : ℕ → List Filler) (natives : Answers) (t : 
     gathered ts long (Results vs d) is (goes, better, ok) =
         let fit = fields-fit code d result fields vs 0 (as-many ts c vs d is ∙ long) (λ j. ap result (let q : 0 + j ≡ j = omega arith in q)) ok in
         as-wait d (within (gives (with_results d.world atom (map (λ f. f.name) fields) vs) (Struct (next_structure d.world))))
-        (back d goes (lifted d (within (gives (with_results d.world atom (map (λ f. f.name) fields) vs) (Struct (next_structure d.world))))) (gathered-typed code t d better atom fields rest ea known texts keys vs fit row.result row.typed.1))
+        (back d goes (lifted d (within (gives (with_results d.world atom (map (λ f. f.name) fields) vs) (Struct (next_structure d.world))))) (gathered-typed code t d better atom fields rest ea known texts apart keys vs fit row.result row.typed.1))
 
     all-typed : (ts : List Target) → length ts ≡ length fields → Fitting 0 ts → WaitTyped code c row.result (waits_all c atom (map (λ f. f.name) fields) ts)
     all-typed ts long ok = by (met c (AllEnded (strands_in ts))) refl

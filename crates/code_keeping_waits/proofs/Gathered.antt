@@ -1,8 +1,8 @@
 -- The results of a multiple wait are given as a mapping, with an error made for each result that was taken before.
-use Rattle.std.proofs.Common.{◌≡◌, ◌≤◌, ◌<◌, ◌+◌, ◌^◌, ◌∙◌, ℕ, zero, suc, Bool, true, false, List, [], ◌∷◌, ◌++◌, Option, Some, None, inl, inr, length, map, refl, sym, ap, subst, arith}
+use Rattle.std.proofs.Common.{◌≡◌, ◌≢◌, ◌≤◌, ◌<◌, ◌+◌, ◌^◌, ◌∙◌, ℕ, zero, suc, Bool, true, false, List, [], ◌∷◌, ◌++◌, Option, Some, None, inl, inr, length, map, refl, sym, ap, subst, arith}
 use Rattle.std.proofs.lemmas.List.{length-append}
 use Rattle.std.proofs.lemmas.List.Elements.{All-cons, All-head, All-nil, All-tail}
-use Rattle.std.specs.Prelude.{◌⊎◌, All, IsSomeAnd, IsTrue, if◌then◌else◌, option_map, option_to_list, slice_get, sum_by, zip}
+use Rattle.std.specs.Prelude.{◌⊎◌, All, AllPairs, IsSomeAnd, IsTrue, if◌then◌else◌, option_map, option_to_list, slice_get, sum_by, zip}
 use Rattle.std.specs.List.{AllZip}
 use Rattle.bal_base.specs.declared.shape.Shape.{Shape}
 use Rattle.bal_base.specs.declared.text.Text.{Text}
@@ -33,7 +33,7 @@ use Rattle.machine_model.proofs.Once.{some-same}
 use Rattle.stack_code.specs.declared.code.Code.{Code}
 use Rattle.stack_code.specs.Good.{GoodCommon}
 use Rattle.stack_code.specs.Tables.{IsInherent}
-use Rattle.stack_code.specs.Values.{AllFit, Fits, IsMade, code_types}
+use Rattle.stack_code.specs.Values.{AllFit, ComeOnce, Fits, IsMade, code_types}
 use Rattle.stack_code.specs.WellTyped.{WellTyped}
 use Rattle.code_keeping.specs.Rows.{EffectTyped}
 use Rattle.code_keeping.proofs.Growing.{IsGrown, IsIn, IsNewError, IsNewStructure, belongs-there, front-or-behind, gave-typed, get-behind, get-front, later, made-there, one-given, within-gave}
@@ -48,7 +48,7 @@ use Rattle.code_keeping_heap.proofs.Sorting.{Fields, Has, has-any, sorted, sorte
 use Rattle.code_keeping_waits.proofs.Collecting.{ResultsFit}
 use Rattle.code_keeping_waits.proofs.One.{from-map}
 use Rattle.code_keeping_waits.proofs.Results.{stands-error}
-use Rattle.value_model.proofs.EntryKeys.{text-same}
+use Rattle.value_model.proofs.EntryKeys.{same-text, text-same}
 
 -- ---- numbers and texts
 
@@ -107,7 +107,7 @@ abbrev entries : List FieldDef → ℕ → List (Option Value) → List (Text ×
 entries fs next vs = zip (map (λ f. f.name) fs) (numbered next vs)
 
 module _ (code : Code) (t : WellTyped code) (c : Common) (good : GoodCommon code c Running) (atom : ℕ) (fields : List FieldDef) (rest : Option Ty) (ea : slice_get code.atoms atom ≡ Some (MappingAtom fields rest)) (known : IsInherent code atom)
-    (texts : All (λ f. IsText f.name) fields) (keys : All (λ f. key_type fields rest f.name ≡ Some f.ty) fields) (vs : List (Option Value)) (fit : FieldsFit code c fields vs) where
+    (texts : All (λ f. IsText f.name) fields) (apart : AllPairs (λ f g. f.name ≢ g.name) fields) (keys : All (λ f. key_type fields rest f.name ≡ Some f.ty) fields) (vs : List (Option Value)) (fit : FieldsFit code c fields vs) where
   abbrev heap : Heap
   heap = c.world.heap
 
@@ -231,6 +231,33 @@ module _ (code : Code) (t : WellTyped code) (c : Common) (good : GoodCommon code
   entries-long (f ∷ fs) (Some v ∷ vs') n h = ap suc (entries-long fs vs' n h.1)
   entries-long (f ∷ fs) (None ∷ vs') n h = ap suc (entries-long fs vs' (n + 1) h.1)
 
+  -- no key comes twice, as no two fields have one name
+  other-first : (name key : Text) (v : Value) (xs : List (Text × Value)) → key ≢ name → entry_at xs key ≡ None → entry_at ((name, v) ∷ xs) key ≡ None
+  other-first name key v xs other none = by (is_same_text name key) refl
+    where
+      by : (b : Bool) → is_same_text name key ≡ b → (if b then Some v else entry_at xs key) ≡ None
+      by true e = absurd (other (sym (same-text name key e)))
+      by false e = none
+
+  entries-without : (fs : List FieldDef) (vs' : List (Option Value)) (n : ℕ) (key : Text) → FieldsFit code c fs vs' → All (λ g. key ≢ g.name) fs → entry_at (entries fs n vs') key ≡ None
+  entries-without [] [] n key h others = refl
+  entries-without [] (v ∷ vs') n key h others = absurd h
+  entries-without (f ∷ fs) [] n key h others = absurd h
+  entries-without (f ∷ fs) (Some v ∷ vs') n key h others =
+      other-first f.name key v (entries fs n vs') (All-head (λ (g : FieldDef). key ≢ g.name) f fs others) (entries-without fs vs' n key h.1 (All-tail (λ (g : FieldDef). key ≢ g.name) f fs others))
+  entries-without (f ∷ fs) (None ∷ vs') n key h others =
+      other-first f.name key (Error n) (entries fs (n + 1) vs') (All-head (λ (g : FieldDef). key ≢ g.name) f fs others) (entries-without fs vs' (n + 1) key h.1 (All-tail (λ (g : FieldDef). key ≢ g.name) f fs others))
+
+  first-apart : (f : FieldDef) (fs : List FieldDef) → AllPairs (λ f g. f.name ≢ g.name) (f ∷ fs) → All (λ g. f.name ≢ g.name) fs
+  first-apart f fs apart = λ k d l. apart 0 (suc k) d (omega arith) (omega (arith, l))
+
+  entries-once : (fs : List FieldDef) (vs' : List (Option Value)) (n : ℕ) → FieldsFit code c fs vs' → AllPairs (λ f g. f.name ≢ g.name) fs → ComeOnce (entries fs n vs')
+  entries-once [] [] n h apart = tt
+  entries-once [] (v ∷ vs') n h apart = absurd h
+  entries-once (f ∷ fs) [] n h apart = absurd h
+  entries-once (f ∷ fs) (Some v ∷ vs') n h apart = (entries-without fs vs' n f.name h.1 (first-apart f fs apart), entries-once fs vs' n h.1 (λ i j d lt l. apart (suc i) (suc j) d (omega (arith, lt)) (omega (arith, l))))
+  entries-once (f ∷ fs) (None ∷ vs') n h apart = (entries-without fs vs' (n + 1) f.name h.1 (first-apart f fs apart), entries-once fs vs' (n + 1) h.1 (λ i j d lt l. apart (suc i) (suc j) d (omega (arith, lt)) (omega (arith, l))))
+
   -- ---- a shape of the mapping
 
   error-valid : IsValid plain-error
@@ -307,13 +334,14 @@ module _ (code : Code) (t : WellTyped code) (c : Common) (good : GoodCommon code
         made = values-made fields vs next refl fit;
         valid = values-valid fields vs next texts fit;
         short = few small;
+        apart = entries-once fields vs next fit apart;
       }
 
   detail-stands : (n : ℕ) → slice_get w.heap.structures n ≡ Some detail → HasShape w.heap no-fields (Struct n)
   detail-stands n e = (refl, at-some _ (slice_get w.heap.structures n) detail e (refl, (refl, tt)))
 
   new-detail : (n : ℕ) → slice_get w.heap.structures n ≡ Some detail → IsNewStructure code c w good.nearly.heap grows n detail
-  new-detail n e = record { mutable = λ m. absurd (let q : ⊥ = cc in q); frozen = λ f. (no-fields, no-fields-valid, detail-stands n e); made = All-nil _; valid = All-nil _; short = omega arith }
+  new-detail n e = record { mutable = λ m. absurd (let q : ⊥ = cc in q); frozen = λ f. (no-fields, no-fields-valid, detail-stands n e); made = All-nil _; valid = All-nil _; short = omega arith; apart = tt }
 
   at-detail : (j : ℕ) → j < missing vs → slice_get w.heap.structures (first + 1 + j) ≡ Some detail
   at-detail j l =

@@ -101,6 +101,7 @@ module _ (code : Code) (c : Common) (good : GoodCommon code c Running) (n : ℕ)
         valid = h.valid;
         closed = h.closed;
         short = h.short;
+        apart = h.apart;
       }
 
   count-is : ended_count d.strands ≡ ended_count c.strands

@@ -76,7 +76,7 @@ module _ (code : Code) (c : Common) (good : GoodCommon code c Running) (x : Acti
   -- ---- all that is shared
 
   heap-so : GoodHeap code c → GoodHeap code opened
-  heap-so h = record { mutable = h.mutable; immutable = h.immutable; members = h.members; functions = h.functions; valid = h.valid; closed = h.closed; short = h.short }
+  heap-so h = record { mutable = h.mutable; immutable = h.immutable; members = h.members; functions = h.functions; valid = h.valid; closed = h.closed; short = h.short; apart = h.apart }
 
   ready-so : GoodReady code c Running → GoodReady code opened Running
   ready-so h = record { active = h.active; once = h.once; known = h.known; running = h.running; there = h.there }

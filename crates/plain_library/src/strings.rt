@@ -19,6 +19,14 @@ use plain_structures::{characters, text_of_characters};
 use std::alloc::Global;
 use value_model::{PanicName, Value};
 
+/// How many characters the string has.
+fn count_of(alloc: Global, t: &Text) -> Result<i64, Memory>
+    ensures { IfOk result (λ n. n ≡ pos (length t.now)) }
+{
+    let all = characters(alloc, t)?;
+    Ok(all.len() as i64)
+}
+
 /// `s.length()`
 pub fn string_length(
     alloc: Global,
@@ -29,8 +37,8 @@ pub fn string_length(
 {
     match operands {
         [Value::Str(t)] => {
-            let all = characters(alloc, t)?;
-            Ok(Some(Came::Gave(Some(Value::Int(all.len() as i64)))))
+            let length = count_of(alloc, t)?;
+            Ok(Some(Came::Gave(Some(Value::Int(length)))))
         }
         _ => Ok(None),
     }

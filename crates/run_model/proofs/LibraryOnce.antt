@@ -93,7 +93,7 @@ module _ (own : OwnTypes) where
   comes-one ToString atom (v ∷ []) w x y h k = GivesText-one _ _ x y h k
   comes-one Clone atom (v ∷ []) w x y h k = h ∙ sym k
   comes-one CloneReadOnly atom (v ∷ []) w x y h k = h ∙ sym k
-  comes-one StringLength atom (Str t ∷ []) w x y h k = h ∙ sym k
+  comes-one StringLength atom (Str t ∷ []) w x y h k = GivesInt-one _ _ x y h k
   comes-one StartsWith atom (Str s ∷ Str t ∷ []) w x y h k = h ∙ sym k
   comes-one Trim atom (Str t ∷ []) w x y h k = h ∙ sym k
   comes-one Substring atom (Str t ∷ Int i ∷ []) w x y h k = TakesPart-one _ _ _ _ x y h k

@@ -1,13 +1,14 @@
 -- Values that fit types, and what holds of the heap and of the module variables, in each state that well-typed code reaches.
-use Rattle.std.specs.Prelude.{◌≡◌, ◌≢◌, ◌<◌, ◌^◌, ℕ, List, Option, Some, None, IsSomeAnd, IsTrue, All, map, reverse, slice_get, ⊤}
+use Rattle.std.specs.Prelude.{◌≡◌, ◌≢◌, ◌<◌, ◌^◌, ℕ, List, [], ◌∷◌, Option, Some, None, IsSomeAnd, IsTrue, All, map, reverse, slice_get, ⊤}
 use Rattle.std.specs.List.{AllZip}
 use Rattle.bal_base.specs.declared.shape.Shape.{Shape}
+use Rattle.bal_base.specs.declared.text.Text.{Text}
 use Rattle.bal_base.specs.Valid.{IsValid}
 use Rattle.type_model.specs.declared.basic.SemType.{SemType, Atom}
 use Rattle.type_model.specs.Membership.{In}
 use Rattle.value_model.specs.declared.value.Value.{Value}
 use Rattle.value_model.specs.declared.value.Value.TheVariants.{Nil, Bool as Truth, Int, Str, Struct, Error, Function, Future}
-use Rattle.value_model.specs.Heap.{Structure, FunctionObject, IsThere, IsClosed, values_of}
+use Rattle.value_model.specs.Heap.{Entries, FunctionObject, IsClosed, IsThere, Items, Members, Structure, entry_at, values_of}
 use Rattle.value_model.specs.Meaning.{HasShapes}
 use Rattle.value_model.specs.Stands.{OwnTypes, Belongs, IsUnmarked, MembersBelong}
 use Rattle.value_model.specs.Valid.{IsValidHeap, IsValidValue}
@@ -20,6 +21,17 @@ use Rattle.stack_code.specs.Tables.{IsCallable, IsInherent, UnitAt}
 -- the types that values have of their own
 abbrev pub code_types : Code → OwnTypes
 code_types code = record { atoms = code.atoms; units = map (λ u. (u.arrow, u.future)) code.units }
+
+-- ---- keys
+
+-- no key of a mapping comes twice
+abbrev pub ComeOnce : List (Text × Value) → Type 0
+ComeOnce [] = ⊤
+ComeOnce (e ∷ es) = (entry_at es e.0 ≡ None) × ComeOnce es
+
+abbrev pub AreKeysApart : Members → Type 0
+AreKeysApart (Items vs) = ⊤
+AreKeysApart (Entries es) = ComeOnce es
 
 module _ (code : Code) (c : Common) where
   -- ---- values
@@ -86,6 +98,8 @@ module _ (code : Code) (c : Common) where
     pub closed : IsClosed c.world.heap
     -- lists and mappings have no more members than shapes may have
     pub short : All (λ s. size_of s.members < 2 ^ 63) c.world.heap.structures
+    -- mappings have their keys once
+    pub apart : All (λ s. AreKeysApart s.members) c.world.heap.structures
 
   -- ---- module variables
 
