@@ -7,6 +7,7 @@
 //! - [`Names`]: what the names of a package stand for.
 //! - [`describe`]: a descriptor as it stands in a module, as a type.
 //! - [`own_types`]: the types that the language itself names, over atoms that are added once.
+//! - [`is_same`]: whether two types are written alike.
 //! - [`Draft`], [`type_tree`], [`rewritten`] and their kin: the same by parts, for whoever makes the names. Atoms are
 //!   drafted first, and then added as one group.
 #![tactic(auto)]
@@ -33,4 +34,5 @@ pub use names::{
     Entry, FileNames, Meaning, ModuleNames, Names, OwnTypes, Scope, Signature, Source,
 };
 pub use rewriting::rewritten;
+pub use sides::is_same;
 pub use together::{copy, copy_choices, lift, literal_set, negative_set, plain};

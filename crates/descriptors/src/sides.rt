@@ -32,8 +32,8 @@ fn is_same_set(s: &BasicSet, t: &BasicSet) -> bool
     }
 }
 
-/// Whether the two types are written alike. It ends at the first part that differs.
-fn is_same(s: &SemType, t: &SemType) -> bool
+/// Whether the two types are written alike. It ends at the first part that differs, and takes no memory.
+pub fn is_same(s: &SemType, t: &SemType) -> bool
     ensures { IsTrue result ↔ IsSameType s.now t.now }
 {
     match s {

@@ -1,9 +1,10 @@
 -- Where two ways meet that began at one place.
 use Rattle.std.proofs.Common.{◌≡◌, ◌<◌, ◌≤◌, ◌+◌, ◌||◌, ◌==◌, if◌then◌else◌, ℕ, zero, suc, Bool, true, false, List, [], ◌∷◌, ◌++◌, Option, Some, None, IsSomeAnd, IfSome, Result, Ok, Err, IfOk, OnOk, All, length, slice_get, take, ⊎_elim, inl, refl, sym, subst, ap, ◌∙◌, arith}
 use Rattle.std.specs.Prelude.{⊤}
-use Rattle.std.proofs.lemmas.Bool.{eq-eqb, eqb-true}
+use Rattle.std.proofs.lemmas.Bool.{and_parts, eq-eqb, eqb-true}
 use Rattle.std.proofs.lemmas.List.{take_all}
 use Rattle.std.proofs.lemmas.Option.{get_or_from_slice_get, slice_get_within}
+use Rattle.std.proofs.lemmas.List.Sums.{AllPass-from_list_all}
 use Rattle.std.proofs.lemmas.List.Elements.{All-cons, All-get_or, All-head, All-more, All-nil, All-tail, All-weaker}
 use Rattle.bal_base.specs.declared.stop.Memory.{Memory as NoMemory}
 use Rattle.type_model.specs.declared.atoms.AtomDef.{AtomDef}
@@ -12,6 +13,8 @@ use Rattle.type_model.specs.declared.basic.Ty.{Ty}
 use Rattle.typed_tree.specs.SharedTypes.{Shared}
 use Rattle.descriptors.specs.Described.{IsUnion, is_chosen, with_choice, with_choices}
 use Rattle.type_model.specs.Defined.{TyBelow}
+use Rattle.type_model.specs.SameType.{IsSameType}
+use Rattle.type_model.proofs.SameTypes.{In-same}
 use Rattle.flow_narrowing.specs.declared.changes.Change.{Change}
 use Rattle.flow_narrowing.specs.declared.changes.End.{End}
 use Rattle.flow_narrowing.specs.declared.flow.Joins.{Joins}
@@ -19,6 +22,7 @@ use Rattle.flow_narrowing.specs.declared.flow.Joins.TheVariants.{Second, Both}
 use Rattle.flow_narrowing.specs.declared.flow.Variable.{Variable}
 use Rattle.flow_narrowing.specs.Changes.{is_told, put, told, undone, with_narrowed}
 use Rattle.flow_narrowing.specs.Flows.{AreJoined, AreSame, IfShared, IsJoin, IsJoined, NarrowedTo, UnionOf, VariableBelow, VariablesBelow, joins, now, or_declared}
+use Rattle.flow_narrowing.specs.inner.Alike.{are_chosen, has_choices}
 use Rattle.flow_narrowing.specs.Meetings.{ChangeBelow, ChangeJoined, TypeJoined, flow_at}
 use Rattle.flow_narrowing.proofs.Undoing.{length-undone}
 
@@ -121,6 +125,15 @@ union-same env t = record {
   lists = sym (with_choices-same t.lists);
   maps = sym (with_choices-same t.maps);
 }
+
+-- the union of a type and one that is written alike and has no choices of its own
+pub union-alike : (env : List AtomDef) (s t : Ty) → IsSameType s.sem t.sem → has_choices s t ≡ true → IsUnion s t env s
+union-alike env s t same has =
+    let both = and_parts (are_chosen s.lists t.lists) (are_chosen s.maps t.maps) has in record {
+      shapes = λ x valid. (λ h. inl h, ⊎_elim (λ h. h) (λ h. (In-same env x s.sem t.sem same).1 h));
+      lists = sym (with_choices-there s.lists t.lists (AllPass-from_list_all (is_chosen s.lists) t.lists both.0));
+      maps = sym (with_choices-there s.maps t.maps (AllPass-from_list_all (is_chosen s.maps) t.maps both.1));
+    }
 
 -- a variable that neither way changed
 unchanged : (env : List AtomDef) (o : Option Shared) (d : Shared) → UnionOf env (or_declared o d) (or_declared o d) o o o

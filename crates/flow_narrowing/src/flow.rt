@@ -1,11 +1,14 @@
 //! What is known of variables at a place.
-ghost use Rattle.std.specs.Prelude.{◌≡◌, IfOk, length};
+ghost use Rattle.std.specs.Prelude.{◌≡◌, ◌↔◌, IfOk, IsTrue, length, true};
 ghost use Rattle.descriptors.specs.Described.{IsUnion, is_chosen as is_chosen_in, with_choices as joined_choices};
 ghost use Rattle.type_model.specs.Defined.{TyBelow};
+ghost use Rattle.type_model.specs.SameType.{IsSameType};
+ghost use Rattle.flow_narrowing.specs.inner.Alike.{are_chosen as are_chosen_in, has_choices as has_choices_of};
 ghost use Rattle.flow_narrowing.specs.Flows.{AreJoined, AreSame, IfShared, IsJoin, IsJoined, NarrowedTo, UnionOf, VariableBelow, VariablesBelow, joins as joins_of, now as now_of, or_declared as or_declared_of};
 
 use crate::combined::either;
 use bal_base::{Memory, Name, Row};
+use descriptors::is_same;
 use std::alloc::Global;
 use std::rc::Rc;
 use type_model::{Choice, ChoiceList, SemType, Ty, Types};
@@ -45,25 +48,36 @@ impl Variable {
     pub fn now(&self) -> &Ty
         ensures { result.now ≡ now_of self.now }
     {
+        self.shared_now().as_ref()
+    }
+
+    /// The same, as it is shared.
+    fn shared_now(&self) -> &SharedTy
+        ensures { result.now.value ≡ now_of self.now }
+    {
         or_declared(&self.narrowed, &self.declared)
     }
 }
 
 /// The narrowed type, or else the declared one.
-pub(crate) fn or_declared<'a>(narrowed: &'a Option<SharedTy>, declared: &'a SharedTy) -> &'a Ty
-    ensures { result.now ≡ or_declared_of narrowed.now declared.now }
+pub(crate) fn or_declared<'a>(
+    narrowed: &'a Option<SharedTy>,
+    declared: &'a SharedTy,
+) -> &'a SharedTy
+    ensures { result.now.value ≡ or_declared_of narrowed.now declared.now }
 {
     match narrowed {
-        Some(t) => t.as_ref(),
-        None => declared.as_ref(),
+        Some(t) => t,
+        None => declared,
     }
 }
 
 impl Flow {
     /// What is known where two ways of the same variables meet. Of each variable it is the union of its types in those of
     /// the two that go on, or in both where neither does, written anew, with the constructor choices of the first and then
-    /// those of the second, each atom once; a variable that has its declared type in both keeps it. It costs a type for each
-    /// variable that is narrowed in one of the two.
+    /// those of the second, each atom once; a variable that has its declared type in both keeps it. A type that is written
+    /// alike in both is the union itself, and is shared. It costs by the variables, and a type for each variable whose
+    /// types differ.
     pub fn join<T: Types>(alloc: Global, types: &mut T, a: &Flow, b: &Flow) -> Result<Flow, Memory>
         requires first { VariablesBelow (length (T.atoms types.old)) a.now.variables }
         requires second { VariablesBelow (length (T.atoms types.old)) b.now.variables }
@@ -172,7 +186,11 @@ fn narrowed_to<T: Types>(
     match which {
         Joins::First => shared(&v.narrowed),
         Joins::Second => shared(&w.narrowed),
-        Joins::Both => union_of(alloc, types, v.now(), w.now(), &v.narrowed, &w.narrowed),
+        Joins::Both => {
+            let s = v.shared_now();
+            let t = w.shared_now();
+            union_of(alloc, types, s, t, &v.narrowed, &w.narrowed)
+        }
     }
 }
 
@@ -190,16 +208,16 @@ fn shared(t: &Option<SharedTy>) -> Result<Option<SharedTy>, Memory>
 pub(crate) fn union_of<T: Types>(
     alloc: Global,
     types: &mut T,
-    s: &Ty,
-    t: &Ty,
+    s: &SharedTy,
+    t: &SharedTy,
     first: &Option<SharedTy>,
     second: &Option<SharedTy>,
 ) -> Result<Option<SharedTy>, Memory>
-    requires first { TyBelow (length (T.atoms types.old)) s.now }
-    requires second { TyBelow (length (T.atoms types.old)) t.now }
+    requires first { TyBelow (length (T.atoms types.old)) s.now.value }
+    requires second { TyBelow (length (T.atoms types.old)) t.now.value }
     ensures atoms { T.atoms types.new ≡ T.atoms types.old }
     ensures defined { IfOk result (IfShared (TyBelow (length (T.atoms types.old)))) }
-    ensures union { IfOk result (UnionOf (T.atoms types.old) s.now t.now first.now second.now) }
+    ensures union { IfOk result (UnionOf (T.atoms types.old) s.now.value t.now.value first.now second.now) }
 {
     match first {
         None => match second {
@@ -210,15 +228,45 @@ pub(crate) fn union_of<T: Types>(
     }
 }
 
-/// The union of two types, to be shared.
-fn union<T: Types>(alloc: Global, types: &mut T, s: &Ty, t: &Ty) -> Result<SharedTy, Memory>
-    requires first { TyBelow (length (T.atoms types.old)) s.now }
-    requires second { TyBelow (length (T.atoms types.old)) t.now }
+/// The union of two types, to be shared: the first one itself where the second one adds nothing to it.
+fn union<T: Types>(
+    alloc: Global,
+    types: &mut T,
+    s: &SharedTy,
+    t: &SharedTy,
+) -> Result<SharedTy, Memory>
+    requires first { TyBelow (length (T.atoms types.old)) s.now.value }
+    requires second { TyBelow (length (T.atoms types.old)) t.now.value }
     ensures atoms { T.atoms types.new ≡ T.atoms types.old }
     ensures defined { IfOk result (λ u. TyBelow (length (T.atoms types.old)) u.value) }
-    ensures union { IfOk result (λ u. IsUnion s.now t.now (T.atoms types.old) u.value) }
+    ensures union { IfOk result (λ u. IsUnion s.now.value t.now.value (T.atoms types.old) u.value) }
 {
-    Ok(Rc::new(alloc, written_union(alloc, types, s, t)?)?)
+    if adds_nothing(s.as_ref(), t.as_ref()) {
+        return Ok(s.clone()?);
+    }
+    let written = written_union(alloc, types, s.as_ref(), t.as_ref())?;
+    Ok(Rc::new(alloc, written)?)
+}
+
+/// Whether the second type is written as the first one and has no choices that the first one lacks.
+fn adds_nothing(s: &Ty, t: &Ty) -> bool
+    ensures { IsTrue result ↔ (IsSameType s.now.sem t.now.sem × (has_choices_of s.now t.now ≡ true)) }
+{
+    is_same(&s.sem, &t.sem) && has_choices(s, t)
+}
+
+/// Whether the first type has all choices of the second one.
+fn has_choices(s: &Ty, t: &Ty) -> bool
+    ensures { result ≡ has_choices_of s.now t.now }
+{
+    are_chosen(s.lists.as_slice(), t.lists.as_slice())
+        && are_chosen(s.maps.as_slice(), t.maps.as_slice())
+}
+
+fn are_chosen(choices: &[Choice], others: &[Choice]) -> bool
+    ensures { result ≡ are_chosen_in choices.now others.now }
+{
+    others.iter().all(|c| is_chosen(choices, *c))
 }
 
 /// The union of two types, written anew, with the choices of both.
