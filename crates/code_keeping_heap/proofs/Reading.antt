@@ -15,7 +15,7 @@ use Rattle.type_model.specs.Membership.{In}
 use Rattle.type_model.specs.Parts.{StandsIn}
 use Rattle.type_model.proofs.Decided.{In-decided}
 use Rattle.operations.specs.declared.operation.Operation.TheVariants as op
-use Rattle.operations.specs.Rows.{IsSingle, ResultHas, StandsAtIndex, Surroundings}
+use Rattle.operations.specs.Rows.{IsSingleIndex, ResultHas, StandsAtIndex, Surroundings}
 use Rattle.value_model.specs.declared.filler.Filler.{Filler}
 use Rattle.value_model.specs.declared.panics.PanicName.TheVariants.{IndexOutOfRange}
 use Rattle.value_model.specs.declared.value.Value.{Value}
@@ -258,8 +258,8 @@ module _ (code : Code) (t : WellTyped code) (c : Common) (good : GoodCommon code
         whole-of : (w : Shape) × IsValid w × In code.atoms w a × StandsIn (Index k) w x × StandsIn AnyIndex w x
         whole-of = in-whole code t c good.nearly.heap n s vs e is few k v ev x valid stands a fits
 
-        same-index : (m : ℕ) → IsSingle code.atoms b (IntShape (pos m)) → k ≡ m
-        same-index m single = let q : IntShape (pos k) ≡ IntShape (pos m) = (single (IntShape (pos k)) at.1.1).0 (at.2 (IntShape (pos k)) at.1.1 refl) in let z : k ≡ m = cc in z
+        same-index : (m : ℕ) → IsSingleIndex code.atoms b m → k ≡ m
+        same-index m index = let q : IntShape (pos k) ≡ IntShape (pos m) = (index.1 (IntShape (pos k)) at.1.1).0 (at.2 (IntShape (pos k)) at.1.1 refl) in let z : k ≡ m = cc in z
 
         by : In code.atoms x r ⊎ (¬ (In code.atoms x r)) → In code.atoms x r
         by (inl is-in) = is-in
@@ -267,7 +267,7 @@ module _ (code : Code) (t : WellTyped code) (c : Common) (good : GoodCommon code
             let (w, ok, inside, at-k, any) = whole-of in
             absurd (never (has x valid (
               AnyIndex,
-              inr (λ m single. never (has x valid (Index m, inl (m, single, refl), (w, (ok, inside), subst (λ j. StandsIn (Index j) w x) (same-index m single) at-k))), refl),
+              inr (λ m index. never (has x valid (Index m, inl (m, index, refl), (w, (ok, inside), subst (λ j. StandsIn (Index j) w x) (same-index m index) at-k))), refl),
               (w, (ok, inside), any),
             )))
 

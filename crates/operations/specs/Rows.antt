@@ -5,7 +5,7 @@ use Rattle.bal_base.specs.declared.text.Text.{Text}
 use Rattle.bal_base.specs.declared.shape.Shape.{Shape, Nil, Bool as BoolShape, Int, Str}
 use Rattle.bal_base.specs.declared.shape.Case.{Case}
 use Rattle.bal_base.specs.Shapes.{shapes_list}
-use Rattle.bal_base.specs.Valid.{IsValid}
+use Rattle.bal_base.specs.Valid.{IsInt, IsValid}
 use Rattle.type_model.specs.declared.basic.SemType.{SemType}
 use Rattle.type_model.specs.declared.atoms.AtomDef.{AtomDef}
 use Rattle.type_model.specs.declared.answers.Keys.{Keys}
@@ -91,10 +91,13 @@ module _ (env : List AtomDef) where
   abbrev pub IsSingle : SemType → Shape → Type 0
   IsSingle t x = HasExactly env t (λ y. y ≡ x)
 
+  -- the type has this int alone, which ints can be
+  abbrev pub IsSingleIndex : SemType → ℕ → Type 0
+  IsSingleIndex t n = IsInt (pos n) × IsSingle t (Int (pos n))
+
   -- which indexes a type of ints names: one where it has a single int, from 0 on, and else all
   abbrev pub NamesIndex : SemType → Keys → Type 0
-  NamesIndex t keys =
-      ((n : ℕ) × IsSingle t (Int (pos n)) × (keys ≡ Index n)) ⊎ (((n : ℕ) → ¬ IsSingle t (Int (pos n))) × (keys ≡ AnyIndex))
+  NamesIndex t keys = ((n : ℕ) × IsSingleIndex t n × (keys ≡ Index n)) ⊎ (((n : ℕ) → ¬ IsSingleIndex t n) × (keys ≡ AnyIndex))
 
   -- which keys a type of strings names: one where it has a single string, and else all
   abbrev pub NamesKey : SemType → Keys → Type 0
