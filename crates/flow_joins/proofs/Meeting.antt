@@ -98,6 +98,7 @@ module _ (env : Atoms) where
   pub join-by-handles : (f g h k l m : Flow) → SameFlow f k → SameFlow g l → SameFlow m h → IsJoin env k l m → IsJoin env f g h
   join-by-handles f g h k l m p q e j =
       record {
+        as_many = sym (AllZip-long SameVariable g.variables l.variables q.variables) ∙ j.as_many ∙ AllZip-long SameVariable f.variables k.variables p.variables;
         variables = are-joined-by f.reached g.reached f.variables g.variables h.variables k.variables l.variables m.variables p.variables q.variables e.variables
             (subst (λ b. AreJoined env (joins f.reached b) (length k.variables) k.variables l.variables m.variables) q.reached
             (subst (λ a. AreJoined env (joins a l.reached) (length k.variables) k.variables l.variables m.variables) p.reached j.variables));

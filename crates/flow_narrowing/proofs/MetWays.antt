@@ -210,6 +210,7 @@ joined-by : (env : List AtomDef) (which : Joins) (vs ws : List Variable) (first 
     → AreJoined env which (length (undone first.changes.items vs)) (undone first.changes.items vs) (undone second.changes.items vs) ws
     → reached ≡ (first.reached || second.reached) → IsJoin env (flow_at vs first) (flow_at vs second) (record { variables = ws; reached = reached })
 joined-by env which vs ws first second reached e j r = record {
+  as_many = length-undone second.changes.items vs ∙ sym (length-undone first.changes.items vs);
   variables = subst (λ w. AreJoined env w (length (undone first.changes.items vs)) (undone first.changes.items vs) (undone second.changes.items vs) ws) (sym e) j;
   reached = r;
 }

@@ -79,7 +79,8 @@ pub record AreJoined (env : List AtomDef) (which : Joins) (count : ℕ) (vs ws u
   pub length : length us ≡ count
   pub each : (i : ℕ) (v w : Variable) → i < count → slice_get vs i ≡ Some v → slice_get ws i ≡ Some w → IsSomeAnd (slice_get us i) (IsJoined env which v w)
 
--- what is known where two ways of the same variables meet
+-- what is known where two ways of the same variables meet: ways of more or of fewer variables meet nowhere
 pub record IsJoin (env : List AtomDef) (f g h : Flow) : Type 0 where
+  pub as_many : length g.variables ≡ length f.variables
   pub variables : AreJoined env (joins f.reached g.reached) (length f.variables) f.variables g.variables h.variables
   pub reached : h.reached ≡ (f.reached || g.reached)
