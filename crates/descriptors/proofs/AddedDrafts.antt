@@ -64,12 +64,16 @@ module _ (old : Atoms) (env : IsEnv old) (names : Names) (are : AreNames old nam
   atoms-follow : (def : AtomDef) (at : Place) → Follows true anyhow IsOn (numbered_on def at) (new_atom def at)
   atoms-follow def at = record { back = λ s o t h w. tt; forth = forth-atom def at }
 
+  -- the language's own types are what they are over these atoms, and where more stand behind them
+  kept-more : (d : Draft) (atoms : Atoms) → IsOn d atoms → (more : Atoms) → KeepsTypes old (atoms ++ more)
+  kept-more d atoms r more =
+      subst (KeepsTypes old) (sym (ap (λ ds. ds ++ more) r.is ∙ append_assoc old d.atoms.items more)) (KeepsTypes-append old (d.atoms.items ++ more) env)
+
   forth-some : (A : Type 0) (P : Atoms → A → Type 0) (d : Draft) (atoms : Atoms) (o : Outcome A) (t : Draft) → IsSeen true o → IsOn d atoms → anyhow t → wherever names A P d o t
       → (more : Atoms) × IsOn t more × by_now A P atoms o more
   unfolding gives_some
   forth-some A P d atoms (Gives a) t seen r w (h, same) =
-      let kept = subst (KeepsTypes old) (sym r.is) (KeepsTypes-append old d.atoms.items env) in
-      (atoms, subst (λ x. IsOn x atoms) (sym same) r, (h atoms (own-kept old atoms names.own kept are.own), refl))
+      (atoms, subst (λ x. IsOn x atoms) (sym same) r, (λ more. h (atoms ++ more) (own-kept old (atoms ++ more) names.own (kept-more d atoms r more) are.own), refl))
   forth-some A P d atoms (Refuses f) t seen r w h = absurd h
 
   some-follow : (A : Type 0) (P : Atoms → A → Type 0) → Follows true anyhow IsOn (wherever names A P) (by_now A P)

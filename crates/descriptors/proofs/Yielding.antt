@@ -19,7 +19,7 @@ use Rattle.checks.specs.Checks.{Check, gives_some, ◌▷◌}
 use Rattle.checks.proofs.Steps.{goes_on, stops, some_is, ran_out}
 use Rattle.descriptors.specs.declared.names.Names.{Names}
 use Rattle.descriptors.specs.declared.names.OwnTypes.{OwnTypes}
-use Rattle.descriptors.specs.Described.{Atoms, HasMeaning, IsCopy, IsPlain, choice_of, list_of, mapping_of, plain}
+use Rattle.descriptors.specs.Described.{Atoms, HasMeaning, IsCopy, IsPlain, IsRewritten, choice_of, list_of, mapping_of, plain}
 use Rattle.descriptors.specs.Steps.{AreNames, AreOwnTypes, MeaningBelow, Yields}
 use Rattle.descriptors.specs.declared.names.Meaning.{Meaning}
 use Rattle.descriptors.specs.declared.names.Meaning.TheVariants.{TypeName, Constant, Variable, Function}
@@ -61,6 +61,17 @@ list-below n atom h = (h, All-cons (λ c. c.atom < n) (choice_of atom) [] h (All
 
 pub mapping-below : (n atom : ℕ) → atom < n → TyBelow n (mapping_of atom)
 mapping-below n atom h = (h, All-nil (λ c. c.atom < n), All-cons (λ c. c.atom < n) (choice_of atom) [] h (All-nil (λ c. c.atom < n)))
+
+-- a type that was written again is so where atoms are added
+pub rewritten-kept : (old new : List AtomDef) (t u : Ty) → KeepsTypes old new → TyBelow (length old) t → TyBelow (length old) u → IsRewritten t old u → IsRewritten t new u
+rewritten-kept old new t u k below over m = record {
+  shapes = λ x valid. (
+    λ i. (k.shapes t.sem below.0 x).0 ((m.shapes x valid).0 ((k.shapes u.sem over.0 x).1 i)),
+    λ i. (k.shapes u.sem over.0 x).0 ((m.shapes x valid).1 ((k.shapes t.sem below.0 x).1 i)),
+  );
+  lists = m.lists;
+  maps = m.maps;
+}
 
 -- ---- copies
 

@@ -41,6 +41,10 @@ use Rattle.descriptors.specs.Naming.{type_named}
 abbrev pub Atoms : Type 0
 Atoms = List AtomDef
 
+-- a type, or types, of which this holds over the atoms that are there, and still does where more stand behind them
+abbrev pub by_now : (A : Type 0) → (Atoms → A → Type 0) → Check Atoms A
+by_now A P = gives_some (λ env a. (more : Atoms) → P (env ++ more) a)
+
 -- ---- types
 
 -- the type has exactly the shapes of which P holds, and these constructor choices
@@ -103,7 +107,7 @@ abbrev pub IsRewritten : Ty → Atoms → Ty → Type 0
 IsRewritten t env = HasMeaning (λ x. In env x t.sem) t.lists t.maps env
 
 abbrev pub rewritten : Ty → Check Atoms Ty
-rewritten t = gives_some (IsRewritten t)
+rewritten t = by_now Ty (IsRewritten t)
 
 -- ---- sets of shapes
 
@@ -266,10 +270,6 @@ module _ {S : Type 0} (atom : AtomDef → Place → Check S ℕ) where
 -- an atom more, which has this definition; this gives its number
 abbrev pub new_atom : AtomDef → Place → Check Atoms ℕ
 new_atom def at = adds (λ old group. group ≡ def ∷ []) (Some at)
-
--- a type, or types, of which this holds over the atoms that are there
-abbrev pub by_now : (A : Type 0) → (Atoms → A → Type 0) → Check Atoms A
-by_now A = gives_some
 
 module _ (names : Names) (scope : Scope) where
   abbrev pub described : Descriptor → Check Atoms Ty

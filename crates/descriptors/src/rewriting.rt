@@ -13,6 +13,7 @@ pub fn rewritten<T: Types>(alloc: Global, types: &mut T, t: Ty) -> Result<Ty, St
     requires { TyBelow (length (T.atoms types.old)) t }
     ensures { Yields TyBelow (rewritten_of t) (T.atoms types.old) result (T.atoms types.new) }
 {
+    let _atoms = types.env().defs();
     match types.compact(alloc, &t.sem) {
         Ok(sem) => Ok(Ty {
             sem,
