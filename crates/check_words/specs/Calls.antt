@@ -24,6 +24,7 @@ use Rattle.type_model.specs.declared.atoms.AtomDef.TheVariants.{List as ListAtom
 use Rattle.type_model.specs.declared.basic.SemType.{SemType, Atom}
 use Rattle.type_model.specs.declared.basic.Ty.{Ty}
 use Rattle.type_model.specs.Calls.{Asked}
+use Rattle.type_model.specs.Defined.{TyBelow}
 use Rattle.type_model.specs.Places.{is_same_text}
 use Rattle.type_model.specs.SameType.{IsSameType}
 use Rattle.typed_tree.specs.declared.expr.TypedExpr.{TypedExpr}
@@ -98,10 +99,10 @@ lists_by count call P at =
     asking (adds (λ env defs. (t : Ty) × P env t × (defs ≡ ListAtom [] (Some t) ∷ [])) (Some at)) ▷ λ atom.
     makes_strict count (form.Library call (Some atom) None) (λ env t. t ≡ plain (Atom atom)) at
 
--- the receiver, made immutable
+-- the receiver, made immutable: the type that is written there names only atoms that are there
 abbrev pub clones_readonly : ℕ → Shared → Place → Step
 clones_readonly count receiver at =
-    some_over (λ env (t : Shared). PartOf (sem_of receiver) IsReadonly env t.value) ▷ λ t.
+    some_over (λ env (t : Shared). PartOf (sem_of receiver) IsReadonly env t.value × TyBelow (length env) t.value) ▷ λ t.
     makes_typed count (form.Library CloneReadOnly None (Some t)) t at
 
 -- ---- parameters and captured variables

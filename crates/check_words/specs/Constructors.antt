@@ -24,6 +24,8 @@ use Rattle.type_model.specs.declared.basic.Choice.{Choice}
 use Rattle.type_model.specs.declared.basic.SemType.{SemType, Atom, Basic}
 use Rattle.type_model.specs.declared.basic.Ty.{Ty}
 use Rattle.type_model.specs.Calls.{Asked}
+use Rattle.type_model.specs.Defined.{TyBelow}
+use Rattle.type_model.specs.Inclusion.{IsShapeOf}
 use Rattle.type_model.specs.Membership.{In}
 use Rattle.type_model.specs.Places.{is_same_text, item_type, key_type}
 use Rattle.type_model.specs.SameType.{IsSameType}
@@ -42,8 +44,9 @@ use Rattle.check_words.specs.Words.{Atoms, Step, asking, below_if, closes_constr
 
 -- ---- which choices fit
 
+-- the value of the literal is one of the type
 abbrev pub IsLiteralIn : Atoms → Literal → Ty → Type 0
-IsLiteralIn env l t = In env (shape_of (constant_of l)) t.sem
+IsLiteralIn env l t = IsShapeOf env t.sem (shape_of (constant_of l))
 
 -- the items that are literals are in the types of their places, from the place k on
 abbrev pub LiteralsFit : Atoms → ℕ → List Ty → Option Ty → List (Option Literal) → Type 0
@@ -185,9 +188,9 @@ module _ (passes : List AtomDef → Asked → TypeLimit → Type 0) where
   abbrev pub is_frozen : TypedExpr → Place → Step
   is_frozen e at = whether_within passes IsFrozenType (sem e) at ▷ λ b. unless b ReadOnlyHolds at
 
-  -- a member with a computed key has to be of the type of each field whose name the key may be
+  -- a member with a computed key has to be of the type of each field whose name the key may be: the name is one of the shapes of the key's type
   unfoldable pub names_field : Text → SemType → Check Atoms Bool
-  names_field name key old (Gives b) new = ((b ≡ true) × In old (Str name) key ⊎ (b ≡ false) × (¬ In old (Str name) key)) × (new ≡ old)
+  names_field name key old (Gives b) new = ((b ≡ true) × IsShapeOf old key (Str name) ⊎ (b ≡ false) × (¬ IsShapeOf old key (Str name))) × (new ≡ old)
   names_field name key old (Refuses f) new = ⊥
 
   -- a question changes what is known of types, so it is asked of a copy
@@ -262,13 +265,13 @@ makes_list count at =
 abbrev pub all_known : List (Option Text) → Bool
 all_known keys = list_all is_some keys
 
--- a closed record of the members, or where a key is computed, a map of the union of their types
+-- a closed record of the members, or where a key is computed, a map of the union of their types, which names only atoms that are there
 abbrev pub IsOfMembers : ConstructorAtWork → Atoms → List AtomDef → Type 0
 IsOfMembers c env defs = by (all_known c.keys)
   where
     by : Bool → Type 0
     by true = defs ≡ MappingAtom (fields_with c.keys c.types) None ∷ []
-    by false = (t : Ty) × IsPlain (λ x. Any (λ u. In env x u.sem) c.types) env t × (defs ≡ MappingAtom [] (Some t) ∷ [])
+    by false = (t : Ty) × IsPlain (λ x. Any (λ u. In env x u.sem) c.types) env t × TyBelow (length env) t × (defs ≡ MappingAtom [] (Some t) ∷ [])
 
 -- each member is a key and a value
 abbrev pub makes_mapping : ℕ → Place → Step

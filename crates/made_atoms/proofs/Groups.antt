@@ -127,7 +127,7 @@ of-members c env defs def h is = by (all_known c.keys) refl h
   where
     by : (b : Bool) → all_known c.keys ≡ b → IsDefBy b c.keys c.types env def → IsOfMembers c env defs
     by true e k = rw e (is ∙ ap (λ d. d ∷ []) k)
-    by false e k = rw e (k.0, k.1, is ∙ ap (λ d. d ∷ []) k.2)
+    by false e k = rw e (k.0, k.1, k.2, is ∙ ap (λ d. d ∷ []) k.3)
 
 -- ---- the atom that was chosen, or else one that is added
 

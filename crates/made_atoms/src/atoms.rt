@@ -150,7 +150,7 @@ pub fn record_def(alloc: Global, keys: Vec<Option<Text>>, types: Vec<Ty>) -> Res
 fn map_def<T: Types>(alloc: Global, types: &mut T, members: &[Ty]) -> Result<AtomDef, Memory>
     requires { All (TyBelow (length (T.atoms types.old))) members.now }
     ensures atoms { T.atoms types.new ≡ T.atoms types.old }
-    ensures is { IfOk result (λ def. (t : TyOf) × AnyOf members.now (T.atoms types.old) t × (def ≡ MappingAtom [] (There t))) }
+    ensures is { IfOk result (λ def. (t : TyOf) × AnyOf members.now (T.atoms types.old) t × TyBelow (length (T.atoms types.old)) t × (def ≡ MappingAtom [] (There t))) }
     ensures below { IfOk result (DefBelow (length (T.atoms types.old))) }
 {
     let rest = any_of(alloc, types, members)?;

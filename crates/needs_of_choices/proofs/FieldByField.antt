@@ -17,7 +17,7 @@ use Rattle.type_model.specs.declared.basic.Ty.{Ty}
 use Rattle.type_model.specs.Calls.{Asked}
 use Rattle.type_model.specs.Defined.{DefBelow, IsClosed, NamesBelow, TyBelow}
 use Rattle.type_model.proofs.SameTypes.{NamesBelow-same}
-use Rattle.type_model.specs.Membership.{In}
+use Rattle.type_model.specs.Inclusion.{IsShapeOf}
 use Rattle.type_model.specs.SameType.{IsSameType}
 use Rattle.typed_tree.specs.declared.expr.TypedExpr.{TypedExpr}
 use Rattle.typed_tree.specs.Exprs.{type_of}
@@ -74,21 +74,21 @@ module _ (env : Atoms) (atom : ℕ) where
 -- ---- one field
 
 module _ (passes : List AtomDef → Asked → TypeLimit → Type 0) (key : SemType) (e : TypedExpr) (at : Place) where
-  named : (env : Atoms) (name : Text) → In env (Str name) key → Comes (names_field passes name key) env (Ok true) env
+  named : (env : Atoms) (name : Text) → IsShapeOf env key (Str name) → Comes (names_field passes name key) env (Ok true) env
   unfolding Comes names_field
   named env name h = (inl (refl, h), refl)
 
-  not-named : (env : Atoms) (name : Text) → ¬ In env (Str name) key → Comes (names_field passes name key) env (Ok false) env
+  not-named : (env : Atoms) (name : Text) → ¬ IsShapeOf env key (Str name) → Comes (names_field passes name key) env (Ok false) env
   unfolding Comes names_field
   not-named env name h = (inr (refl, h), refl)
 
   module _ (f : FieldDef) (env : Atoms) where
-    pub unasked : ¬ In env (Str f.name) key → ComesOver (fits_field passes key e at f) env (Ok tt) env
+    pub unasked : ¬ IsShapeOf env key (Str f.name) → ComesOver (fits_field passes key e at f) env (Ok tt) env
     unasked never =
         over-on (asking (names_field passes f.name key)) (λ b. either b (is_below_copy passes e f.ty.sem at) done) env env env false (Ok tt)
         (over-asks (names_field passes f.name key) env env (Ok false) (not-named env f.name never)) (over-some (λ o u. u ≡ tt) env tt refl)
 
-    pub asked-copy : (t : SemType) (v : Ty) (new : Atoms) (r : Result (Unit {0}) (Stop Fault)) → v ≡ (type_of e).value → In env (Str f.name) key → IsSameType f.ty.sem t
+    pub asked-copy : (t : SemType) (v : Ty) (new : Atoms) (r : Result (Unit {0}) (Stop Fault)) → v ≡ (type_of e).value → IsShapeOf env key (Str f.name) → IsSameType f.ty.sem t
         → Comes (below passes v.sem t (Some at)) env r new → ComesOver (fits_field passes key e at f) env r new
     asked-copy t v new r is has same h =
         over-on (asking (names_field passes f.name key)) (λ b. either b (is_below_copy passes e f.ty.sem at) done) env env new true r

@@ -14,7 +14,7 @@ use Rattle.type_model.specs.declared.atoms.FieldDef.{FieldDef}
 use Rattle.type_model.specs.declared.basic.SemType.{Basic, SemType}
 use Rattle.type_model.specs.declared.basic.Ty.{Ty}
 use Rattle.type_model.specs.Calls.{Asked}
-use Rattle.type_model.specs.Membership.{In}
+use Rattle.type_model.specs.Inclusion.{IsShapeOf}
 use Rattle.type_model.specs.SameType.{IsSameType}
 use Rattle.typed_tree.specs.declared.expr.TypedExpr.{TypedExpr}
 use Rattle.typed_tree.specs.SharedTypes.{Shared}
@@ -63,8 +63,8 @@ IsCountOf env atom n = IsMappingAtom env atom (λ fields rest. n ≡ length fiel
 
 -- the field's type, if the key may be its name
 abbrev pub IsAsked : Atoms → SemType → FieldDef → Option SemType → Type 0
-IsAsked env key f None = ¬ In env (Str f.name) key
-IsAsked env key f (Some t) = In env (Str f.name) key × IsSameType f.ty.sem t
+IsAsked env key f None = ¬ IsShapeOf env key (Str f.name)
+IsAsked env key f (Some t) = IsShapeOf env key (Str f.name) × IsSameType f.ty.sem t
 
 -- ---- members
 

@@ -1,5 +1,5 @@
 -- What calls give: values of types of which something holds, new lists, and what the library says.
-use Rattle.std.proofs.Common.{◌≡◌, ◌+◌, ◌∙◌, ℕ, suc, List, [], ◌∷◌, Option, Some, None, Result, Ok, Err, OnOk, refl, sym, subst, ap}
+use Rattle.std.proofs.Common.{◌≡◌, ◌+◌, ◌∙◌, ℕ, suc, List, [], ◌∷◌, Option, Some, None, Result, Ok, Err, OnOk, length, refl, sym, subst, ap}
 use Rattle.bal_base.specs.declared.fault.Fault.{Fault}
 use Rattle.bal_base.specs.declared.place.Place.{Place}
 use Rattle.bal_base.specs.declared.stop.Memory.{Memory as NoMemory}
@@ -17,6 +17,7 @@ use Rattle.type_model.specs.declared.atoms.AtomDef.TheVariants.{List as ListAtom
 use Rattle.type_model.specs.declared.basic.SemType.{SemType, Atom}
 use Rattle.type_model.specs.declared.basic.Ty.{Ty}
 use Rattle.type_model.specs.Calls.{Asked}
+use Rattle.type_model.specs.Defined.{TyBelow}
 use Rattle.typed_tree.specs.declared.form.Callee.TheVariants as callee
 use Rattle.typed_tree.specs.declared.form.StrictForm.{StrictForm}
 use Rattle.typed_tree.specs.declared.form.StrictForm.TheVariants as form
@@ -48,10 +49,10 @@ module _ (count : ℕ) (form : StrictForm) (at : Place) (P : Atoms → Ty → Ty
 
 -- what is made immutable
 pub frozen-given : (count : ℕ) (receiver t : Shared) (at : Place) (s new : State) (m : Result (Unit {0}) NoMemory) → PartOf (sem_of receiver) IsReadonly s.atoms t.value
-    → OnOk m (Comes (makes_typed count (form.Library CloneReadOnly None (Some t)) t at) s (Ok tt) new) → OnOk m (Comes (clones_readonly count receiver at) s (Ok tt) new)
-frozen-given count receiver t at s new (Ok u) p h =
-    next _ (λ (v : Shared). makes_typed count (form.Library CloneReadOnly None (Some v)) v at) s new (Ok tt) t s (given _ s t p) h
-frozen-given count receiver t at s new (Err e) p h = tt
+    → TyBelow (length s.atoms) t.value → OnOk m (Comes (makes_typed count (form.Library CloneReadOnly None (Some t)) t at) s (Ok tt) new) → OnOk m (Comes (clones_readonly count receiver at) s (Ok tt) new)
+frozen-given count receiver t at s new (Ok u) p below h =
+    next _ (λ (v : Shared). makes_typed count (form.Library CloneReadOnly None (Some v)) v at) s new (Ok tt) t s (given _ s t (p, below)) h
+frozen-given count receiver t at s new (Err e) p below h = tt
 
 -- ---- new lists
 

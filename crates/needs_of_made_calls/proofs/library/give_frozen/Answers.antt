@@ -19,4 +19,4 @@ returns-in-Ok-clause-comes g c =
     let old = g.T.Types.atoms c.args.types.now in
     subst (λ (e : Atoms). OnOk c.give_cast.result (Comes (clones_readonly c.args.what.count c.args.receiver.now c.args.what.at) (state_of old c.args.work.now) (Ok tt) (state_of e c.give_cast.new.work)))
     (sym c.frozen.ensures.atoms)
-    (frozen-given c.args.what.count c.args.receiver.now c.in-Ok.cast c.args.what.at (state_of old c.args.work.now) _ c.give_cast.result c.in-Ok.ensures.is (c.give_cast.ensures.comes old))
+    (frozen-given c.args.what.count c.args.receiver.now c.in-Ok.cast c.args.what.at (state_of old c.args.work.now) _ c.give_cast.result c.in-Ok.ensures.is c.in-Ok.ensures.below (c.give_cast.ensures.comes old))
