@@ -48,9 +48,9 @@ module _ (passes : List AtomDef → Asked → TypeLimit → Type 0) where
       (need : Need) (names : Names) (old new : State) (after : Option (Stop Fault))
       → Comes (meets passes names need) old (answer after) new
       → AreStanding names new after
-      → Comes (standing (meets passes names) need) old (answer after) new
+      → Comes (standing names (meets passes names) need) old (answer after) new
   unfolding Comes
-  met-standing need names old new None c h = (c, λ before. record { env = h.0; stands = (h.1 refl).1 })
+  met-standing need names old new None c h = (c, λ before. record { env = h.0; stands = (h.1 refl).1; named = (h.1 refl).0 })
   met-standing need names old new (Some (OwnFault f)) c h = (c, tt)
   met-standing need names old new (Some Memory) c h = tt
 
@@ -61,7 +61,7 @@ module _ (passes : List AtomDef → Asked → TypeLimit → Type 0) where
       → Runs (meaning_of passes) (one need) ((names, old), stop) ((names, new), after)
   unfolding Runs meaning_of
   runs-from need names old new None after h r =
-      comes-named (λ ns. standing (meets passes ns) need) names old new (answer after) (met-standing need names old new after r h)
+      comes-named (λ ns. standing ns (meets passes ns) need) names old new (answer after) (met-standing need names old new after r h)
   runs-from need names old new (Some stop) after h r = ap (with_names names) r
 
   -- a need that is met over names, which stay
@@ -79,11 +79,11 @@ module _ (passes : List AtomDef → Asked → TypeLimit → Type 0) where
       (whole, λ none. subst (λ ns. AreNames behind ns × Stands (going behind new).0) same (h none)) r)
 
   abbrev Met : Listed Need → Names × State → Outcome (Unit {0}) → Names × State → Type 0
-  Met needs a o b = (b.0 ≡ a.0) × all_met (standing (meets passes a.0)) needs a.1 o b.1
+  Met needs a o b = (b.0 ≡ a.0) × all_met (standing a.0 (meets passes a.0)) needs a.1 o b.1
 
   over : (needs : Listed Need) (mid : Names × State) (names : Names) (o : Outcome (Unit {0})) (b : Names × State)
-      → mid.0 ≡ names → Met needs mid o b → (b.0 ≡ names) × all_met (standing (meets passes names)) needs mid.1 o b.1
-  over needs mid names o b same (stays, met) = (stays ∙ same, subst (λ ns. all_met (standing (meets passes ns)) needs mid.1 o b.1) same met)
+      → mid.0 ≡ names → Met needs mid o b → (b.0 ≡ names) × all_met (standing names (meets passes names)) needs mid.1 o b.1
+  over needs mid names o b same (stays, met) = (stays ∙ same, subst (λ ns. all_met (standing ns (meets passes ns)) needs mid.1 o b.1) same met)
 
   -- all needs that are met with names as a part of the state are met over these names
   pub met-over-names : (needs : Listed Need) (a : Names × State) (o : Outcome (Unit {0})) (b : Names × State)

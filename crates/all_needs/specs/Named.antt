@@ -28,6 +28,7 @@ going_of env names w = with_names names (going env w)
 unfoldable pub stands_over : List AtomDef → Names → Work → Type 0
 stands_over env names w = Holds env names w
 
--- what it means that a need is met, which leaves what is at hand so that each of its types names atoms that are there
+-- what it means that a need is met, which leaves what is at hand so that each of its types names atoms that are there, and so does what names
+-- stand for
 unfoldable pub meaning_of : (List AtomDef → Asked → TypeLimit → Type 0) → Need → Check (Names × State) (Unit {0})
-meaning_of passes need = named (λ names. standing (meets passes names) need)
+meaning_of passes need = named (λ names. standing names (meets passes names) need)

@@ -5,6 +5,7 @@ use Rattle.checks.specs.Checks.{Check, Gives, Outcome, Refuses}
 use Rattle.descriptors.specs.declared.names.Names.{Names}
 use Rattle.descriptors.specs.declared.names.Signature.{Signature}
 use Rattle.descriptors.specs.Naming.{entry_in}
+use Rattle.descriptors.specs.Steps.{AreNames}
 use Rattle.name_resolution.specs.Definitions.{definitions_of, functions_in}
 use Rattle.needs.specs.Needs.{all_met}
 use Rattle.type_model.specs.declared.answers.TypeLimit.{TypeLimit}
@@ -50,19 +51,20 @@ at_first env p =
 
 -- ---- how it goes on
 
--- what holds between any two needs: each type that is at hand names atoms that are there, and so do the atoms
-pub record IsAtWork (s : State) : Type 0 where
+-- what holds between any two needs: each type that is at hand names atoms that are there, and so do the atoms, and so does what names stand for
+pub record IsAtWork (names : Names) (s : State) : Type 0 where
   pub env : IsEnv s.atoms
   pub stands : Stands s
+  pub named : AreNames s.atoms names
 
 -- where it held before it holds behind
-abbrev pub StaysAtWork : State → Outcome (Unit {0}) → State → Type 0
-StaysAtWork old (Gives u) new = IsAtWork old → IsAtWork new
-StaysAtWork old (Refuses f) new = ⊤
+abbrev pub StaysAtWork : Names → State → Outcome (Unit {0}) → State → Type 0
+StaysAtWork names old (Gives u) new = IsAtWork names old → IsAtWork names new
+StaysAtWork names old (Refuses f) new = ⊤
 
 -- needs that mean the same, and keep this
-abbrev pub standing : (Need → Step) → Need → Step
-standing meets need old o new = meets need old o new × StaysAtWork old o new
+abbrev pub standing : Names → (Need → Step) → Need → Step
+standing names meets need old o new = meets need old o new × StaysAtWork names old o new
 
 -- ---- how it ends
 
@@ -91,6 +93,6 @@ pub record IsTyped (names : Names) (p : Package) (s : State) (t : TypedPackage) 
 module _ (passes : List AtomDef → Asked → TypeLimit → Type 0) (names : Names) (p : Package) where
   unfoldable pub checked_package : Check (List AtomDef) TypedPackage
   checked_package old (Gives t) new =
-      (s : State) × all_met (standing (meets passes names)) (package_needs p) (at_first old p) (Gives tt) s × IsTyped names p s t × (new ≡ s.atoms)
+      (s : State) × all_met (standing names (meets passes names)) (package_needs p) (at_first old p) (Gives tt) s × IsTyped names p s t × (new ≡ s.atoms)
   checked_package old (Refuses f) new =
-      (s : State) × all_met (standing (meets passes names)) (package_needs p) (at_first old p) (Refuses f) s × (new ≡ s.atoms)
+      (s : State) × all_met (standing names (meets passes names)) (package_needs p) (at_first old p) (Refuses f) s × (new ≡ s.atoms)

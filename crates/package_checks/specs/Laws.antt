@@ -21,11 +21,11 @@ module _ (passes : List AtomDef → Asked → TypeLimit → Type 0) where
   IsCheckedByNeeds =
       (names : Names) (p : Package) (old : List AtomDef) (t : TypedPackage) (new : List AtomDef)
       → checked_package passes names p old (Gives t) new
-      ↔ ((s : State) × AreMet (standing (meets passes names)) (members (package_needs p)) (at_first old p) s × IsTyped names p s t × (new ≡ s.atoms))
+      ↔ ((s : State) × AreMet (standing names (meets passes names)) (members (package_needs p)) (at_first old p) s × IsTyped names p s t × (new ≡ s.atoms))
 
   -- those before one need are met, and this one is refused with the fault
   abbrev pub IsRefusedByFirstNeed : Type 0
   IsRefusedByFirstNeed =
       (names : Names) (p : Package) (old : List AtomDef) (f : Fault) (new : List AtomDef)
       → checked_package passes names p old (Refuses f) new
-      ↔ ((s : State) × FirstRefuses (standing (meets passes names)) (members (package_needs p)) (at_first old p) f s × (new ≡ s.atoms))
+      ↔ ((s : State) × FirstRefuses (standing names (meets passes names)) (members (package_needs p)) (at_first old p) f s × (new ≡ s.atoms))
