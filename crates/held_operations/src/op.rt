@@ -2,6 +2,7 @@
 
 use bal_base::Text;
 use operations::{Awaited, Constant, LibraryCall};
+use type_model::SemType;
 use typed_tree::SharedTy;
 
 /// The type that a test asks for, or to which a variable is narrowed.
@@ -9,6 +10,8 @@ use typed_tree::SharedTy;
 pub enum TestedType<'a> {
     /// A type of the tree.
     Tree(&'a SharedTy),
+    /// A type of the code.
+    Code(&'a SemType),
     /// Nil alone.
     Nil,
     /// All errors.
@@ -67,7 +70,7 @@ pub enum Op<'a> {
     SetItem,
     SetKey,
     Test(TestedType<'a>),
-    Cast(&'a SharedTy),
+    Cast(TestedType<'a>),
     Call {
         unit: u32,
         count: u64,
