@@ -48,9 +48,12 @@ module _ (m n more others : Atoms) (first : IsClosed m) (second : IsClosed n) wh
   def-later (FutureAtom result) (FutureAtom e) h p q = sem-later m n more others first second result e p q h
   def-later _ _ h p q = absurd h
 
-  -- with the atoms that are added
+  -- those that are there, and with the atoms that are added
+  pub defs-later : TwinAtoms m n → AllZip (TwinDefs M N) m n
+  defs-later h = zip-both _ _ _ _ def-later m n h first second
+
   pub atoms-later : TwinAtoms m n → AllZip (TwinDefs M N) more others → TwinAtoms M N
-  atoms-later h k = zip-append (TwinDefs M N) m more n others (zip-both _ _ _ _ def-later m n h first second) k
+  atoms-later h k = zip-append (TwinDefs M N) m more n others (defs-later h) k
 
 -- behind some that were added
 pub record Grown (m n : Atoms) (s t : State) : Type 0 where

@@ -24,11 +24,10 @@ use Rattle.typed_tree.specs.SharedTypes.{sem_of}
 use Rattle.expr_needs.specs.declared.kind.Kind.{Kind}
 use Rattle.expr_needs.specs.declared.kind.Kind.TheVariants as kind
 use Rattle.check_words.specs.Branches.{at_head, behind, has_item, heads, is_counter, is_item_of_loop, item_type_at, item_variable, kind_slot, makes_foreach, makes_if, makes_range, makes_while, opens_loop, range_end, wants_counter, widens_item}
-use Rattle.check_words.specs.State.{BlockAtWork, ChoiceAtWork, IsLast, State, with_type}
+use Rattle.check_words.specs.State.{BlockAtWork, State, with_type}
 use Rattle.check_words.specs.Statements.{adds_stmt, closes_block, takes_part}
 use Rattle.check_words.specs.StmtViews.{IsForeach, IsIf, IsListSource, IsRangeSource, IsWhile}
 use Rattle.check_words.specs.Words.{Atoms, Step, closes_choice, sem, sets_flow}
-use Rattle.check_answers.specs.Answers.{BranchIsEven}
 use Rattle.check_answers.specs.Pieces as say
 use Rattle.check_answers.specs.Pieces.{SamePieces, expr_pieces, says, source_pieces}
 use Rattle.check_answers.specs.TwinStates.{BlockTwins, ChoiceTwins, FlowTwins, PartTwins, SharedTwins, StmtTwins, VariableTwins}
@@ -95,22 +94,19 @@ module _ (m n : Atoms) where
         leads-parts es fs B A Any2 (sets_flow a) (sets_flow b) (keeps-flow a) (keeps-flow b)
         (leads-from B A A Any2 _ _ (before-behind m n) (sets-flow-leads m n E V a b h))
 
-  abbrev ChosenAt : State → ChoiceAtWork → ChoiceAtWork → Type 0
-  ChosenAt s c d = ChoiceTwins E E c d × IsLast s.choices c
-
-  these-choice-kept : (s t : State) (p : B s t) → Leads (These s t) (P s.found t.found p.states.found) (ChosenAt s) closes_choice closes_choice
+  these-choice-kept : (s t : State) (p : B s t) → Leads (These s t) (P s.found t.found p.states.found) (ChoiceTwins E E) closes_choice closes_choice
   these-choice-kept s t p =
-      leads-from (These s t) (WithParts s.found t.found (These s t)) (P s.found t.found p.states.found) (ChosenAt s) _ _
+      leads-from (These s t) (WithParts s.found t.found (These s t)) (P s.found t.found p.states.found) (ChoiceTwins E E) _ _
       (λ i j e. (e, ap (λ (k : State). k.found) e.0, ap (λ (k : State). k.found) e.1))
-      (leads-parts s.found t.found (These s t) B (ChosenAt s) closes_choice closes_choice keeps-choice keeps-choice (these-choice-closed m n E E s t p))
+      (leads-parts s.found t.found (These s t) B (ChoiceTwins E E) closes_choice closes_choice keeps-choice keeps-choice (these-choice-closed m n E E s t p))
 
-  pub if-leads : (at : Place) (s t : State) → B s t → BranchIsEven s → Leads (These s t) A Any2 (makes_if at) (makes_if at)
-  if-leads at s t p even =
+  pub if-leads : (at : Place) (s t : State) → B s t → Leads (These s t) A Any2 (makes_if at) (makes_if at)
+  if-leads at s t p =
       let es = s.found in let fs = t.found in let z = p.states.found in
-      leads-then (These s t) (These s t) A _ Any2 _ _ _ _ (these-flow m n E E s t p)
-      (λ f g h. leads-then (These s t) (P es fs z) A _ Any2 _ _ _ _ (these-choice-kept s t p)
+      leads-then (These s t) (These s t) A (FlowTwins E E) Any2 _ _ _ _ (these-flow m n E E s t p)
+      (λ f g h. leads-then (These s t) (P es fs z) A (ChoiceTwins E E) Any2 _ _ _ _ (these-choice-kept s t p)
       (λ c d k. leads-then (P es fs z) (P es fs z) A (FlowTwins E V) Any2 _ _ _ _
-      (joins-leads m n (P es fs z) c.first f d.first g (λ i j q. before-atoms m n i j q.0) k.0.first h.0 (even c f k.1 h.1))
+      (joins-leads m n (P es fs z) c.first f d.first g (λ i j q. before-atoms m n i j q.0) k.first h)
       (λ a b i. leads-then (P es fs z) (N es fs z) A Any2 Any2 _ _ _ _ (sets-wider es fs z a b i) (λ x y o. closing es fs z at))))
 
   -- ---- loops

@@ -1,5 +1,5 @@
 -- Calls that are made: two runs of the need agree.
-use Rattle.std.proofs.Common.{◌≡◌, ◌≢◌, ◌++◌, ◌+◌, ◌<◌, ℕ, suc, List, [], ◌∷◌, All, length, Option, Some, None, arith, refl, sym, subst, ap}
+use Rattle.std.proofs.Common.{◌≡◌, ◌++◌, ◌+◌, ◌<◌, ℕ, suc, List, [], ◌∷◌, All, length, Option, Some, None, arith, refl, sym, subst, ap}
 use Rattle.std.specs.List.{AllZip}
 use Rattle.std.proofs.lemmas.List.Elements.{All-nil}
 use Rattle.bal_base.specs.declared.place.Place.{Place}
@@ -10,6 +10,7 @@ use Rattle.checks.specs.Questions.{member}
 use Rattle.checks.proofs.Twins.{applied-alike, member-alike}
 use Rattle.descriptors.specs.declared.names.Signature.{Signature}
 use Rattle.descriptors.specs.Described.{IsCopy, IsPlain, plain}
+use Rattle.operations.specs.Kinds.{IsReadonly}
 use Rattle.operations.specs.declared.library.LibraryCall.{LibraryCall}
 use Rattle.operations.specs.declared.library.LibraryCall.TheVariants.{Abs, Cause, Clone, CloneReadOnly, Detail, FromString, Get, HasKey, Keys, ListLength, MappingLength, Message, Pop, Print, Println, Push, Readln, RemoveItem, RemoveKey, Reverse, Slice, StartsWith, StringLength, Substring, ToCodePointInts, ToLowerAscii, ToString, ToUpperAscii, Trim}
 use Rattle.type_model.specs.declared.answers.Keys.{Keys as MemberKeys}
@@ -29,26 +30,23 @@ use Rattle.typed_tree.specs.Exprs.{type_of}
 use Rattle.typed_tree.specs.SharedTypes.{Shared, sem_of}
 use Rattle.expr_needs.specs.declared.kind.Kind.{Kind}
 use Rattle.expr_needs.specs.declared.kind.Kind.TheVariants as kind
-use Rattle.check_words.specs.Calls.{AreTypesOf, IsType, applies_to, callee_unit, field_of, gives_by, lists_by, makes_call, makes_call_of, makes_library, member_of, receiver_type, receivers}
+use Rattle.check_words.specs.Calls.{AreTypesOf, IsType, applies_to, callee_unit, clones_readonly, field_of, gives_by, lists_by, makes_call, makes_call_of, makes_library, member_of, receiver_type, receivers}
 use Rattle.check_words.specs.Sharing.{SameOption}
-use Rattle.check_words.specs.State.{CallAtWork, Called, IsLast, OfFunction, OfLibrary, OfValue, State, all_but}
-use Rattle.check_words.specs.Words.{Atoms, OfKind, Step, closes_call, makes_strict, sem}
-use Rattle.check_answers.specs.Answers.{ClonesNothing, IsNoClone, TwinsOver}
+use Rattle.check_words.specs.State.{Called, OfFunction, OfLibrary, OfValue}
+use Rattle.check_words.specs.Words.{Atoms, OfKind, Step, makes_strict, sem}
+use Rattle.check_answers.specs.Answers.{TwinsOver}
 use Rattle.check_answers.specs.Pieces as say
 use Rattle.check_answers.specs.TwinStates.{CallTwins, CalledTwins, PartTwins, SharedTwins}
 use Rattle.check_answers.specs.TwinTypes.{SettledTwins, TwinAtoms, TwinDefs, TwinTypes}
 use Rattle.check_answers.proofs.Adding.{Grown, adds-leads, grown-ends}
 use Rattle.check_answers.proofs.Agreeing.{behind-over}
-use Rattle.check_answers.proofs.Fixed.{These, these-some}
 use Rattle.check_answers.proofs.Growing.{settled-later}
-use Rattle.check_answers.proofs.Leading.{Any2, Leads, Pairs, leads-asking, leads-becomes, leads-gives, leads-nothing, leads-regroup, leads-some, leads-then, leads-to}
+use Rattle.check_answers.proofs.Leading.{Any2, Leads, Pairs, leads-asking, leads-nothing, leads-over, leads-regroup, leads-some, leads-then, leads-to}
 use Rattle.check_answers.proofs.Made.{group, same-atom}
-use Rattle.check_answers.proofs.Meanings.{copies-twin, itself-twin, kinds-twin, same-twin}
+use Rattle.check_answers.proofs.Meanings.{copies-twin, itself-twin, kinds-twin, part-twin, same-twin}
 use Rattle.check_answers.proofs.MemberReads.{plain-twins}
 use Rattle.check_answers.proofs.Questions.{Before, Behind, D, Equal, before-atoms, strict-leads, typed-leads}
-use Rattle.check_answers.proofs.Setting.{with-calls}
-use Rattle.check_answers.proofs.Words.{parts-leads}
-use Rattle.check_answers.proofs.Zips.{zip-but, zip-last}
+use Rattle.check_answers.proofs.Words.{closes-call-leads, parts-leads}
 
 -- a type whose shapes are said, and which names no atom
 plain-below : (env : Atoms) (P : Shape → Type 0) (t : Ty) → IsPlain P env t → IsDefined [] t.sem → TyBelow (length env) t
@@ -148,39 +146,47 @@ module _ (passes : List AtomDef → Asked → TypeLimit → Type 0) (m n : Atoms
       → Leads B TwinsOver Any2 (lists_by k call (IsType passes a) at) (lists_by k call (IsType passes b) at)
   list-made k call at a b h = lists-leads k call (IsType passes a) (IsType passes b) at (λ t u x y. plain-settled a b t u h x y)
 
-  library-leads : (call : LibraryCall) (o p : Option Shared) (k : ℕ) (at : Place) → call ≢ CloneReadOnly → SameOption (SharedTwins E E) o p
+  -- the receiver, made immutable, and what its type is cast to
+  clone-leads : (t u : Shared) (k : ℕ) (at : Place) → SharedTwins E E t u → Leads B TwinsOver Any2 (clones_readonly k t at) (clones_readonly k u at)
+  clone-leads t u k at h =
+      leads-then B B TwinsOver (SharedTwins E E) Any2 _ _ _ _
+      (leads-over m n B (SharedTwins E E) _ _ (before-atoms m n)
+      (λ a b x y. record { twins = part-twin m n (sem_of t) (sem_of u) IsReadonly a.value b.value h.twins.shapes x.0 y.0; first = x.1; second = y.1 }))
+      (λ a b i. ending _ _ (typed-leads m n k (form.Library CloneReadOnly None (Some a)) (form.Library CloneReadOnly None (Some b)) a b at (refl, i) i.twins))
+
+  library-leads : (call : LibraryCall) (o p : Option Shared) (k : ℕ) (at : Place) → SameOption (SharedTwins E E) o p
       → Leads B TwinsOver Any2 (makes_library passes call o k at) (makes_library passes call p k at)
-  library-leads Println o p k at c h = kind-made k Println kind.Nothing at
-  library-leads Print o p k at c h = kind-made k Print kind.Nothing at
-  library-leads Readln o p k at c h = kind-made k Readln kind.Text at
-  library-leads FromString o p k at c h = gives-leads k FromString _ _ at (λ t u x y. same-twin m n _ t u x y)
-  library-leads Abs o p k at c h = kind-made k Abs kind.Integer at
-  library-leads ToString o p k at c h = kind-made k ToString kind.Text at
-  library-leads Clone o p k at c h =
+  library-leads Println o p k at h = kind-made k Println kind.Nothing at
+  library-leads Print o p k at h = kind-made k Print kind.Nothing at
+  library-leads Readln o p k at h = kind-made k Readln kind.Text at
+  library-leads FromString o p k at h = gives-leads k FromString _ _ at (λ t u x y. same-twin m n _ t u x y)
+  library-leads Abs o p k at h = kind-made k Abs kind.Integer at
+  library-leads ToString o p k at h = kind-made k ToString kind.Text at
+  library-leads Clone o p k at h =
       leads-then B B TwinsOver (SharedTwins E E) Any2 _ _ _ _ (receiver-leads o p h)
       (λ t u i. ending _ _ (typed-leads m n k (form.Library Clone None None) (form.Library Clone None None) t u at (refl, refl) i.twins))
-  library-leads CloneReadOnly o p k at c h = absurd (c refl)
-  library-leads StringLength o p k at c h = kind-made k StringLength kind.Integer at
-  library-leads StartsWith o p k at c h = kind-made k StartsWith kind.Truth at
-  library-leads Trim o p k at c h = kind-made k Trim kind.Text at
-  library-leads Substring o p k at c h = kind-made k Substring kind.Text at
-  library-leads ToUpperAscii o p k at c h = kind-made k ToUpperAscii kind.Text at
-  library-leads ToLowerAscii o p k at c h = kind-made k ToLowerAscii kind.Text at
-  library-leads ToCodePointInts o p k at c h = lists-leads k ToCodePointInts (OfKind kind.Integer) (OfKind kind.Integer) at ints-settled
-  library-leads ListLength o p k at c h = kind-made k ListLength kind.Integer at
-  library-leads Push o p k at c h = kind-made k Push kind.Nothing at
-  library-leads Pop o p k at c h = member-leads o p _ _ at h (λ a b i. type-made k Pop at a b i)
-  library-leads RemoveItem o p k at c h = member-leads o p _ _ at h (λ a b i. type-made k RemoveItem at a b i)
-  library-leads Slice o p k at c h = member-leads o p _ _ at h (λ a b i. list-made k Slice at a b i)
-  library-leads Reverse o p k at c h = member-leads o p _ _ at h (λ a b i. list-made k Reverse at a b i)
-  library-leads MappingLength o p k at c h = kind-made k MappingLength kind.Integer at
-  library-leads Keys o p k at c h = lists-leads k Keys (OfKind kind.Text) (OfKind kind.Text) at texts-settled
-  library-leads HasKey o p k at c h = kind-made k HasKey kind.Truth at
-  library-leads Get o p k at c h = field-leads o p _ _ at h (λ a b i. type-made k Get at a b i)
-  library-leads RemoveKey o p k at c h = field-leads o p _ _ at h (λ a b i. type-made k RemoveKey at a b i)
-  library-leads Message o p k at c h = kind-made k Message kind.Text at
-  library-leads Cause o p k at c h = kind-made k Cause kind.ErrorOrNil at
-  library-leads Detail o p k at c h = gives-leads k Detail _ _ at (λ t u x y. same-twin m n _ t u x y)
+  library-leads CloneReadOnly o p k at h = leads-then B B TwinsOver (SharedTwins E E) Any2 _ _ _ _ (receiver-leads o p h) (λ t u i. clone-leads t u k at i)
+  library-leads StringLength o p k at h = kind-made k StringLength kind.Integer at
+  library-leads StartsWith o p k at h = kind-made k StartsWith kind.Truth at
+  library-leads Trim o p k at h = kind-made k Trim kind.Text at
+  library-leads Substring o p k at h = kind-made k Substring kind.Text at
+  library-leads ToUpperAscii o p k at h = kind-made k ToUpperAscii kind.Text at
+  library-leads ToLowerAscii o p k at h = kind-made k ToLowerAscii kind.Text at
+  library-leads ToCodePointInts o p k at h = lists-leads k ToCodePointInts (OfKind kind.Integer) (OfKind kind.Integer) at ints-settled
+  library-leads ListLength o p k at h = kind-made k ListLength kind.Integer at
+  library-leads Push o p k at h = kind-made k Push kind.Nothing at
+  library-leads Pop o p k at h = member-leads o p _ _ at h (λ a b i. type-made k Pop at a b i)
+  library-leads RemoveItem o p k at h = member-leads o p _ _ at h (λ a b i. type-made k RemoveItem at a b i)
+  library-leads Slice o p k at h = member-leads o p _ _ at h (λ a b i. list-made k Slice at a b i)
+  library-leads Reverse o p k at h = member-leads o p _ _ at h (λ a b i. list-made k Reverse at a b i)
+  library-leads MappingLength o p k at h = kind-made k MappingLength kind.Integer at
+  library-leads Keys o p k at h = lists-leads k Keys (OfKind kind.Text) (OfKind kind.Text) at texts-settled
+  library-leads HasKey o p k at h = kind-made k HasKey kind.Truth at
+  library-leads Get o p k at h = field-leads o p _ _ at h (λ a b i. type-made k Get at a b i)
+  library-leads RemoveKey o p k at h = field-leads o p _ _ at h (λ a b i. type-made k RemoveKey at a b i)
+  library-leads Message o p k at h = kind-made k Message kind.Text at
+  library-leads Cause o p k at h = kind-made k Cause kind.ErrorOrNil at
+  library-leads Detail o p k at h = gives-leads k Detail _ _ at (λ t u x y. same-twin m n _ t u x y)
 
   -- ---- values that are called
 
@@ -236,44 +242,23 @@ module _ (passes : List AtomDef → Asked → TypeLimit → Type 0) (m n : Atoms
       ending _ _ (strict-leads m n k (form.Call (callee_unit f)) (form.Call (callee_unit f)) (λ env. IsCopy f.result) (λ env. IsCopy f.result) at refl
       (λ a b x y. copies-twin m n f.result f.result a b (itself-twin m n twins f.result) x y))
 
-  call-of : (c d : Called) (k : ℕ) (at : Place) → IsNoClone c → CalledTwins E E c d → Leads B TwinsOver Any2 (makes_call_of passes c k at) (makes_call_of passes d k at)
-  call-of (OfFunction f) (OfFunction g) k at c h =
+  call-of : (c d : Called) (k : ℕ) (at : Place) → CalledTwins E E c d → Leads B TwinsOver Any2 (makes_call_of passes c k at) (makes_call_of passes d k at)
+  call-of (OfFunction f) (OfFunction g) k at h =
       subst (λ i. Leads B TwinsOver Any2 (makes_call_of passes (OfFunction f) k at) (makes_call_of passes (OfFunction i) k at)) (sym h) (function-made f k at)
-  call-of OfValue OfValue k at c h =
+  call-of OfValue OfValue k at h =
       leads-then B B TwinsOver (AllZip (PartTwins E E)) Any2 _ _ _ _ (parts-leads m n E E (suc k)) (λ es fs i. value-made es fs (suc k) at i)
-  call-of (OfLibrary r o) (OfLibrary q p) k at c h =
+  call-of (OfLibrary r o) (OfLibrary q p) k at h =
       subst (λ i. Leads B TwinsOver Any2 (makes_call_of passes (OfLibrary r o) k at) (makes_call_of passes (OfLibrary i p) k at)) (sym h.0)
       (subst (λ i. Leads B TwinsOver Any2 (makes_library passes r.call o (receivers passes o + k) at) (makes_library passes r.call p (i + k) at)) (sym (receivers-same o p h.1))
-      (library-leads r.call o p (receivers passes o + k) at c h.1))
-  call-of (OfFunction f) OfValue k at c h = absurd h
-  call-of (OfFunction f) (OfLibrary q p) k at c h = absurd h
-  call-of OfValue (OfFunction g) k at c h = absurd h
-  call-of OfValue (OfLibrary q p) k at c h = absurd h
-  call-of (OfLibrary r o) (OfFunction g) k at c h = absurd h
-  call-of (OfLibrary r o) OfValue k at c h = absurd h
+      (library-leads r.call o p (receivers passes o + k) at h.1))
+  call-of (OfFunction f) OfValue k at h = absurd h
+  call-of (OfFunction f) (OfLibrary q p) k at h = absurd h
+  call-of OfValue (OfFunction g) k at h = absurd h
+  call-of OfValue (OfLibrary q p) k at h = absurd h
+  call-of (OfLibrary r o) (OfFunction g) k at h = absurd h
+  call-of (OfLibrary r o) OfValue k at h = absurd h
 
-  module _ (s t : State) (p : B s t) where
-    abbrev Closed : CallAtWork → CallAtWork → Type 0
-    Closed c d = CallTwins E E c d × IsLast s.calls c
-
-    closed-at : (i j : State) → These s t i j → B (record i { calls = all_but 1 i.calls }) (record j { calls = all_but 1 j.calls })
-    closed-at i j e =
-        subst (λ (k : State). B (record k { calls = all_but 1 k.calls }) (record j { calls = all_but 1 j.calls })) (sym e.0)
-        (subst (λ (k : State). B (record s { calls = all_but 1 s.calls }) (record k { calls = all_but 1 k.calls })) (sym e.1)
-        (record {
-          first = p.first;
-          second = p.second;
-          states = with-calls E E s t p.states _ _ (zip-but (CallTwins E E) 1 s.calls t.calls p.states.calls);
-        }))
-
-    closes-leads : Leads (These s t) B Closed closes_call closes_call
-    closes-leads =
-        leads-then (These s t) (These s t) B Closed Closed _ _ _ _
-        (these-some s t Closed _ _ (λ a b x y. (zip-last (CallTwins E E) s.calls t.calls a b p.states.calls x y, x)))
-        (λ c d h. leads-then (These s t) B B Any2 Closed _ _ _ _ (leads-becomes (These s t) B _ _ closed-at) (λ x y z. leads-gives B Closed c d h))
-
-    pub makes-call-leads : (at : Place) → ClonesNothing s → Leads (These s t) TwinsOver Any2 (makes_call passes at) (makes_call passes at)
-    makes-call-leads at none =
-        leads-then (These s t) B TwinsOver Closed Any2 _ _ _ _ closes-leads
-        (λ c d h. subst (λ i. Leads B TwinsOver Any2 (makes_call_of passes c.callee c.args at) (makes_call_of passes d.callee i at)) (sym h.0.args)
-        (call-of c.callee d.callee c.args at (none c h.1) h.0.callee))
+  pub makes-call-leads : (at : Place) → Leads B TwinsOver Any2 (makes_call passes at) (makes_call passes at)
+  makes-call-leads at =
+      leads-then B B TwinsOver (CallTwins E E) Any2 _ _ _ _ (closes-call-leads m n E E)
+      (λ c d h. subst (λ i. Leads B TwinsOver Any2 (makes_call_of passes c.callee c.args at) (makes_call_of passes d.callee i at)) (sym h.args) (call-of c.callee d.callee c.args at h.callee))

@@ -1,5 +1,5 @@
 -- Which choice of a constructor fits, in two runs.
-use Rattle.std.proofs.Common.{◌≡◌, ◌⊎◌, ◌≤◌, ◌++◌, ◌+◌, ℕ, List, [], ◌∷◌, length, All, Any, IsTrue, IsSome, IsSomeAnd, IfSome, Option, None, Some, inl, inr, refl, sym, subst, ◌∙◌}
+use Rattle.std.proofs.Common.{◌≡◌, ◌⊎◌, ◌≤◌, ◌++◌, ◌+◌, ℕ, List, [], ◌∷◌, length, All, Any, IsTrue, IsSome, IsSomeAnd, Option, None, Some, inl, inr, refl, sym, subst, ◌∙◌}
 use Rattle.std.specs.List.{AllZip}
 use Rattle.std.proofs.lemmas.List.Elements.{All-cons, All-head, All-nil, All-tail}
 use Rattle.bal_base.specs.declared.place.Place.{Place}
@@ -17,7 +17,6 @@ use Rattle.check_words.specs.Sharing.{SameOption}
 use Rattle.check_words.specs.State.{State}
 use Rattle.check_words.specs.Values.{constant_of}
 use Rattle.check_words.specs.Words.{Atoms}
-use Rattle.check_answers.specs.Answers.{IsLiteralValid}
 use Rattle.check_answers.specs.TwinTypes.{TwinAtoms, TwinFields, TwinTypes}
 use Rattle.check_answers.proofs.Atoms.{lists-twin, mappings-twin}
 use Rattle.check_answers.proofs.Leading.{Leads, Pairs}
@@ -34,31 +33,27 @@ module _ (m n : Atoms) where
   there None (Some u) h k = absurd h
   there (Some t) None h k = absurd h
 
-  literal-in : (l : Literal) (o p : Option Ty) → IsLiteralValid l → SameOption W o p → IsSomeAnd o (IsLiteralIn m l) → IsSomeAnd p (IsLiteralIn n l)
-  literal-in l (Some t) (Some u) valid h k = (h.shapes (shape_of (constant_of l)) valid).0 k
-  literal-in l None p valid h k = absurd k
-  literal-in l (Some t) None valid h k = absurd h
+  literal-in : (l : Literal) (o p : Option Ty) → SameOption W o p → IsSomeAnd o (IsLiteralIn m l) → IsSomeAnd p (IsLiteralIn n l)
+  literal-in l (Some t) (Some u) h k = (k.0, (h.shapes (shape_of (constant_of l)) k.0).0 k.1)
+  literal-in l None p h k = absurd k
+  literal-in l (Some t) None h k = absurd h
 
   -- ---- lists
 
-  literals-fit : (k : ℕ) (fixed gs : List Ty) (rest s : Option Ty) (items : List (Option Literal)) → All (λ i. IfSome i IsLiteralValid) items → AllZip W fixed gs
-      → SameOption W rest s → LiteralsFit m k fixed rest items → LiteralsFit n k gs s items
-  literals-fit k fixed gs rest s [] valid h r x = tt
-  literals-fit k fixed gs rest s (None ∷ items) valid h r x =
-      literals-fit (k + 1) fixed gs rest s items (All-tail (λ i. IfSome i IsLiteralValid) None items valid) h r x
-  literals-fit k fixed gs rest s (Some l ∷ items) valid h r x = (
-    literal-in l (item_type fixed rest k) (item_type gs s k) (All-head (λ i. IfSome i IsLiteralValid) (Some l) items valid) (item-twins m n fixed gs rest s k h r) x.0,
-    literals-fit (k + 1) fixed gs rest s items (All-tail (λ i. IfSome i IsLiteralValid) (Some l) items valid) h r x.1,
-  )
+  literals-fit : (k : ℕ) (fixed gs : List Ty) (rest s : Option Ty) (items : List (Option Literal)) → AllZip W fixed gs → SameOption W rest s → LiteralsFit m k fixed rest items → LiteralsFit n k gs s items
+  literals-fit k fixed gs rest s [] h r x = tt
+  literals-fit k fixed gs rest s (None ∷ items) h r x = literals-fit (k + 1) fixed gs rest s items h r x
+  literals-fit k fixed gs rest s (Some l ∷ items) h r x =
+      (literal-in l (item_type fixed rest k) (item_type gs s k) (item-twins m n fixed gs rest s k h r) x.0, literals-fit (k + 1) fixed gs rest s items h r x.1)
 
   length-fits : (fixed gs : List Ty) (rest s : Option Ty) (count : ℕ) → AllZip W fixed gs → SameOption W rest s → LengthFits fixed rest count → LengthFits gs s count
   length-fits fixed gs rest s count h r (x, inl y) = (subst (λ k. k ≤ count) (zip-long W fixed gs h) x, inl (there rest s r y))
   length-fits fixed gs rest s count h r (x, inr y) = (subst (λ k. k ≤ count) (zip-long W fixed gs h) x, inr (subst (λ k. count ≤ k) (zip-long W fixed gs h) y))
 
-  pub list-fits : TwinAtoms m n → (items : List (Option Literal)) (c : Choice) → All (λ i. IfSome i IsLiteralValid) items → ListFits items m c → ListFits items n c
-  list-fits twins items c valid h =
+  pub list-fits : TwinAtoms m n → (items : List (Option Literal)) (c : Choice) → ListFits items m c → ListFits items n c
+  list-fits twins items c h =
       lists-twin m n twins c.atom _ _
-      (λ fixed gs rest s z r x. (length-fits fixed gs rest s (length items) z r x.0, literals-fit 0 fixed gs rest s items valid z r x.1)) h
+      (λ fixed gs rest s z r x. (length-fits fixed gs rest s (length items) z r x.0, literals-fit 0 fixed gs rest s items z r x.1)) h
 
   -- ---- mappings
 
@@ -71,19 +66,19 @@ module _ (m n : Atoms) where
   key-fits (Some key) o p h x = there o p h x
   key-fits None o p h x = tt
 
-  literal-fits : (l : Option Literal) (o p : Option Ty) → IfSome l IsLiteralValid → SameOption W o p → literal_fits m l o → literal_fits n l p
-  literal-fits None o p valid h x = tt
-  literal-fits (Some l) o p valid h x = literal-in l o p valid h x
+  literal-fits : (l : Option Literal) (o p : Option Ty) → SameOption W o p → literal_fits m l o → literal_fits n l p
+  literal-fits None o p h x = tt
+  literal-fits (Some l) o p h x = literal-in l o p h x
 
   members-fit : (fields gs : List FieldDef) (rest s : Option Ty) (ms : List MemberSeen) → AllZip (TwinFields m n) fields gs → SameOption W rest s
-      → All (λ x. IfSome x.literal IsLiteralValid) ms → All (MemberFits m fields rest) ms → All (MemberFits n gs s) ms
-  members-fit fields gs rest s [] h r valid x = All-nil (MemberFits n gs s)
-  members-fit fields gs rest s (k ∷ ms) h r valid x =
+      → All (MemberFits m fields rest) ms → All (MemberFits n gs s) ms
+  members-fit fields gs rest s [] h r x = All-nil (MemberFits n gs s)
+  members-fit fields gs rest s (k ∷ ms) h r x =
       let one = member-twins fields gs rest s k.key h r in
       let fits = All-head (MemberFits m fields rest) k ms x in
       All-cons (MemberFits n gs s) k ms
-      (key-fits k.key _ _ one fits.0, literal-fits k.literal _ _ (All-head (λ x. IfSome x.literal IsLiteralValid) k ms valid) one fits.1)
-      (members-fit fields gs rest s ms h r (All-tail (λ x. IfSome x.literal IsLiteralValid) k ms valid) (All-tail (MemberFits m fields rest) k ms x))
+      (key-fits k.key _ _ one fits.0, literal-fits k.literal _ _ one fits.1)
+      (members-fit fields gs rest s ms h r (All-tail (MemberFits m fields rest) k ms x))
 
   abbrev IsThere : List MemberSeen → FieldDef → Type 0
   IsThere ms f = IsTrue f.optional ⊎ Any (λ k. k.key ≡ Some f.name) ms
@@ -99,10 +94,10 @@ module _ (m n : Atoms) where
   required-there [] (g ∷ gs) ms h x = absurd h
   required-there (f ∷ fields) [] ms h x = absurd h
 
-  pub mapping-fits : TwinAtoms m n → (ms : List MemberSeen) (c : Choice) → All (λ x. IfSome x.literal IsLiteralValid) ms → MappingFits ms m c → MappingFits ms n c
-  mapping-fits twins ms c valid h =
+  pub mapping-fits : TwinAtoms m n → (ms : List MemberSeen) (c : Choice) → MappingFits ms m c → MappingFits ms n c
+  mapping-fits twins ms c h =
       mappings-twin m n twins c.atom _ _
-      (λ fields gs rest s z r x. (members-fit fields gs rest s ms z r valid x.0, required-there fields gs ms z x.1)) h
+      (λ fields gs rest s z r x. (members-fit fields gs rest s ms z r x.0, required-there fields gs ms z x.1)) h
 
 -- ---- the first choice that fits
 

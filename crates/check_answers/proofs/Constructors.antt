@@ -1,5 +1,5 @@
 -- Constructors: two runs of each need agree, but for those that make atoms.
-use Rattle.std.proofs.Common.{◌≡◌, ◌++◌, ℕ, Bool, true, false, List, [], ◌∷◌, length, All, IfSome, IsSomeAnd, Option, Some, None, unwrap_or, refl, sym, subst, ap, ◌∙◌}
+use Rattle.std.proofs.Common.{◌≡◌, ◌++◌, ℕ, Bool, true, false, List, [], ◌∷◌, length, IsSomeAnd, Option, Some, None, unwrap_or, refl, sym, subst, ap, ◌∙◌}
 use Rattle.std.specs.List.{AllZip, list_any}
 use Rattle.bal_base.specs.declared.fault.FaultCode.TheVariants.{Duplicate, ReadOnlyHolds}
 use Rattle.bal_base.specs.declared.place.Place.{Place}
@@ -27,7 +27,6 @@ use Rattle.check_words.specs.Constructors.{IsFrozenType, IsItemWant, IsMemberWan
 use Rattle.check_words.specs.Sharing.{SameOption}
 use Rattle.check_words.specs.State.{ConstructorAtWork}
 use Rattle.check_words.specs.Words.{Atoms, opens_constructor, sem, sets_constructor, wants_no_more, whether_within}
-use Rattle.check_answers.specs.Answers.{IsLiteralValid}
 use Rattle.check_answers.specs.TwinStates.{ConstructorTwins, PartTwins, SharedTwins}
 use Rattle.check_answers.specs.TwinTypes.{TwinAtoms, TwinFields}
 use Rattle.check_answers.proofs.Atoms.{with-lists, with-mappings}
@@ -91,17 +90,15 @@ module _ (m n : Atoms) (twins : TwinAtoms m n) where
       chooses-leads expected.Immutable at = opens-leads None None true true refl refl
       chooses-leads expected.Wanted at = leads-then B B B _ Any2 _ _ _ _ (want-leads m n (D m n) (D m n)) (λ w x h. for-leads w x at h)
 
-    pub chooses-list-leads : (e : Expected) (items : List (Option Literal)) (at : Place) → All (λ i. IfSome i IsLiteralValid) items
+    pub chooses-list-leads : (e : Expected) (items : List (Option Literal)) (at : Place)
         → Leads B B Any2 (chooses_constructor passes (λ t. t.lists) (ListFits items) e at) (chooses_constructor passes (λ t. t.lists) (ListFits items) e at)
-    chooses-list-leads e items at valid =
-        chooses-leads (λ t. t.lists) (λ s t h. h.lists) (ListFits items) (λ c x. list-fits m n twins items c valid x)
-        (λ c x. list-fits n m (atoms-back m n twins) items c valid x) e at
+    chooses-list-leads e items at =
+        chooses-leads (λ t. t.lists) (λ s t h. h.lists) (ListFits items) (λ c x. list-fits m n twins items c x) (λ c x. list-fits n m (atoms-back m n twins) items c x) e at
 
-    pub chooses-mapping-leads : (e : Expected) (ms : List MemberSeen) (at : Place) → All (λ x. IfSome x.literal IsLiteralValid) ms
+    pub chooses-mapping-leads : (e : Expected) (ms : List MemberSeen) (at : Place)
         → Leads B B Any2 (chooses_constructor passes (λ t. t.maps) (MappingFits ms) e at) (chooses_constructor passes (λ t. t.maps) (MappingFits ms) e at)
-    chooses-mapping-leads e ms at valid =
-        chooses-leads (λ t. t.maps) (λ s t h. h.maps) (MappingFits ms) (λ c x. mapping-fits m n twins ms c valid x)
-        (λ c x. mapping-fits n m (atoms-back m n twins) ms c valid x) e at
+    chooses-mapping-leads e ms at =
+        chooses-leads (λ t. t.maps) (λ s t h. h.maps) (MappingFits ms) (λ c x. mapping-fits m n twins ms c x) (λ c x. mapping-fits n m (atoms-back m n twins) ms c x) e at
 
   pub begins-keys-leads : Leads B B Any2 begins_keys begins_keys
   begins-keys-leads = opens-leads None None false false refl refl

@@ -1,5 +1,5 @@
 -- Branches and loops: two runs of each need come to the same.
-use Rattle.std.proofs.Common.{List, refl}
+use Rattle.std.proofs.Common.{List}
 use Rattle.descriptors.specs.declared.names.Names.{Names}
 use Rattle.type_model.specs.declared.answers.TypeLimit.{TypeLimit}
 use Rattle.type_model.specs.declared.atoms.AtomDef.{AtomDef}
@@ -13,7 +13,7 @@ module _ (passes : List AtomDef → Asked → TypeLimit → Type 0) (names : Nam
   pub branches-agree : BranchesAgree passes names
   branches-agree =
       record {
-        makes_if = λ at. agrees-these passes names (MakesIf at) (λ s t p twins proper. if-leads s.atoms t.atoms at s t p (proper.branched at refl));
+        makes_if = λ at. agrees-these passes names (MakesIf at) (λ s t p twins. if-leads s.atoms t.atoms at s t p);
         heads = λ assigned. agrees-before passes names (Heads assigned) (λ m n twins. heads-leads m n assigned);
         opens_loop = agrees-before passes names OpensLoop (λ m n twins. opens-loop-leads m n);
         makes_while = λ leaves at. agrees-before passes names (MakesWhile leaves at) (λ m n twins. while-leads m n leaves at);

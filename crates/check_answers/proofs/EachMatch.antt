@@ -1,5 +1,5 @@
 -- Matches: two runs of each need come to the same.
-use Rattle.std.proofs.Common.{List, refl}
+use Rattle.std.proofs.Common.{List}
 use Rattle.descriptors.specs.declared.names.Names.{Names}
 use Rattle.type_model.specs.declared.answers.TypeLimit.{TypeLimit}
 use Rattle.type_model.specs.declared.atoms.AtomDef.{AtomDef}
@@ -18,5 +18,5 @@ module _ (passes : List AtomDef → Asked → TypeLimit → Type 0) (names : Nam
         has_pattern = λ have p. agrees-before passes names (HasPattern p) (λ m n twins. has-pattern-leads m n twins names have p);
         begins_clause = λ any. agrees-behind passes names (BeginsClause any) (λ m n twins. begins-clause-leads m n twins passes any);
         ends_clause = λ at. agrees-before passes names (EndsClause at) (λ m n twins. ends-clause-leads m n twins at);
-        makes_match = λ any at. agrees-these passes names (MakesMatch any at) (λ s t p twins proper. makes-match-leads s.atoms t.atoms twins passes s t p any at (proper.matched any at refl));
+        makes_match = λ any at. agrees-these passes names (MakesMatch any at) (λ s t p twins. makes-match-leads s.atoms t.atoms twins passes s t p any at);
       }

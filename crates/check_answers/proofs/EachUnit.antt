@@ -6,10 +6,10 @@ use Rattle.type_model.specs.declared.atoms.AtomDef.{AtomDef}
 use Rattle.type_model.specs.Calls.{Asked}
 use Rattle.expr_needs.specs.Needs.{EntersFile, NamesParameter, EndsFunction, EndsValueFunction, BeginsWorker, EndsWorker, EndsModule, BeginsInitial, EndsInitial, BeginsFunction, IsConstant}
 use Rattle.check_answers.specs.Laws.{UnitsAgree}
-use Rattle.check_answers.proofs.Agreeing.{agrees-before, agrees-behind}
+use Rattle.check_answers.proofs.Agreeing.{agrees-before, agrees-behind, agrees-named, agrees-within}
 use Rattle.check_answers.proofs.Initials.{begins-initial-leads, ends-initial-leads}
 use Rattle.check_answers.proofs.Units.{begins-worker-leads, ends-worker-leads, file-leads, function-leads, module-leads, names-parameter-leads, value-function-leads}
-use Rattle.check_answers.proofs.Begins.{begins-function-leads, constant-fits-leads}
+use Rattle.check_answers.proofs.Begins.{begins-function-alike, constant-fits-leads}
 
 module _ (passes : List AtomDef → Asked → TypeLimit → Type 0) (names : Names) where
   pub units-agree : UnitsAgree passes names
@@ -24,6 +24,6 @@ module _ (passes : List AtomDef → Asked → TypeLimit → Type 0) (names : Nam
         ends_module = λ k. agrees-before passes names (EndsModule k) (λ m n twins. module-leads m n k);
         begins_initial = λ d kept. agrees-behind passes names (BeginsInitial d kept) (λ m n twins. begins-initial-leads m n twins names d kept);
         ends_initial = λ d kept. agrees-before passes names (EndsInitial d kept) (λ m n twins. ends-initial-leads m n twins names d kept);
-        begins_function = λ def plain. agrees-behind passes names (BeginsFunction def) (λ m n twins. begins-function-leads m n twins names def plain);
-        is_constant = λ def flat. agrees-before passes names (IsConstant def) (λ m n twins. constant-fits-leads m n twins passes names def.ty def flat);
+        begins_function = λ def. agrees-within passes names (BeginsFunction def) (λ m n first second twins one two. begins-function-alike names m n first second twins one two def);
+        is_constant = λ def. agrees-named passes names (IsConstant def) (λ m n first second twins one two. constant-fits-leads names m n first second twins one two passes def.ty def);
       }

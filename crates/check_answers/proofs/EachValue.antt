@@ -1,17 +1,17 @@
 -- Literals, operators, conditions, and what is wanted: two runs of each need come to the same.
-use Rattle.std.proofs.Common.{List, refl, true}
+use Rattle.std.proofs.Common.{List, true}
 use Rattle.descriptors.specs.declared.names.Names.{Names}
 use Rattle.type_model.specs.declared.answers.TypeLimit.{TypeLimit}
 use Rattle.type_model.specs.declared.atoms.AtomDef.{AtomDef}
 use Rattle.type_model.specs.Calls.{Asked}
 use Rattle.expr_needs.specs.Needs.{Fails, IsOf, IsWanted, Widens, WantsResult, WantsErrorToo, DropsWant, GivesLiteral, Forms, Decides, IsSort, Adds, Compares, Splits, Switches, Turns, Conjoins, Disjoins, Chooses, FillsNil, Tests, Casts, Checks, ChecksPanicking, Traps, Encloses, Describes}
 use Rattle.check_answers.specs.Laws.{ValuesAgree}
-use Rattle.check_answers.proofs.Agreeing.{agrees-before, agrees-behind, agrees-these}
+use Rattle.check_answers.proofs.Agreeing.{agrees-before, agrees-behind, agrees-named}
 use Rattle.check_answers.proofs.Leading.{Any2, leads-fails}
 use Rattle.check_answers.proofs.Questions.{Before, Behind, is-of-leads, is-wanted-leads}
 use Rattle.check_answers.proofs.Tests.{checks-leads, tests-leads}
 use Rattle.check_answers.proofs.Values.{adds-leads, casts-leads, checked-leads, chooses-leads, compares-leads, conjoins-leads, decides-leads, disjoins-leads, drops-want-leads, encloses-leads, fills-nil-leads, forms-leads, is-sort-leads, literal-leads, splits-leads, switches-leads, traps-leads, turns-leads, wants-error-leads, wants-result-leads, widens-leads}
-use Rattle.check_answers.proofs.Descriptors.{describes-leads}
+use Rattle.check_answers.proofs.Describing.{describes-leads}
 
 module _ (passes : List AtomDef → Asked → TypeLimit → Type 0) (names : Names) where
   pub values-agree : ValuesAgree passes names
@@ -33,8 +33,8 @@ module _ (passes : List AtomDef → Asked → TypeLimit → Type 0) (names : Nam
         splits = λ way. agrees-before passes names (Splits way) (λ m n twins. splits-leads m n way);
         switches = agrees-before passes names Switches (λ m n twins. switches-leads m n);
         turns = λ at. agrees-behind passes names (Turns at) (λ m n twins. turns-leads m n at);
-        conjoins = λ at. agrees-these passes names (Conjoins at) (λ s t p twins proper. conjoins-leads s.atoms t.atoms at s t p (proper.conjoined at refl));
-        disjoins = λ at. agrees-these passes names (Disjoins at) (λ s t p twins proper. disjoins-leads s.atoms t.atoms at s t p (proper.disjoined at refl));
+        conjoins = λ at. agrees-behind passes names (Conjoins at) (λ m n twins. conjoins-leads m n at);
+        disjoins = λ at. agrees-behind passes names (Disjoins at) (λ m n twins. disjoins-leads m n at);
         chooses = λ at. agrees-behind passes names (Chooses at) (λ m n twins. chooses-leads m n at);
         fills_nil = λ at. agrees-behind passes names (FillsNil at) (λ m n twins. fills-nil-leads m n at);
         tests = λ name at. agrees-behind passes names (Tests name at) (λ m n twins. tests-leads passes m n name at);
@@ -43,5 +43,5 @@ module _ (passes : List AtomDef → Asked → TypeLimit → Type 0) (names : Nam
         checks_panicking = λ at. agrees-behind passes names (ChecksPanicking at) (λ m n twins. checked-leads m n true at);
         traps = λ at. agrees-behind passes names (Traps at) (λ m n twins. traps-leads m n at);
         encloses = λ at. agrees-behind passes names (Encloses at) (λ m n twins. encloses-leads m n at);
-        describes = λ tree flat. agrees-behind passes names (Describes tree) (λ m n twins. describes-leads m n twins names tree flat);
+        describes = λ tree. agrees-named passes names (Describes tree) (λ m n first second twins one two. describes-leads names m n first second twins one two tree);
       }

@@ -2,14 +2,12 @@
 use Rattle.std.proofs.Common.{◌≡◌, refl, sym, subst}
 use Rattle.checks.specs.Checks.{Check, gives_some}
 use Rattle.type_model.specs.declared.basic.Ty.{Ty}
-use Rattle.check_words.specs.State.{IsLast, State, Ways, all_but}
-use Rattle.check_words.specs.Words.{Atoms, closes_choice, flow_now, unit_now, ways_now}
-use Rattle.check_answers.specs.Answers.{AreWaysOf, IsFlowOf}
-use Rattle.check_answers.specs.TwinStates.{ChoiceTwins, FlowTwins, UnitTwins, WaysTwins}
-use Rattle.check_answers.proofs.Leading.{Any2, Leads, Pairs, leads-becomes, leads-gives, leads-some, leads-then}
-use Rattle.check_answers.proofs.Setting.{with-choices}
-use Rattle.check_answers.proofs.Words.{At, ways-same}
-use Rattle.check_answers.proofs.Zips.{zip-but, zip-last}
+use Rattle.check_words.specs.State.{State}
+use Rattle.check_words.specs.Words.{Atoms, closes_choice, flow_now}
+use Rattle.check_answers.specs.TwinStates.{ChoiceTwins, FlowTwins, UnitTwins}
+use Rattle.check_answers.proofs.Leading.{Leads, Pairs, leads-from, leads-gives, leads-some, leads-then}
+use Rattle.check_answers.proofs.Words.{At, closes-choice-leads}
+use Rattle.check_answers.proofs.Zips.{zip-last}
 
 -- these two
 abbrev pub These : State → State → Pairs
@@ -24,38 +22,14 @@ module _ {A B : Type 0} where
   these-some s t Q P R f = leads-some (These s t) Q P R (λ i j a b e x y. f a b (subst (λ k. P k a) e.0 x) (subst (λ k. R k b) e.1 y))
 
 module _ (m n : Atoms) (D R : Ty → Ty → Type 0) (s t : State) (p : At m n D R s t) where
-  these-unit : Leads (These s t) (These s t) (λ u v. UnitTwins D R u v × IsLast s.units u) unit_now unit_now
-  these-unit = these-some s t _ _ _ (λ a b x y. (zip-last (UnitTwins D R) s.units t.units a b p.states.units x y, x))
+  these-at : (i j : State) → These s t i j → At m n D R i j
+  these-at i j e = subst (λ (k : State). At m n D R k j) (sym e.0) (subst (At m n D R s) (sym e.1) p)
 
-  pub these-flow : Leads (These s t) (These s t) (λ f g. FlowTwins D R f g × IsFlowOf s f) flow_now flow_now
+  pub these-flow : Leads (These s t) (These s t) (FlowTwins D R) flow_now flow_now
   these-flow =
-      leads-then (These s t) (These s t) (These s t) _ _ _ _ _ _ these-unit
-      (λ u v h. leads-gives (These s t) _ u.flow v.flow (h.0.flow, (u, h.1, refl)))
+      leads-then (These s t) (These s t) (These s t) (UnitTwins D R) _ _ _ _ _
+      (these-some s t (UnitTwins D R) _ _ (λ a b x y. zip-last (UnitTwins D R) s.units t.units a b p.states.units x y))
+      (λ u v h. leads-gives (These s t) _ u.flow v.flow h.flow)
 
-  equal-ways : (w x y z : Ways) → y ≡ w → z ≡ x → WaysTwins D R w x → WaysTwins D R y z
-  equal-ways w x y z e f h = subst (λ k. WaysTwins D R k z) (sym e) (subst (WaysTwins D R w) (sym f) h)
-
-  pub these-ways : Leads (These s t) (These s t) (λ w x. WaysTwins D R w x × AreWaysOf s w) ways_now ways_now
-  these-ways =
-      leads-then (These s t) (These s t) (These s t) _ _ _ _ _ _ these-flow
-      (λ f g h. these-some s t _ _ _
-      (λ a b x y. (equal-ways _ _ a b x y (ways-same m n D R s.ways t.ways f g p.states.ways h.0), (f, h.1, x))))
-
-  pub these-choice-closed : Leads (These s t) (At m n D R) (λ c d. ChoiceTwins D R c d × IsLast s.choices c) closes_choice closes_choice
-  these-choice-closed =
-      leads-then (These s t) (These s t) (At m n D R) _ _ _ _ _ _
-      (these-some s t (λ c d. ChoiceTwins D R c d × IsLast s.choices c) _ _
-      (λ a b x y. (zip-last (ChoiceTwins D R) s.choices t.choices a b p.states.choices x y, x)))
-      (λ c d h. leads-then (These s t) (At m n D R) (At m n D R) Any2 _ _ _ _ _
-      (leads-becomes (These s t) (At m n D R) _ _ (λ i j e. closed i j e))
-      (λ x y k. leads-gives (At m n D R) _ c d h))
-    where
-      closed : (i j : State) → These s t i j → At m n D R (record i { choices = all_but 1 i.choices }) (record j { choices = all_but 1 j.choices })
-      closed i j e =
-          subst (λ (k : State). At m n D R (record k { choices = all_but 1 k.choices }) (record j { choices = all_but 1 j.choices })) (sym e.0)
-          (subst (λ (k : State). At m n D R (record s { choices = all_but 1 s.choices }) (record k { choices = all_but 1 k.choices })) (sym e.1)
-          (record {
-            first = p.first;
-            second = p.second;
-            states = with-choices D R s t p.states _ _ (zip-but _ 1 s.choices t.choices p.states.choices);
-          }))
+  pub these-choice-closed : Leads (These s t) (At m n D R) (ChoiceTwins D R) closes_choice closes_choice
+  these-choice-closed = leads-from (These s t) (At m n D R) (At m n D R) (ChoiceTwins D R) _ _ these-at (closes-choice-leads m n D R)

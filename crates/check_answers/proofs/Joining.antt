@@ -114,12 +114,11 @@ module _ (m n : Atoms) where
       (AllZip-get_or (VariableTwins D W) vs rs i u u h lt) (AllZip-get_or (VariableTwins D W) ws bs i u u k (subst (λ l. i < l) (sym even) lt))
       (at-place m p q vs ws us i u u x even e) (at-place n p q rs bs cs i c u y (sym two ∙ even ∙ one) f))
 
-  -- ways that meet, where both know of the same variables
-  pub joins-twin : (f g h a b c : Flow) → FlowTwins D W f a → FlowTwins D W g b → length g.variables ≡ length f.variables
-      → IsJoin m f g h → IsJoin n a b c → FlowTwins D W h c
-  joins-twin f g h a b c p q even x y =
+  -- ways that meet
+  pub joins-twin : (f g h a b c : Flow) → FlowTwins D W f a → FlowTwins D W g b → IsJoin m f g h → IsJoin n a b c → FlowTwins D W h c
+  joins-twin f g h a b c p q x y =
       record {
-        variables = variables-joined f.reached g.reached f.variables g.variables h.variables a.variables b.variables c.variables p.variables q.variables even
+        variables = variables-joined f.reached g.reached f.variables g.variables h.variables a.variables b.variables c.variables p.variables q.variables x.as_many
             x.variables (subst (λ k. AreJoined n (joins f.reached k) (length a.variables) a.variables b.variables c.variables) q.reached
             (subst (λ k. AreJoined n (joins k b.reached) (length a.variables) a.variables b.variables c.variables) p.reached y.variables));
         reached = y.reached ∙ ap (λ k. k || b.reached) p.reached ∙ ap (λ k. f.reached || k) q.reached ∙ sym x.reached;

@@ -60,6 +60,8 @@ pub mod MadeMappings
 pub mod Anonymous
 pub mod Starts
 pub mod EachNeed
+pub mod Lasting
 pub mod Descriptors
+pub mod Describing
 pub mod Begins
 pub mod Itself

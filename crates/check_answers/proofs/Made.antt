@@ -41,6 +41,17 @@ use Rattle.check_answers.proofs.Zips.{zip-map}
 pub same-atom : (m n : Atoms) → TwinAtoms m n → (a b : ℕ) → b ≡ a → AreTwins m (Atom a) n (Atom b)
 same-atom m n twins a b e = subst (λ k. AreTwins m (Atom a) n (Atom k)) (sym e) (self-twins m n twins (Atom a))
 
+-- an atom that stands behind others
+pub get-behind : (xs ys : List AtomDef) (d : AtomDef) → slice_get (xs ++ d ∷ ys) (length xs) ≡ Some d
+get-behind [] ys d = refl
+get-behind (x ∷ xs) ys d = get-behind xs ys d
+
+pub some-fits : (M N : Atoms) (o p : Option AtomDef) (d e : AtomDef) (x : Shape) → IsValid x → o ≡ Some d → p ≡ Some e → TwinDefs M N d e
+    → IsSomeAnd o (Fits M x) ↔ IsSomeAnd p (Fits N x)
+some-fits M N o p d e x valid a b h =
+    subst (λ k. IsSomeAnd k (Fits M x) ↔ IsSomeAnd p (Fits N x)) (sym a)
+    (subst (λ k. Fits M x d ↔ IsSomeAnd k (Fits N x)) (sym b) (fits-twins M N x valid d e h))
+
 -- what is made of an atom
 module _ (m n : Atoms) (twins : TwinAtoms m n) (a b : ℕ) (i j : Bool) (same : b ≡ a) (marked : j ≡ i) where
   made-alike : (x : Shape) → IsValid x → IsMade m a i x ↔ IsMade n b j x
@@ -111,16 +122,6 @@ module _ (m n : Atoms) (first : IsClosed m) (second : IsClosed n) (twins : TwinA
   fields-equal d e ks ls ts us i h = subst (λ k. AllZip (TwinFields (m ++ d) (n ++ e)) (fields_with ks ts) (fields_with k us)) (sym i) (fields-same d e ks ts us h)
 
   -- ---- errors
-
-  get-behind : (xs ys : List AtomDef) (d : AtomDef) → slice_get (xs ++ d ∷ ys) (length xs) ≡ Some d
-  get-behind [] ys d = refl
-  get-behind (x ∷ xs) ys d = get-behind xs ys d
-
-  some-fits : (M N : Atoms) (o p : Option AtomDef) (d e : AtomDef) (x : Shape) → IsValid x → o ≡ Some d → p ≡ Some e → TwinDefs M N d e
-      → IsSomeAnd o (Fits M x) ↔ IsSomeAnd p (Fits N x)
-  some-fits M N o p d e x valid a b h =
-      subst (λ k. IsSomeAnd k (Fits M x) ↔ IsSomeAnd p (Fits N x)) (sym a)
-      (subst (λ k. Fits M x d ↔ IsSomeAnd k (Fits N x)) (sym b) (fits-twins M N x valid d e h))
 
   -- the first atom that is added
   pub first-twins : (gs hs : List AtomDef) (d e : AtomDef) (more others : List AtomDef) → gs ≡ d ∷ more → hs ≡ e ∷ others → TwinDefs (m ++ gs) (n ++ hs) d e

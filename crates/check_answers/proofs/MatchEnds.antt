@@ -1,28 +1,23 @@
 -- The end of a match: two runs of the need agree.
-use Rattle.std.proofs.Common.{◌≡◌, ℕ, suc, Bool, true, false, List, [], ◌∷◌, All, length, Option, None, Some, refl, sym, subst, ap, ◌∙◌, if◌then◌else◌}
+use Rattle.std.proofs.Common.{◌≡◌, ℕ, Bool, true, false, List, [], ◌∷◌, Some, refl, sym, subst, ap}
 use Rattle.std.specs.List.{AllZip}
-use Rattle.std.proofs.lemmas.List.Elements.{All-append, All-cons, All-head, All-nil, All-tail}
 use Rattle.bal_base.specs.declared.place.Place.{Place}
-use Rattle.bal_base.specs.declared.text.Name.{Name}
 use Rattle.flow_narrowing.specs.declared.flow.Flow.{Flow}
-use Rattle.flow_narrowing.specs.declared.flow.Variable.{Variable}
 use Rattle.type_model.specs.declared.answers.TypeLimit.{TypeLimit}
 use Rattle.type_model.specs.declared.atoms.AtomDef.{AtomDef}
 use Rattle.type_model.specs.declared.basic.Ty.{Ty}
 use Rattle.type_model.specs.Calls.{Asked}
-use Rattle.type_model.specs.Places.{is_same_text}
 use Rattle.typed_tree.specs.declared.expr.TypedExpr.{TypedExpr}
 use Rattle.typed_tree.specs.declared.stmt.TypedClause.{TypedClause}
 use Rattle.typed_tree.specs.declared.stmt.TypedStmt.{TypedStmt}
 use Rattle.typed_tree.specs.Exprs.{type_of}
-use Rattle.typed_tree.specs.SharedTypes.{Shared, sem_of}
-use Rattle.check_words.specs.Branches.{closes_match, joins_all, makes_match, matched_as, some_is_left, with_no_clause}
+use Rattle.typed_tree.specs.SharedTypes.{sem_of}
+use Rattle.check_words.specs.Branches.{closes_match, joins_all, makes_match, some_is_left, with_no_clause}
 use Rattle.check_words.specs.Joins.{joins_from, joins_two}
-use Rattle.check_words.specs.State.{IsLast, MatchAtWork, State, all_but, narrowed_by_name, stopped}
+use Rattle.check_words.specs.State.{MatchAtWork, State, all_but, stopped}
 use Rattle.check_words.specs.StmtViews.{IsMatch}
 use Rattle.check_words.specs.Words.{Atoms}
-use Rattle.check_answers.specs.Answers.{AreEven, MatchIsEven}
-use Rattle.check_answers.specs.Pieces.{SamePieces, clause_pieces}
+use Rattle.check_answers.specs.Pieces.{clause_pieces}
 use Rattle.check_answers.specs.Pieces as say
 use Rattle.check_answers.specs.TwinStates.{ClauseTwins, FlowTwins, MatchTwins, PartTwins, StmtTwins}
 use Rattle.check_answers.specs.TwinTypes.{TwinAtoms}
@@ -40,20 +35,6 @@ use Rattle.check_answers.proofs.Statements.{adds-stmt-leads, pieces-equal}
 use Rattle.check_answers.proofs.StmtWriting.{match-written}
 use Rattle.check_answers.proofs.Words.{new-slot-leads}
 use Rattle.check_answers.proofs.Zips.{zip-but, zip-last, zip-map, zip-one}
-
--- ---- how many variables a flow knows of
-
-retyped-if : (b : Bool) (vs us : List Variable) (k : ℕ) → length vs ≡ k → length us ≡ k → length (if b then vs else us) ≡ k
-retyped-if true vs us k e f = e
-retyped-if false vs us k e f = f
-
-retyped-length : (vs : List Variable) (name : Name) (t : Option Shared) → length (narrowed_by_name vs name t) ≡ length vs
-retyped-length [] name t = refl
-retyped-length (v ∷ vs) name t = retyped-if (is_same_text v.name name) _ _ _ refl (ap suc (retyped-length vs name t))
-
-matched-length : (on : Option Name) (t : Shared) (f : Flow) → length (matched_as on t f).variables ≡ length f.variables
-matched-length None t f = refl
-matched-length (Some name) t f = retyped-length f.variables name (Some t)
 
 module _ (m n : Atoms) (twins : TwinAtoms m n) where
   abbrev B : Pairs
@@ -76,34 +57,24 @@ module _ (m n : Atoms) (twins : TwinAtoms m n) where
 
   -- ---- several ways that meet
 
-  abbrev Many : ℕ → Flow → Type 0
-  Many k f = length f.variables ≡ k
+  module _ (F : Pairs) (at : (s t : State) → F s t → (s.atoms ≡ m) × (t.atoms ≡ n)) where
+    two-leads : (f g a b : Flow) → WeakFlows f a → WeakFlows g b → Leads F F WeakFlows (joins_two f g) (joins_two a b)
+    two-leads f g a b h i = leads-over m n F WeakFlows _ _ at (λ c d p q. joins-twin m n f g c a b d h i p q)
 
-  module _ (F : Pairs) (at : (s t : State) → F s t → (s.atoms ≡ m) × (t.atoms ≡ n)) (k : ℕ) where
-    abbrev Joined : Flow → Flow → Type 0
-    Joined f g = WeakFlows f g × Many k f
-
-    two-leads : (f g a b : Flow) → WeakFlows f a → WeakFlows g b → Many k f → Many k g → Leads F F Joined (joins_two f g) (joins_two a b)
-    two-leads f g a b h i x y =
-        leads-over m n F Joined _ _ at (λ c d p q. (joins-twin m n f g c a b d h i (y ∙ sym x) p q, p.variables.length ∙ x))
-
-    from-leads : (f a : Flow) (fs gs : List Flow) → WeakFlows f a → Many k f → AllZip WeakFlows fs gs → All (Many k) fs
-        → Leads F F WeakFlows (joins_from f fs) (joins_from a gs)
-    from-leads f a [] [] h x i all = leads-gives F WeakFlows f a h
-    from-leads f a (g ∷ fs) (b ∷ gs) h x i all =
-        leads-then F F F Joined WeakFlows _ _ _ _ (two-leads f g a b h i.0 x (All-head (Many k) g fs all))
-        (λ c d j. from-leads c d fs gs j.0 j.1 i.1 (All-tail (Many k) g fs all))
-    from-leads f a [] (b ∷ gs) h x i all = absurd i
-    from-leads f a (g ∷ fs) [] h x i all = absurd i
+    from-leads : (f a : Flow) (fs gs : List Flow) → WeakFlows f a → AllZip WeakFlows fs gs → Leads F F WeakFlows (joins_from f fs) (joins_from a gs)
+    from-leads f a [] [] h i = leads-gives F WeakFlows f a h
+    from-leads f a (g ∷ fs) (b ∷ gs) h i = leads-then F F F WeakFlows WeakFlows _ _ _ _ (two-leads f g a b h i.0) (λ c d j. from-leads c d fs gs j i.1)
+    from-leads f a [] (b ∷ gs) h i = absurd i
+    from-leads f a (g ∷ fs) [] h i = absurd i
 
     stopped-same : (f g : Flow) → WeakFlows f g → WeakFlows (stopped f) (stopped g)
     stopped-same f g h = record { variables = h.variables; reached = refl }
 
-    all-leads : (f a : Flow) (fs gs : List Flow) → WeakFlows f a → AllZip WeakFlows fs gs → All (Many k) fs → Leads F F WeakFlows (joins_all f fs) (joins_all a gs)
-    all-leads f a [] [] h i all = leads-gives F WeakFlows _ _ (stopped-same f a h)
-    all-leads f a (g ∷ fs) (b ∷ gs) h i all = from-leads g b fs gs i.0 (All-head (Many k) g fs all) i.1 (All-tail (Many k) g fs all)
-    all-leads f a [] (b ∷ gs) h i all = absurd i
-    all-leads f a (g ∷ fs) [] h i all = absurd i
+    all-leads : (f a : Flow) (fs gs : List Flow) → WeakFlows f a → AllZip WeakFlows fs gs → Leads F F WeakFlows (joins_all f fs) (joins_all a gs)
+    all-leads f a [] [] h i = leads-gives F WeakFlows _ _ (stopped-same f a h)
+    all-leads f a (g ∷ fs) (b ∷ gs) h i = from-leads g b fs gs i.0 i.1
+    all-leads f a [] (b ∷ gs) h i = absurd i
+    all-leads f a (g ∷ fs) [] h i = absurd i
 
   -- ---- the ways of a match
 
@@ -113,10 +84,6 @@ module _ (m n : Atoms) (twins : TwinAtoms m n) where
   ways-same false false k l e h = zip-map (FlowTwins E E) WeakFlows flow-weak k.ends l.ends h.ends
   ways-same true false k l e h = absurd (cc)
   ways-same false true k l e h = absurd (cc)
-
-  ways-even : (b : Bool) (k : MatchAtWork) → All (AreEven k.before) k.ends → All (Many (length k.before.variables)) (with_no_clause b k)
-  ways-even true k h = All-append (Many (length k.before.variables)) k.ends _ h (All-cons (Many (length k.before.variables)) _ [] (matched-length k.on k.left k.before) (All-nil _))
-  ways-even false k h = h
 
   match-same : (a b : ℕ) (e f : TypedExpr) (cs ds : List TypedClause) (at : Place) (s t : TypedStmt) → b ≡ a → PartTwins E E e f → AllZip (ClauseTwins E) cs ds
       → IsMatch a e cs at s → IsMatch b f ds at t → StmtTwins E s t
@@ -137,9 +104,6 @@ module _ (m n : Atoms) (twins : TwinAtoms m n) where
         subst (λ i. Leads P P Equal (some_is_left passes false k.left k.at) (some_is_left passes false l.left i)) (sym h.at)
         (has-some-leads passes m n P (λ i j q. before-atoms m n i j q.0) (sem_of k.left) (sem_of l.left) (Some k.at) h.left.twins.shapes)
 
-    abbrev Closed : MatchAtWork → MatchAtWork → Type 0
-    Closed k l = MatchTwins E E k l × IsLast s.matches k
-
     closed-at : (i j : State) → These s t i j → P (record i { matches = all_but 1 i.matches }) (record j { matches = all_but 1 j.matches })
     closed-at i j e =
         subst (λ (k : State). P (record k { matches = all_but 1 k.matches }) (record j { matches = all_but 1 j.matches })) (sym e.0)
@@ -153,20 +117,20 @@ module _ (m n : Atoms) (twins : TwinAtoms m n) where
           refl,
         ))
 
-    closes-leads : Leads (These s t) P Closed closes_match closes_match
+    closes-leads : Leads (These s t) P (MatchTwins E E) closes_match closes_match
     closes-leads =
-        leads-then (These s t) (These s t) P Closed Closed _ _ _ _
-        (these-some s t Closed _ _ (λ a b x y. (zip-last (MatchTwins E E) s.matches t.matches a b p.states.matches x y, x)))
-        (λ k l h. leads-then (These s t) P P Any2 Closed _ _ _ _ (leads-becomes (These s t) P _ _ closed-at) (λ x y z. leads-gives P Closed k l h))
+        leads-then (These s t) (These s t) P (MatchTwins E E) (MatchTwins E E) _ _ _ _
+        (these-some s t (MatchTwins E E) _ _ (λ a b x y. zip-last (MatchTwins E E) s.matches t.matches a b p.states.matches x y))
+        (λ k l h. leads-then (These s t) P P Any2 (MatchTwins E E) _ _ _ _ (leads-becomes (These s t) P _ _ closed-at)
+        (λ x y z. leads-gives P (MatchTwins E E) k l h))
 
-    pub makes-match-leads : (any : Bool) (at : Place) → MatchIsEven s → Leads (These s t) A Any2 (makes_match passes any at) (makes_match passes any at)
-    makes-match-leads any at even =
-        leads-then (These s t) P A Closed Any2 _ _ _ _ closes-leads
-        (λ k l h. leads-then P P A Equal Any2 _ _ _ _ (left-leads any k l h.0)
+    pub makes-match-leads : (any : Bool) (at : Place) → Leads (These s t) A Any2 (makes_match passes any at) (makes_match passes any at)
+    makes-match-leads any at =
+        leads-then (These s t) P A (MatchTwins E E) Any2 _ _ _ _ closes-leads
+        (λ k l h. leads-then P P A Equal Any2 _ _ _ _ (left-leads any k l h)
         (λ b c e. leads-then P P A WeakFlows Any2 _ _ _ _
-        (all-leads P (λ i j q. before-atoms m n i j q.0) (length k.before.variables) k.before l.before (with_no_clause b k) (with_no_clause c l)
-        (flow-weak k.before l.before h.0.before) (ways-same b c k l e h.0) (ways-even b k (even k h.1)))
+        (all-leads P (λ i j q. before-atoms m n i j q.0) k.before l.before (with_no_clause b k) (with_no_clause c l) (flow-weak k.before l.before h.before) (ways-same b c k l e h))
         (λ f g i. leads-then P N A Any2 Any2 _ _ _ _ (sets-wider m n s.found t.found p.states.found f g i)
         (λ a1 a2 a3. leads-then N A A (PartTwins E E) Any2 _ _ _ _ (part-kept m n E V s.found t.found p.states.found)
         (λ u v o. leads-then A A A Equal Any2 _ _ _ _ (new-slot-leads m n E V (type_of u) (type_of v) o.ty.twins)
-        (λ x y z. adds-stmt-leads m n V _ _ (λ c1 c2 q r. match-same x y u v k.clauses l.clauses at c1 c2 z o h.0.clauses q r)))))))
+        (λ x y z. adds-stmt-leads m n V _ _ (λ c1 c2 q r. match-same x y u v k.clauses l.clauses at c1 c2 z o h.clauses q r)))))))

@@ -1,11 +1,9 @@
 -- Members of mappings: two runs of the need agree.
-use Rattle.std.proofs.Common.{◌≡◌, ◌⊎◌, ℕ, Bool, true, false, List, [], ◌∷◌, All, Option, None, Some, inl, inr, sym, subst, ◌∙◌}
+use Rattle.std.proofs.Common.{◌≡◌, ◌⊎◌, ℕ, Bool, true, false, List, [], ◌∷◌, Option, None, Some, inl, inr, sym, subst, ◌∙◌}
 use Rattle.std.specs.List.{AllZip}
-use Rattle.std.proofs.lemmas.List.Elements.{All-head, All-tail}
 use Rattle.bal_base.specs.declared.place.Place.{Place}
 use Rattle.bal_base.specs.declared.shape.Shape.{Str}
 use Rattle.bal_base.specs.declared.text.Text.{Text}
-use Rattle.bal_base.specs.Valid.{IsText}
 use Rattle.checks.specs.Agreement.{Alike, AreTwins, BothKeep}
 use Rattle.checks.specs.Checks.{Gives, Refuses}
 use Rattle.operations.specs.Structures.{IsMappingAtom}
@@ -14,12 +12,11 @@ use Rattle.type_model.specs.declared.atoms.AtomDef.{AtomDef}
 use Rattle.type_model.specs.declared.atoms.FieldDef.{FieldDef}
 use Rattle.type_model.specs.declared.basic.SemType.{SemType}
 use Rattle.type_model.specs.Calls.{Asked}
-use Rattle.type_model.specs.Membership.{In}
+use Rattle.type_model.specs.Inclusion.{IsShapeOf}
 use Rattle.typed_tree.specs.declared.expr.TypedExpr.{TypedExpr}
 use Rattle.check_words.specs.Constructors.{IsLastKey, fits_field, fits_fields, fits_keys, is_below_copy, is_member, names_field}
 use Rattle.check_words.specs.State.{ConstructorAtWork}
 use Rattle.check_words.specs.Words.{Atoms, asking, sem}
-use Rattle.check_answers.specs.Answers.{NamesAreTexts}
 use Rattle.check_answers.specs.TwinStates.{ConstructorTwins, PartTwins}
 use Rattle.check_answers.specs.TwinTypes.{TwinAtoms, TwinFields}
 use Rattle.check_answers.proofs.Atoms.{with-mappings}
@@ -30,7 +27,7 @@ use Rattle.check_answers.proofs.Questions.{Before, Behind, D, Equal, W, before-a
 use Rattle.check_answers.proofs.Words.{constructor-leads, no-more-leads, part-leads, two-leads, want-leads}
 use Rattle.check_answers.proofs.Zips.{last-same}
 
-module _ (passes : List AtomDef → Asked → TypeLimit → Type 0) (m n : Atoms) (twins : TwinAtoms m n) (texts : NamesAreTexts m) where
+module _ (passes : List AtomDef → Asked → TypeLimit → Type 0) (m n : Atoms) (twins : TwinAtoms m n) where
   abbrev B : Pairs
   B = Before m n
 
@@ -41,24 +38,24 @@ module _ (passes : List AtomDef → Asked → TypeLimit → Type 0) (m n : Atoms
   PartsD = PartTwins (D m n) (D m n)
 
   -- whether a key may be the name
-  names-same : (name : Text) (s u : SemType) (b c : Bool) → IsText name → AreTwins m s n u → ((b ≡ true) × In m (Str name) s) ⊎ ((b ≡ false) × (¬ In m (Str name) s))
-      → ((c ≡ true) × In n (Str name) u) ⊎ ((c ≡ false) × (¬ In n (Str name) u)) → c ≡ b
-  names-same name s u b c valid h (inl x) (inl y) = y.0 ∙ sym x.0
-  names-same name s u b c valid h (inr x) (inr y) = y.0 ∙ sym x.0
-  names-same name s u b c valid h (inl x) (inr y) = absurd (y.1 ((h (Str name) valid).0 x.1))
-  names-same name s u b c valid h (inr x) (inl y) = absurd (x.1 ((h (Str name) valid).1 y.1))
+  names-same : (name : Text) (s u : SemType) (b c : Bool) → AreTwins m s n u → ((b ≡ true) × IsShapeOf m s (Str name)) ⊎ ((b ≡ false) × (¬ IsShapeOf m s (Str name)))
+      → ((c ≡ true) × IsShapeOf n u (Str name)) ⊎ ((c ≡ false) × (¬ IsShapeOf n u (Str name))) → c ≡ b
+  names-same name s u b c h (inl x) (inl y) = y.0 ∙ sym x.0
+  names-same name s u b c h (inr x) (inr y) = y.0 ∙ sym x.0
+  names-same name s u b c h (inl x) (inr y) = absurd (y.1 (x.1.0, (h (Str name) x.1.0).0 x.1.1))
+  names-same name s u b c h (inr x) (inl y) = absurd (x.1 (y.1.0, (h (Str name) y.1.0).1 y.1.1))
 
-  names-alike : (name : Text) (s u : SemType) → IsText name → AreTwins m s n u → Alike (BothKeep m n Equal) m n (names_field passes name s) (names_field passes name u)
+  names-alike : (name : Text) (s u : SemType) → AreTwins m s n u → Alike (BothKeep m n Equal) m n (names_field passes name s) (names_field passes name u)
   unfolding names_field
-  names-alike name s u valid h (Gives b) (Gives c) m2 n2 x y = (names-same name s u b c valid h x.0 y.0, x.1, y.1)
-  names-alike name s u valid h (Gives b) (Refuses g) m2 n2 x y = absurd y
-  names-alike name s u valid h (Refuses f) o m2 n2 x y = absurd x
+  names-alike name s u h (Gives b) (Gives c) m2 n2 x y = (names-same name s u b c h x.0 y.0, x.1, y.1)
+  names-alike name s u h (Gives b) (Refuses g) m2 n2 x y = absurd y
+  names-alike name s u h (Refuses f) o m2 n2 x y = absurd x
 
-  named-leads : (name other : Text) (s u : SemType) → other ≡ name → IsText name → AreTwins m s n u
+  named-leads : (name other : Text) (s u : SemType) → other ≡ name → AreTwins m s n u
       → Leads B B Equal (asking (names_field passes name s)) (asking (names_field passes other u))
-  named-leads name other s u e valid h =
+  named-leads name other s u e h =
       subst (λ k. Leads B B Equal (asking (names_field passes name s)) (asking (names_field passes k u))) (sym e)
-      (leads-asking m n B Equal _ _ (before-atoms m n) (names-alike name s u valid h))
+      (leads-asking m n B Equal _ _ (before-atoms m n) (names-alike name s u h))
 
   copy-leads : (e f : TypedExpr) (s u : SemType) (at : Place) → PartsD e f → AreTwins m s n u → Leads B B Any2 (is_below_copy passes e s at) (is_below_copy passes f u at)
   copy-leads e f s u at h k =
@@ -66,33 +63,28 @@ module _ (passes : List AtomDef → Asked → TypeLimit → Type 0) (m n : Atoms
       (leads-over m n B (λ a b. AreTwins m a n b) _ _ (before-atoms m n) (λ a b x y. sem-copies m n s u a b k x y))
       (λ a b i. below-leads passes m n B (before-atoms m n) (sem e) a (sem f) b (Some at) h.ty.twins.shapes i)
 
-  field-leads : (s u : SemType) (e f : TypedExpr) (at : Place) (a b : FieldDef) → AreTwins m s n u → PartsD e f → IsText a.name → TwinFields m n a b
+  field-leads : (s u : SemType) (e f : TypedExpr) (at : Place) (a b : FieldDef) → AreTwins m s n u → PartsD e f → TwinFields m n a b
       → Leads B B Any2 (fits_field passes s e at a) (fits_field passes u f at b)
-  field-leads s u e f at a b h k valid i =
-      leads-then B B B Equal Any2 _ _ _ _ (named-leads a.name b.name s u i.name valid h)
+  field-leads s u e f at a b h k i =
+      leads-then B B B Equal Any2 _ _ _ _ (named-leads a.name b.name s u i.name h)
       (λ x y j. leads-either B B Any2 x y _ _ _ _ j (copy-leads e f a.ty.sem b.ty.sem at k i.ty.shapes) (leads-done B))
 
-  fields-leads : (s u : SemType) (e f : TypedExpr) (at : Place) (fs gs : List FieldDef) → AreTwins m s n u → PartsD e f → All (λ a. IsText a.name) fs
+  fields-leads : (s u : SemType) (e f : TypedExpr) (at : Place) (fs gs : List FieldDef) → AreTwins m s n u → PartsD e f
       → AllZip (TwinFields m n) fs gs → Leads B B Any2 (fits_fields passes s e at fs) (fits_fields passes u f at gs)
-  fields-leads s u e f at [] [] h k all z = leads-done B
-  fields-leads s u e f at (a ∷ fs) (b ∷ gs) h k all z =
-      leads-then B B B Any2 Any2 _ _ _ _ (field-leads s u e f at a b h k (All-head (λ a. IsText a.name) a fs all) z.0)
-      (λ x y i. fields-leads s u e f at fs gs h k (All-tail (λ a. IsText a.name) a fs all) z.1)
-  fields-leads s u e f at [] (b ∷ gs) h k all z = absurd z
-  fields-leads s u e f at (a ∷ fs) [] h k all z = absurd z
+  fields-leads s u e f at [] [] h k z = leads-done B
+  fields-leads s u e f at (a ∷ fs) (b ∷ gs) h k z =
+      leads-then B B B Any2 Any2 _ _ _ _ (field-leads s u e f at a b h k z.0)
+      (λ x y i. fields-leads s u e f at fs gs h k z.1)
+  fields-leads s u e f at [] (b ∷ gs) h k z = absurd z
+  fields-leads s u e f at (a ∷ fs) [] h k z = absurd z
 
-  -- the fields of an atom, whose names are texts
   abbrev Fields : List FieldDef → List FieldDef → Type 0
-  Fields fs gs = AllZip (TwinFields m n) fs gs × All (λ a. IsText a.name) fs
-
-  equal-fields : (fs gs hs is : List FieldDef) → hs ≡ fs → is ≡ gs → Fields fs gs → Fields hs is
-  equal-fields fs gs hs is e f h = subst (λ k. Fields k is) (sym e) (subst (Fields fs) (sym f) h)
+  Fields fs gs = AllZip (TwinFields m n) fs gs
 
   of-atom : (a : ℕ) (fs gs : List FieldDef) → IsMappingAtom m a (λ hs rest. fs ≡ hs) → IsMappingAtom n a (λ hs rest. gs ≡ hs) → Fields fs gs
   of-atom a fs gs x y =
-      let all : All (λ f. IsText f.name) fs = texts a fs x in
       with-mappings m n twins a (λ hs rest. fs ≡ hs) (λ hs rest. gs ≡ hs) x y
-      (λ hs is rest more z r p q. (subst (λ k. AllZip (TwinFields m n) k gs) (sym p) (subst (AllZip (TwinFields m n) hs) (sym q) z), all))
+      (λ hs is rest more z r p q. subst (λ k. AllZip (TwinFields m n) k gs) (sym p) (subst (AllZip (TwinFields m n) hs) (sym q) z))
 
   keys-leads : (c d : Option ℕ) (k l : Option Text) (at : Place) → d ≡ c → l ≡ k → Leads B B Any2 (fits_keys passes c k at) (fits_keys passes d l at)
   keys-leads None None k l at e f = leads-done B
@@ -102,7 +94,7 @@ module _ (passes : List AtomDef → Asked → TypeLimit → Type 0) (m n : Atoms
       subst (λ o. Leads B B Any2 (fits_keys passes (Some a) None at) (fits_keys passes (Some o) None at)) (sym i)
       (leads-then B B B _ Any2 _ _ _ _ (two-leads m n (D m n) (D m n))
       (λ p q h. leads-then B B B Fields Any2 _ _ _ _ (leads-over m n B Fields _ _ (before-atoms m n) (λ fs gs x y. of-atom a fs gs x y))
-      (λ fs gs j. fields-leads (sem p.0) (sem q.0) p.1 q.1 at fs gs h.0.ty.twins.shapes h.1 j.1 j.0)))
+      (λ fs gs j. fields-leads (sem p.0) (sem q.0) p.1 q.1 at fs gs h.0.ty.twins.shapes h.1 j)))
   keys-leads None (Some b) k l at e f = absurd (cc)
   keys-leads (Some a) None k l at e f = absurd (cc)
   keys-leads (Some a) (Some b) (Some k) None at e f = absurd (cc)

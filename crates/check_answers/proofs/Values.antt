@@ -1,5 +1,5 @@
 -- Names, literals, operators and conditions: two runs of each need agree.
-use Rattle.std.proofs.Common.{◌≡◌, ◌&&◌, ◌⊎◌, ℕ, length, Bool, true, false, not, List, [], ◌∷◌, ◌++◌, is_some, Option, None, Some, refl, sym, subst, ap, ◌∙◌}
+use Rattle.std.proofs.Common.{◌≡◌, ◌&&◌, ◌⊎◌, ℕ, Bool, true, false, not, List, [], ◌∷◌, ◌++◌, is_some, Option, None, Some, refl, sym, subst, ap, ◌∙◌}
 use Rattle.std.specs.List.{AllZip}
 use Rattle.bal_base.specs.declared.fault.FaultCode.TheVariants.{Captured}
 use Rattle.bal_base.specs.declared.place.Place.{Place}
@@ -31,11 +31,9 @@ use Rattle.check_words.specs.State.{State, Ways, all_but, shared_now}
 use Rattle.check_words.specs.Values.{adds_up, casts, checked, chooses, compares, conjoins, decided, decides, disjoins, drops_want, encloses, fills_nil, forms, gives_constant, gives_literal, gives_variable, is_of_sort, last_sort, operator_of, sort_kind, sorts, splits, switches, takes_sort, traps, turns, uses, wants_beside_error, wants_error_too, wants_result, way_of, widened, widens, widens_to}
 use Rattle.check_words.specs.Joins.{joins_two}
 use Rattle.check_words.specs.Words.{Atoms, OfKind, One, PartOf, SharedOf, Step, Three, Two, UnionOf, is_of, makes, sem, sets_ways, wants, wants_some}
-use Rattle.check_answers.specs.Answers.{OtherIsEven}
 use Rattle.check_answers.specs.Pieces as say
 use Rattle.check_answers.specs.Pieces.{Piece, SamePieces, expr_pieces, written}
 use Rattle.check_answers.specs.TwinStates.{FlowTwins, PartTwins, SharedTwins, VariableTwins, WaysTwins}
-use Rattle.check_answers.proofs.Fixed.{These, these-choice-closed, these-ways}
 use Rattle.check_answers.proofs.Joining.{joins-twin}
 use Rattle.check_answers.proofs.Leading.{Any2, Leads, Pairs, leads-becomes, leads-done, leads-either, leads-from, leads-gives, leads-over, leads-some, leads-then, leads-unless}
 use Rattle.check_answers.proofs.Mapping.{flow-map}
@@ -244,29 +242,27 @@ module _ (m n : Atoms) where
       (kinds-twin m n kind.Truth t.value u.value k l) (refl, (whole a c both.0, whole b d both.1.0)))
 
   pub joins-leads : (F : Pairs) (f g a b : Flow) → ((s t : State) → F s t → (s.atoms ≡ m) × (t.atoms ≡ n)) → FlowTwins (D m n) (D m n) f a
-      → FlowTwins (D m n) (D m n) g b → length g.variables ≡ length f.variables → Leads F F (FlowTwins (D m n) (W m n)) (joins_two f g) (joins_two a b)
-  joins-leads F f g a b at h k even =
-      leads-over m n F _ _ _ at (λ c d x y. joins-twin m n f g c a b d (flow-weak f a h) (flow-weak g b k) even x y)
+      → FlowTwins (D m n) (D m n) g b → Leads F F (FlowTwins (D m n) (W m n)) (joins_two f g) (joins_two a b)
+  joins-leads F f g a b at h k =
+      leads-over m n F _ _ _ at (λ c d x y. joins-twin m n f g c a b d (flow-weak f a h) (flow-weak g b k) x y)
 
-  pub conjoins-leads : (at : Place) (s t : State) → B s t → OtherIsEven (λ w. w.no) s → Leads (These s t) A Any2 (conjoins at) (conjoins at)
-  conjoins-leads at s t p even =
-      leads-then (These s t) (These s t) A _ Any2 _ _ _ _ (these-ways m n (D m n) (D m n) s t p)
-      (λ w x h. leads-then (These s t) B A _ Any2 _ _ _ _ (these-choice-closed m n (D m n) (D m n) s t p)
-      (λ c d k. leads-then B B A _ Any2 _ _ _ _
-      (joins-leads B c.other w.no d.other x.no (before-atoms m n) k.0.other h.0.no (even c w k.1 h.1))
-      (λ f g j. leads-then B B A Any2 Any2 _ _ _ _ (sets-flow-leads m n (D m n) (D m n) c.before d.before k.0.before)
+  pub conjoins-leads : (at : Place) → Leads B A Any2 (conjoins at) (conjoins at)
+  conjoins-leads at =
+      leads-then B B A _ Any2 _ _ _ _ (ways-leads m n (D m n) (D m n))
+      (λ w x h. leads-then B B A _ Any2 _ _ _ _ (closes-choice-leads m n (D m n) (D m n))
+      (λ c d k. leads-then B B A _ Any2 _ _ _ _ (joins-leads B c.other w.no d.other x.no (before-atoms m n) k.other h.no)
+      (λ f g j. leads-then B B A Any2 Any2 _ _ _ _ (sets-flow-leads m n (D m n) (D m n) c.before d.before k.before)
       (λ u v l. leads-then B A A Any2 Any2 _ _ _ _ (and-made at)
-      (λ y z o. ways-set _ _ (record { yes = flow-weak w.yes x.yes h.0.yes; no = j }))))))
+      (λ y z o. ways-set _ _ (record { yes = flow-weak w.yes x.yes h.yes; no = j }))))))
 
-  pub disjoins-leads : (at : Place) (s t : State) → B s t → OtherIsEven (λ w. w.yes) s → Leads (These s t) A Any2 (disjoins at) (disjoins at)
-  disjoins-leads at s t p even =
-      leads-then (These s t) (These s t) A _ Any2 _ _ _ _ (these-ways m n (D m n) (D m n) s t p)
-      (λ w x h. leads-then (These s t) B A _ Any2 _ _ _ _ (these-choice-closed m n (D m n) (D m n) s t p)
-      (λ c d k. leads-then B B A _ Any2 _ _ _ _
-      (joins-leads B c.other w.yes d.other x.yes (before-atoms m n) k.0.other h.0.yes (even c w k.1 h.1))
-      (λ f g j. leads-then B B A Any2 Any2 _ _ _ _ (sets-flow-leads m n (D m n) (D m n) c.before d.before k.0.before)
+  pub disjoins-leads : (at : Place) → Leads B A Any2 (disjoins at) (disjoins at)
+  disjoins-leads at =
+      leads-then B B A _ Any2 _ _ _ _ (ways-leads m n (D m n) (D m n))
+      (λ w x h. leads-then B B A _ Any2 _ _ _ _ (closes-choice-leads m n (D m n) (D m n))
+      (λ c d k. leads-then B B A _ Any2 _ _ _ _ (joins-leads B c.other w.yes d.other x.yes (before-atoms m n) k.other h.yes)
+      (λ f g j. leads-then B B A Any2 Any2 _ _ _ _ (sets-flow-leads m n (D m n) (D m n) c.before d.before k.before)
       (λ u v l. leads-then B A A Any2 Any2 _ _ _ _ (or-made at)
-      (λ y z o. ways-set _ _ (record { yes = j; no = flow-weak w.no x.no h.0.no }))))))
+      (λ y z o. ways-set _ _ (record { yes = j; no = flow-weak w.no x.no h.no }))))))
 
   -- ---- choices
 

@@ -1,5 +1,5 @@
 -- What corresponds in two runs.
-use Rattle.std.specs.Prelude.{ℕ, Bool, List, All, IfSome, Option}
+use Rattle.std.specs.Prelude.{ℕ, Bool, List, All, Option}
 use Rattle.bal_base.specs.declared.fault.FaultCode.{FaultCode}
 use Rattle.bal_base.specs.declared.place.Place.{Place}
 use Rattle.bal_base.specs.declared.text.Text.{Text}
@@ -15,6 +15,7 @@ use Rattle.bal_tree.specs.declared.name.Word.{Word}
 use Rattle.bal_tree.specs.declared.stmt.AssignOp.{AssignOp}
 use Rattle.bal_tree.specs.declared.stmt.Pattern.{Pattern}
 use Rattle.bal_tree.specs.declared.stmt.RangeOp.{RangeOp}
+use Rattle.bal_tree.specs.declared.package.Package.{Package}
 use Rattle.bal_tree.specs.declared.types.TypeTree.{TypeTree}
 use Rattle.typed_tree.specs.declared.form.Operator.{Operator}
 use Rattle.typed_tree.specs.declared.stmt.PerformForm.{PerformForm}
@@ -22,7 +23,7 @@ use Rattle.expr_needs.specs.declared.expected.Expected.{Expected}
 use Rattle.expr_needs.specs.declared.kind.Kind.{Kind}
 use Rattle.checks.specs.Agreement.{Alike, AreTwins}
 use Rattle.descriptors.specs.declared.names.Names.{Names}
-use Rattle.descriptors.specs.Descriptors.{descriptor_of}
+use Rattle.descriptors.specs.Steps.{AreNames}
 use Rattle.type_model.specs.declared.answers.TypeLimit.{TypeLimit}
 use Rattle.type_model.specs.declared.atoms.AtomDef.{AtomDef}
 use Rattle.type_model.specs.declared.basic.SemType.{SemType}
@@ -33,8 +34,9 @@ use Rattle.type_model.specs.Defined.{IsEnv}
 use Rattle.typed_tree.specs.Listed.{Listed, members}
 use Rattle.check_words.specs.Meets.{meets}
 use Rattle.check_words.specs.State.{State}
+use Rattle.package_checks.specs.Checked.{checked_package, standing}
 use Rattle.expr_needs.specs.Needs.{Fails, IsOf, IsWanted, Widens, WantsResult, WantsErrorToo, DropsWant, GivesLiteral, Forms, Decides, IsSort, Adds, Compares, Splits, Switches, Turns, Conjoins, Disjoins, Chooses, FillsNil, Tests, Casts, Checks, ChecksPanicking, Traps, Encloses, Describes, IsAccessed, IsIndex, ReadsElement, ReadsField, ReadsOptional, HasField, ExpectsStored, ReadsStored, ReadsStoredField, ChoosesList, ChoosesMapping, BeginsKeys, GivesKey, TakesKey, ComputesKey, ExpectsItem, ExpectsMember, IsItem, IsDetail, LacksCause, IsMember, Declares, IsAssignable, Assigns, ReadsName, Stores, IsIgnorable, Performs, Stops, Returns, ReturnsNil, Breaks, Continues, BeginsBlock, EndsBlock, MakesBlock, MakesIf, Heads, OpensLoop, MakesWhile, IsItemOfLoop, WidensItem, IsCounter, WantsCounter, HasItem, MakesForeach, MakesRange, CallsValue, CallsMethod, ExpectsArgument, IsArgument, BeginsAnonymous, HasParameter, BeginsValue, IsNew, WaitsForAny, Receives, Sends, SendsAndWaits, Flushes, MakesList, MakesError, WaitsForAll, HasRest, MakesCall, MakesMapping, MakesAnonymous, Starts, GivesNamed, CallsNamed, Awaits, IsOperand, UpdatesName, UpdatesElement, UpdatesField, BeginsMatch, HasPattern, BeginsClause, EndsClause, MakesMatch, EntersFile, NamesParameter, EndsFunction, EndsValueFunction, BeginsWorker, EndsWorker, EndsModule, BeginsInitial, EndsInitial, BeginsFunction, IsConstant, Need, MemberSeen}
-use Rattle.check_answers.specs.Answers.{Agrees, HasNoResults, HaveValues, IsFlat, IsLiteralValid, IsSettled, Twins, keeping, nothing_open}
+use Rattle.check_answers.specs.Answers.{Agrees, HaveValues, PackageTwins, Twins}
 use Rattle.check_answers.specs.TwinTypes.{TwinAtoms}
 
 -- a type has the same shapes over atoms that are twins
@@ -70,7 +72,7 @@ module _ (passes : List AtomDef → Asked → TypeLimit → Type 0) (names : Nam
     pub checks_panicking : (at : Place) → Agrees passes names (ChecksPanicking at)
     pub traps : (at : Place) → Agrees passes names (Traps at)
     pub encloses : (at : Place) → Agrees passes names (Encloses at)
-    pub describes : (tree : TypeTree) → IsFlat (descriptor_of tree) → Agrees passes names (Describes tree)
+    pub describes : (tree : TypeTree) → Agrees passes names (Describes tree)
 
   -- Reads and stores of members: two runs of each need come to the same.
   pub record MembersAgree : Type 0 where
@@ -86,8 +88,8 @@ module _ (passes : List AtomDef → Asked → TypeLimit → Type 0) (names : Nam
 
   -- Constructors, but for those that make atoms: two runs of each need come to the same.
   pub record ConstructorsAgree : Type 0 where
-    pub chooses_list : (e : Expected) (items : List (Option Literal)) (at : Place) → All (λ i. IfSome i IsLiteralValid) items → Agrees passes names (ChoosesList e items at)
-    pub chooses_mapping : (e : Expected) (ms : List MemberSeen) (at : Place) → All (λ x. IfSome x.literal IsLiteralValid) ms → Agrees passes names (ChoosesMapping e ms at)
+    pub chooses_list : (e : Expected) (items : List (Option Literal)) (at : Place) → Agrees passes names (ChoosesList e items at)
+    pub chooses_mapping : (e : Expected) (ms : List MemberSeen) (at : Place) → Agrees passes names (ChoosesMapping e ms at)
     pub begins_keys : Agrees passes names BeginsKeys
     pub gives_key : (text : Text) (at : Place) → Agrees passes names (GivesKey text at)
     pub takes_key : (text : Text) (at : Place) → Agrees passes names (TakesKey text at)
@@ -193,27 +195,30 @@ module _ (passes : List AtomDef → Asked → TypeLimit → Type 0) (names : Nam
     pub ends_module : (k : ℕ) → Agrees passes names (EndsModule k)
     pub begins_initial : (d : VariableDef) (kept : Bool) → Agrees passes names (BeginsInitial d kept)
     pub ends_initial : (d : VariableDef) (kept : Bool) → Agrees passes names (EndsInitial d kept)
-    pub begins_function : (def : FunctionDef) → HasNoResults def → Agrees passes names (BeginsFunction def)
-    pub is_constant : (def : ConstDef) → IfSome def.ty (λ tree. IsFlat (descriptor_of tree.value)) → Agrees passes names (IsConstant def)
+    pub begins_function : (def : FunctionDef) → Agrees passes names (BeginsFunction def)
+    pub is_constant : (def : ConstDef) → Agrees passes names (IsConstant def)
 
   -- all of these needs, one behind another, where two runs of each come to the same
   abbrev pub LinesAgree : Type 0
   LinesAgree =
-      (needs : Listed Need) → All (Agrees passes names) (members needs) → (s t : State) → Twins s t
-      → Alike (BehindTwins Twins (keeping (meets passes names))) s t (all_met (keeping (meets passes names)) needs) (all_met (keeping (meets passes names)) needs)
+      (needs : Listed Need) → All (Agrees passes names) (members needs) → (s t : State) → Twins names s t
+      → Alike (BehindTwins (Twins names) (standing names (meets passes names))) s t (all_met (standing names (meets passes names)) needs)
+      (all_met (standing names (meets passes names)) needs)
 
-  -- and of needs of which nothing is left open two runs of each do, where constants have values
-  abbrev pub SettledLinesAgree : Type 0
-  SettledLinesAgree =
-      HaveValues names → (needs : Listed Need) → All IsSettled (members needs) → (s t : State) → Twins s t
-      → Alike (BehindTwins Twins (keeping (meets passes names))) s t (all_met (keeping (meets passes names)) needs) (all_met (keeping (meets passes names)) needs)
+  -- where constants have values two runs of any needs come to the same
+  abbrev pub AllLinesAgree : Type 0
+  AllLinesAgree =
+      HaveValues names → (needs : Listed Need) → (s t : State) → Twins names s t
+      → Alike (BehindTwins (Twins names) (standing names (meets passes names))) s t (all_met (standing names (meets passes names)) needs)
+      (all_met (standing names (meets passes names)) needs)
 
-  -- and so do they from where a package begins
-  abbrev pub BeginningsAgree : Type 0
-  BeginningsAgree =
-      HaveValues names → (env : List AtomDef) → IsEnv env → (number : ℕ) → (needs : Listed Need) → All IsSettled (members needs)
-      → Alike (BehindTwins Twins (keeping (meets passes names))) (nothing_open env number) (nothing_open env number)
-      (all_met (keeping (meets passes names)) needs) (all_met (keeping (meets passes names)) needs)
+  -- Two runs over a package from the same atoms: both give the same typed package but for how its types are written, or both refuse with one
+  -- code at one place, but for a limit that either may meet. So one that gives a package and one that refuses it, but for a limit, exclude
+  -- each other.
+  abbrev pub PackagesAgree : Type 0
+  PackagesAgree =
+      HaveValues names → (p : Package) (env : List AtomDef) → IsEnv env → AreNames env names
+      → Alike PackageTwins env env (checked_package passes names p) (checked_package passes names p)
 
 -- whatever the names of the package stand for
 module _ (passes : List AtomDef → Asked → TypeLimit → Type 0) where
@@ -256,8 +261,8 @@ module _ (passes : List AtomDef → Asked → TypeLimit → Type 0) where
   abbrev pub LinesAgreeAlways : Type 0
   LinesAgreeAlways = (names : Names) → LinesAgree passes names
 
-  abbrev pub SettledLinesAgreeAlways : Type 0
-  SettledLinesAgreeAlways = (names : Names) → SettledLinesAgree passes names
+  abbrev pub AllLinesAgreeAlways : Type 0
+  AllLinesAgreeAlways = (names : Names) → AllLinesAgree passes names
 
-  abbrev pub BeginningsAgreeAlways : Type 0
-  BeginningsAgreeAlways = (names : Names) → BeginningsAgree passes names
+  abbrev pub PackagesAgreeAlways : Type 0
+  PackagesAgreeAlways = (names : Names) → PackagesAgree passes names

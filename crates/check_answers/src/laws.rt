@@ -1,5 +1,5 @@
 //! Laws of answers. These calls do nothing: their clauses are laws.
-ghost use Rattle.check_answers.specs.Laws.{ActionsAgreeAlways, BeginningsAgreeAlways, BranchesAgreeAlways, CallsAgreeAlways, ConstructorsAgreeAlways, LinesAgreeAlways, MadeAtomsAgreeAlways, MatchesAgreeAlways, MembersAgreeAlways, NamesAgreeAlways, SettledLinesAgreeAlways, StatementsAgreeAlways, TwinsOfAtoms, UnitsAgreeAlways, UpdatesAgreeAlways, ValuesAgreeAlways};
+ghost use Rattle.check_answers.specs.Laws.{ActionsAgreeAlways, BranchesAgreeAlways, CallsAgreeAlways, ConstructorsAgreeAlways, LinesAgreeAlways, MadeAtomsAgreeAlways, MatchesAgreeAlways, MembersAgreeAlways, NamesAgreeAlways, PackagesAgreeAlways, AllLinesAgreeAlways, StatementsAgreeAlways, TwinsOfAtoms, UnitsAgreeAlways, UpdatesAgreeAlways, ValuesAgreeAlways};
 
 use type_model::Types;
 
@@ -85,12 +85,13 @@ pub fn lines_agree<T: Types>()
     ensures { LinesAgreeAlways T.passes }
 {}
 
-/// Needs one behind another of which nothing is left open: where constants have values two runs of all come to the same.
-pub fn settled_lines_agree<T: Types>()
-    ensures { SettledLinesAgreeAlways T.passes }
+/// Any needs one behind another: where constants have values two runs of all come to the same.
+pub fn all_lines_agree<T: Types>()
+    ensures { AllLinesAgreeAlways T.passes }
 {}
 
-/// From where a package begins two runs of all its needs, if nothing of them is left open, come to the same.
-pub fn beginnings_agree<T: Types>()
-    ensures { BeginningsAgreeAlways T.passes }
+/// Two runs over a package from the same atoms come to the same typed package but for how its types are written, or refuse with one code at
+/// one place, but for a limit that either may meet: nothing else can be the case.
+pub fn packages_agree<T: Types>()
+    ensures { PackagesAgreeAlways T.passes }
 {}

@@ -9,7 +9,7 @@
 //! - `TwinTypes`: types and atoms of two runs that mean the same.
 //! - `Pieces`: typed trees written out, and when two are written alike.
 //! - `TwinStates`: states that are the same, but for types that correspond.
-//! - `Answers`: what two runs of a need come to, and what is kept in both.
+//! - `Answers`: what two runs of a need, and over a package, come to.
 //! - `Laws`.
 //!
 //! Beside them stand the laws, a call for each kind of needs.
@@ -18,7 +18,7 @@
 mod laws;
 
 pub use laws::{
-    actions_agree, beginnings_agree, branches_agree, calls_agree, constructors_agree, lines_agree,
-    made_atoms_agree, matches_agree, members_agree, names_agree, settled_lines_agree,
-    statements_agree, types_stay_twins, units_agree, updates_agree, values_agree,
+    actions_agree, all_lines_agree, branches_agree, calls_agree, constructors_agree, lines_agree,
+    made_atoms_agree, matches_agree, members_agree, names_agree, packages_agree, statements_agree,
+    types_stay_twins, units_agree, updates_agree, values_agree,
 };
