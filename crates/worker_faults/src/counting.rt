@@ -13,7 +13,7 @@ use worker_members::{HeldMember, HeldMembers, Said, SaidKind, Standing, is_messa
 
 /// From which worker to which a message goes.
 #[derive(Clone, Copy)]
-pub(crate) struct Route {
+pub struct Route {
     pub from: u32,
     pub to: u32,
 }
@@ -27,8 +27,8 @@ fn is_peer(worker: u32, peer: Peer) -> bool
     }
 }
 
-/// Whether a message goes to this worker.
-fn sends_to(worker: u32, kind: SaidKind<'_>) -> bool
+/// Whether a message goes to this worker. Takes no memory.
+pub fn sends_to(worker: u32, kind: SaidKind<'_>) -> bool
     ensures { result ≡ sends_to_of worker (kind_of kind.entry) }
 {
     match kind {
@@ -38,8 +38,8 @@ fn sends_to(worker: u32, kind: SaidKind<'_>) -> bool
     }
 }
 
-/// Whether a message of this worker is received.
-fn receives_from(worker: u32, kind: SaidKind<'_>) -> bool
+/// Whether a message of this worker is received. Takes no memory.
+pub fn receives_from(worker: u32, kind: SaidKind<'_>) -> bool
     ensures { result ≡ receives_from_of worker (kind_of kind.entry) }
 {
     match kind {
@@ -49,7 +49,8 @@ fn receives_from(worker: u32, kind: SaidKind<'_>) -> bool
     }
 }
 
-fn one_if(so: bool) -> usize
+/// One where it is so, to be added to a count. Takes no memory.
+pub fn one_if(so: bool) -> usize
     ensures is { result ≡ one_if_of so }
     ensures small { result ≤ 1 }
 {
@@ -123,8 +124,9 @@ fn receives_of(workers: &[HeldMember<'_>], worker: u32, from: u32) -> usize
     }
 }
 
-/// How many messages a worker sends to this one before the event with this number.
-fn sends_before(workers: &[HeldMember<'_>], worker: u32, number: usize, to: u32) -> usize
+/// How many messages a worker sends to this one before the event with this number. Takes time that grows with the worker's events, and
+/// no memory.
+pub fn sends_before(workers: &[HeldMember<'_>], worker: u32, number: usize, to: u32) -> usize
     ensures { result ≡ before_of (sends_to_of to) (kinds_of (map member_held workers.now) worker) number }
 {
     match workers.get(worker as usize) {
@@ -133,8 +135,9 @@ fn sends_before(workers: &[HeldMember<'_>], worker: u32, number: usize, to: u32)
     }
 }
 
-/// How many messages of this worker another one receives before the event with this number.
-fn receives_before(workers: &[HeldMember<'_>], worker: u32, number: usize, from: u32) -> usize
+/// How many messages of this worker another one receives before the event with this number. Takes time that grows with the worker's
+/// events, and no memory.
+pub fn receives_before(workers: &[HeldMember<'_>], worker: u32, number: usize, from: u32) -> usize
     ensures { result ≡ before_of (receives_from_of from) (kinds_of (map member_held workers.now) worker) number }
 {
     match workers.get(worker as usize) {
@@ -164,8 +167,8 @@ fn received_route(worker: u32, peer: Peer) -> Option<Route>
     }
 }
 
-/// The route of the message that an event sends or receives.
-pub(crate) fn message_route(event: Standing<'_>) -> Option<Route>
+/// The route of the message that an event sends or receives. Takes no memory.
+pub fn message_route(event: Standing<'_>) -> Option<Route>
     ensures { option_map route_held result ≡ route_of event.entry.worker (kind_of event.entry.said.kind) }
 {
     match event.said.kind {
@@ -196,8 +199,8 @@ fn is_sender(event: Standing<'_>, route: Route) -> bool
     event.worker == route.from
 }
 
-/// How many of its kind stand before an event on its route.
-pub(crate) fn place_on(members: &HeldMembers<'_>, event: Standing<'_>, route: Route) -> usize
+/// How many of its kind stand before an event on its route. Takes time that grows with the events of its worker, and no memory.
+pub fn place_on(members: &HeldMembers<'_>, event: Standing<'_>, route: Route) -> usize
     ensures { result ≡ place_on_of (members_held members.now) (numbered_held event.entry) (route_held route) }
 {
     let number = event.number as usize;
