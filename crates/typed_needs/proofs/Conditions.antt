@@ -1,9 +1,8 @@
 -- Conditions that are put together, and parentheses: what changes beside the parts is of no account.
-use Rattle.std.proofs.Common.{◌≡◌, ◌∙◌, ◌++◌, ℕ, true, false, List, [], ◌∷◌, Option, refl, rules, sym, subst, ap}
+use Rattle.std.proofs.Common.{◌≡◌, ◌∙◌, ◌++◌, ℕ, true, false, List, [], ◌∷◌, refl, rules, sym, subst, ap}
 use Rattle.bal_base.specs.declared.place.Place.{Place}
-use Rattle.checks.specs.Checks.{Check, Gives, ◌▷◌, gives_some}
+use Rattle.checks.specs.Checks.{Gives, ◌▷◌}
 use Rattle.descriptors.specs.declared.names.Names.{Names}
-use Rattle.needs.specs.Needs.{does}
 use Rattle.type_model.specs.declared.answers.TypeLimit.{TypeLimit}
 use Rattle.type_model.specs.declared.atoms.AtomDef.{AtomDef}
 use Rattle.type_model.specs.declared.basic.Ty.{Ty}
@@ -20,89 +19,16 @@ use Rattle.typed_tree.specs.SharedTypes.{Shared, sem_of}
 use Rattle.typed_tree.specs.declared.form.StrictForm.TheVariants as form
 use Rattle.typed_tree.specs.Views.{IsAnd, IsOr, IsParens, IsStrict}
 use Rattle.expr_needs.specs.declared.kind.Kind.TheVariants as kind
-use Rattle.flow_narrowing.specs.declared.flow.Flow.{Flow}
-use Rattle.check_words.specs.Joins.{joins_two}
 use Rattle.check_words.specs.Sharing.{SameShared}
-use Rattle.check_words.specs.State.{AreLast, State, UnitAtWork, Ways, all_but}
+use Rattle.check_words.specs.State.{State, all_but}
 use Rattle.check_words.specs.Values.{conjoins, disjoins, encloses, turns}
-use Rattle.check_words.specs.Words.{Atoms, OfKind, One, Two, becomes, by_handles, closes_choice, makes, sets_flow, sets_unit, sets_ways, ways_now}
+use Rattle.check_words.specs.Words.{Atoms, OfKind, One, Two}
 use Rattle.tree_promises.specs.Made.{MadeIsTyped, sem}
 use Rattle.tree_promises.specs.Types.{IsTypedExpr}
 use Rattle.tree_promises.proofs.Pieces.{made-is-typed}
 use Rattle.typed_needs.specs.Pieces.{ConditionsAreTyped, ConjunctionIsTyped, DisjunctionIsTyped, IsBefore, NegationIsTyped, ParensAreTyped}
+use Rattle.typed_needs.proofs.Leaving.{Makes, between, choice-left, flow-left, join-left, leaves-some, made, then-same, ways-left, ways-set}
 use Rattle.typed_needs.proofs.Opened.{as-lasts, cons-same, exactly-later, last-defined, same-lasts}
-
--- the same parts, over the same atoms
-pub record SameParts (old new : State) : Type 0 where
-  pub found : new.found ≡ old.found
-  pub atoms : new.atoms ≡ old.atoms
-
-abbrev LeavesParts : {A : Type 0} → Check State A → Type 0
-LeavesParts {A} m = (old new : State) (a : A) → m old (Gives a) new → SameParts old new
-
-as-same : (old new : State) → new ≡ old → SameParts old new
-as-same old new is = record { found = ap (λ (s : State). s.found) is; atoms = ap (λ (s : State). s.atoms) is }
-
-then-same : (a b c : State) → SameParts a b → SameParts b c → SameParts a c
-then-same a b c p q = record { found = q.found ∙ p.found; atoms = q.atoms ∙ p.atoms }
-
-leaves-then : {A B : Type 0} (m : Check State A) (next : A → Check State B) → LeavesParts m → ((a : A) → LeavesParts (next a)) → LeavesParts (m ▷ next)
-unfolding ◌▷◌
-leaves-then m next f g old new b (a, mid, first, second) = then-same old mid new (f old mid a first) (g a mid new b second)
-
-leaves-some : {A : Type 0} (P : State → A → Type 0) → LeavesParts (gives_some P)
-unfolding gives_some
-leaves-some P old new a (p, is) = as-same old new is
-
-leaves-becomes : (change : State → State) → ((s : State) → SameParts s (change s)) → LeavesParts (becomes change)
-unfolding does
-leaves-becomes change same old new u is = then-same old (change old) new (same old) (as-same (change old) new is)
-
-leaves-handles : {A : Type 0} (Same : A → A → Type 0) (a : A) → LeavesParts (by_handles Same a)
-unfolding by_handles
-leaves-handles Same a old new b (same, is) = as-same old new is
-
-still : (s t : State) → t.found ≡ s.found → t.atoms ≡ s.atoms → SameParts s t
-still s t f a = record { found = f; atoms = a }
-
-ways-left : LeavesParts ways_now
-ways-left = leaves-then _ _ (leaves-then _ _ (leaves-some _) (λ u. leaves-some _)) (λ f. leaves-some _)
-
-choice-left : LeavesParts closes_choice
-choice-left = leaves-then _ _ (leaves-some _) (λ c. leaves-then _ _ (leaves-becomes _ (λ s. still s _ refl refl)) (λ u. leaves-some _))
-
-join-left : (f g : Flow) → LeavesParts (joins_two f g)
-join-left f g = leaves-some _
-
-unit-left : (u : UnitAtWork) → LeavesParts (sets_unit u)
-unit-left u = leaves-then _ _ (leaves-handles _ u) (λ v. leaves-becomes _ (λ s. still s _ refl refl))
-
-flow-left : (f : Flow) → LeavesParts (sets_flow f)
-flow-left f = leaves-then _ _ (leaves-then _ _ (leaves-some _) (λ u. unit-left _)) (λ u. leaves-becomes _ (λ s. still s _ refl refl))
-
-ways-set : (w : Option Ways) → LeavesParts (sets_ways w)
-ways-set w = leaves-then _ _ (leaves-handles _ w) (λ x. leaves-becomes _ (λ s. still s _ refl refl))
-
-made : (count : ℕ) (P : Atoms → List TypedExpr → TypedExpr → Type 0) (u : Unit {0}) (old new : State) → makes count P old (Gives u) new
-    → (parts : List TypedExpr) × (e : TypedExpr) × AreLast old.found count parts × P old.atoms parts e × (new.found ≡ all_but count old.found ++ e ∷ []) × (new.atoms ≡ old.atoms)
-unfolding does
-made count P u old new (parts, last, e, p, is) = (parts, e, last, p, ap (λ (s : State). s.found) is, ap (λ (s : State). s.atoms) is)
-
--- ---- what is made between steps that leave parts as they are
-
-abbrev Makes : ℕ → (Atoms → List TypedExpr → TypedExpr → Type 0) → State → State → Type 0
-Makes count P old new =
-    (parts : List TypedExpr) × (e : TypedExpr) × AreLast old.found count parts × P old.atoms parts e × (new.found ≡ all_but count old.found ++ e ∷ []) × (new.atoms ≡ old.atoms)
-
-between : (count : ℕ) (P : Atoms → List TypedExpr → TypedExpr → Type 0) (old a b new : State) → SameParts old a → Makes count P a b → SameParts b new → Makes count P old new
-between count P old a b new before (parts, e, last, p, found, atoms) behind = (
-  parts,
-  e,
-  subst (λ xs. AreLast xs count parts) before.found last,
-  subst (λ xs. P xs parts e) before.atoms p,
-  behind.found ∙ found ∙ ap (λ xs. all_but count xs ++ e ∷ []) before.found,
-  behind.atoms ∙ atoms ∙ before.atoms,
-)
 
 abbrev NotMade : Place → Atoms → List TypedExpr → TypedExpr → Type 0
 NotMade at env parts e = (t : Shared) × OfKind kind.Truth env t.value × IsStrict (form.Operator operator.Not) parts t at e

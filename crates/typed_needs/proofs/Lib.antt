@@ -1,2 +1,17 @@
+mod Asking
+mod AtomKinds
+mod Choices
 mod Conditions
+mod FunctionCalls
+mod Going
+mod GoingNeeds
+mod Items
+mod Leaving
+mod MemberReads
+mod Messages
+mod Naming
+mod OnTheWay
 mod Opened
+mod Placed
+mod Questions
+mod Strict

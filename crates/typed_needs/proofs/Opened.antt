@@ -78,7 +78,7 @@ module _ (env : List AtomDef) where
   exactly-later old P t keeps defined h x valid =
       ((λ i. (h x valid).0 ((keeps.shapes t defined x).1 i)), (λ p. (keeps.shapes t defined x).0 ((h x valid).1 p)))
 
-  sub-later : (old : List AtomDef) (s t : SemType) → KeepsTypes old env → IsDefined old s → IsDefined old t → Sub old s t → Sub env s t
+  pub sub-later : (old : List AtomDef) (s t : SemType) → KeepsTypes old env → IsDefined old s → IsDefined old t → Sub old s t → Sub env s t
   sub-later old s t keeps first second h x valid i = (keeps.shapes t second x).0 (h x valid ((keeps.shapes s first x).1 i))
 
   pub last-defined : (s : State) (e : TypedExpr) → IsBefore env s → IsLast s.found e → IsDefined s.atoms (sem e)
