@@ -122,11 +122,12 @@ module _ (old env : List AtomDef) (t : SemType) (same : (x : Shape) → In old x
   only-one x y valid h k = (k x valid).0 ((same x).0 ((h x valid).1 refl))
 
   item-named : (keys others : Keys) (whole part : Shape) → NamesItems old t keys → NamesIndex env t others → StandsIn others whole part → StandsIn keys whole part
-  item-named keys others whole part (inl (n, (valid, only), is)) (inl (m, single, are)) at =
+  item-named keys others whole part (inl (n, (valid, only), is)) (inl (m, (int, single), are)) at =
       let one : Int (pos n) ≡ Int (pos m) = only-one (Int (pos n)) (Int (pos m)) valid only single in
       let number : n ≡ m = cc in
       subst (λ k. StandsIn k whole part) (are ∙ ap Index (sym number) ∙ sym is) at
-  item-named keys others whole part (inl (n, (valid, only), is)) (inr (none, are)) at = absurd (none n (single-later (Int (pos n)) only))
+  item-named keys others whole part (inl (n, (valid, only), is)) (inr (none, are)) at =
+      absurd (none n (valid, single-later (Int (pos n)) only))
   item-named keys others whole part (inr (none, is)) (inl (m, single, are)) at =
       subst (λ k. StandsIn k whole part) (sym is) (index-any m whole part (subst (λ k. StandsIn k whole part) are at))
   item-named keys others whole part (inr (none, is)) (inr (never, are)) at = subst (λ k. StandsIn k whole part) (are ∙ sym is) at
