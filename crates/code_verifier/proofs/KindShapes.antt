@@ -1,5 +1,5 @@
 -- Kinds as they are written have the shapes of the kind.
-use Rattle.std.proofs.Common.{◌≡◌, ◌⊎◌, ◌↔◌, ℕ, List, Option, Some, None, inl, inr, refl, sym, subst, true, false, Result, Ok, Err, IfOk, arith}
+use Rattle.std.proofs.Common.{◌≡◌, ◌⊎◌, ◌↔◌, ℕ, List, Option, Some, None, inl, inr, refl, sym, subst, true, false, IsSomeAnd, Result, Ok, Err, IfOk, arith}
 use Rattle.std.specs.Prelude.{⊤}
 use Rattle.std.proofs.lemmas.Int.{ints}
 use Rattle.bal_base.specs.declared.shape.Shape.{Shape, Nil, Bool as BoolShape, Int, Str, List', Mapping', Error', Function, Future'}
@@ -10,19 +10,22 @@ use Rattle.operations.specs.declared.operation.Constant.TheVariants as constant
 use Rattle.operations.specs.Kinds.{IsBoolean, IsInteger, IsNil}
 use Rattle.operations.specs.Rows.{shape_of}
 use Rattle.type_model.specs.declared.atoms.AtomDef.{AtomDef}
+use Rattle.type_model.specs.declared.basic.BasicSet.{BasicSet}
 use Rattle.type_model.specs.declared.basic.BasicSet.TheVariants as set
-use Rattle.type_model.specs.declared.basic.SemType.{SemType, Basic}
+use Rattle.type_model.specs.declared.basic.SemType.{SemType, Basic, Or', And', Not'}
 use Rattle.type_model.specs.Basic.{InBasic}
 use Rattle.type_model.specs.Defined.{IsDefined, NamesBelow}
 use Rattle.type_model.specs.Inclusion.{HasExactly}
 use Rattle.type_model.specs.Membership.{In}
-use Rattle.type_model.proofs.Same.{both, either, itself}
+use Rattle.type_model.proofs.Same.{both, either, itself, neither}
 use Rattle.code_needs.specs.declared.kind.Kind.{Kind}
 use Rattle.code_needs.specs.declared.kind.Kind.TheVariants as kind
 use Rattle.code_needs.specs.Needs.{IsOfKind}
 use Rattle.code_verifier.specs.declared.sets.Sets.{Sets}
+use Rattle.code_verifier.specs.declared.sets.Sets.TheVariants as sets
 use Rattle.code_verifier.specs.declared.kind_types.KnownTypes.{KnownTypes}
-use Rattle.code_verifier.specs.KindSets.{AreKnown, IsInSets, IsReadonlyData, all_ints, constant_set, known_of, sets_of}
+use Rattle.code_verifier.specs.inner.Known.{known_of}
+use Rattle.code_verifier.specs.KindSets.{AreKnown, IsAllBut, IsBoth, IsEither, IsInSets, IsKindType, IsReadonlyData, IsWritten, all_ints, constant_set, sets_of}
 
 -- ---- single kinds
 
@@ -112,8 +115,61 @@ in-kind kind.IntegersOrErrors = λ x v. either (integer x v) itself
 in-kind kind.Anydata = tt
 in-kind kind.Sendable = tt
 
-pub sets-exactly : (env : List AtomDef) (k : Kind) (all : Sets) (t : SemType) → sets_of k ≡ Some all → ((env : List AtomDef) (x : Shape) → In env x t ↔ IsInSets all x) → HasExactly env t (IsOfKind k)
-sets-exactly env k all t e h x v = then-same (h env x) (subst (Has k) e (in-kind k) x v)
+-- ---- types that are written so
+
+abbrev Is : BasicSet → SemType → Type 0
+Is b t = t ≡ Basic b
+
+module _ (env : List AtomDef) (x : Shape) where
+  basic-shapes : (b : BasicSet) (t : SemType) → t ≡ Basic b → In env x t ↔ InBasic x b
+  basic-shapes b t e = subst (λ u. In env x u ↔ InBasic x b) (sym e) itself
+
+  pub all-but-shapes : (b : BasicSet) (t : SemType) → IsAllBut b t → In env x t ↔ (¬ (InBasic x b))
+  all-but-shapes b (Not' _ t) e = neither (basic-shapes b t e)
+  all-but-shapes b t e = absurd e
+
+  either-shapes : {A B : Type 0} (P Q : SemType → Type 0) → ((s : SemType) → P s → In env x s ↔ A) → ((s : SemType) → Q s → In env x s ↔ B) → (t : SemType) → IsEither P Q t → In env x t ↔ (A ⊎ B)
+  either-shapes P Q f g (Or' _ s _ t) h = either (f s h.0) (g t h.1)
+  either-shapes P Q f g t h = absurd h
+
+  pub both-shapes : {A B : Type 0} (P Q : SemType → Type 0) → ((s : SemType) → P s → In env x s ↔ A) → ((s : SemType) → Q s → In env x s ↔ B) → (t : SemType) → IsBoth P Q t → In env x t ↔ (A × B)
+  both-shapes P Q f g (And' _ s _ t) h = both (f s h.0) (g t h.1)
+  both-shapes P Q f g t h = absurd h
+
+  written-shapes : (all : Sets) (t : SemType) → IsWritten all t → In env x t ↔ IsInSets all x
+  written-shapes (sets.One b) t e = basic-shapes b t e
+  written-shapes (sets.Either b c) t h = either-shapes (Is b) (Is c) (basic-shapes b) (basic-shapes c) t h
+  written-shapes (sets.Both b c) t h = both-shapes (Is b) (Is c) (basic-shapes b) (basic-shapes c) t h
+  written-shapes sets.Frozen t h =
+      both-shapes (IsBoth (Is set.Readonly) (IsAllBut set.ErrorAll)) (IsAllBut set.FunctionAll)
+      (both-shapes (Is set.Readonly) (IsAllBut set.ErrorAll) (basic-shapes set.Readonly) (all-but-shapes set.ErrorAll)) (all-but-shapes set.FunctionAll) t h
+
+module _ (n : ℕ) where
+  basic-below : (b : BasicSet) (t : SemType) → t ≡ Basic b → NamesBelow n t
+  basic-below b t e = subst (NamesBelow n) (sym e) tt
+
+  pub all-but-below : (b : BasicSet) (t : SemType) → IsAllBut b t → NamesBelow n t
+  all-but-below b (Not' _ t) e = basic-below b t e
+  all-but-below b t e = absurd e
+
+  either-below : (P Q : SemType → Type 0) → ((s : SemType) → P s → NamesBelow n s) → ((s : SemType) → Q s → NamesBelow n s) → (t : SemType) → IsEither P Q t → NamesBelow n t
+  either-below P Q f g (Or' _ s _ t) h = (f s h.0, g t h.1)
+  either-below P Q f g t h = absurd h
+
+  pub both-below : (P Q : SemType → Type 0) → ((s : SemType) → P s → NamesBelow n s) → ((s : SemType) → Q s → NamesBelow n s) → (t : SemType) → IsBoth P Q t → NamesBelow n t
+  both-below P Q f g (And' _ s _ t) h = (f s h.0, g t h.1)
+  both-below P Q f g t h = absurd h
+
+  pub written-below : (all : Sets) (t : SemType) → IsWritten all t → NamesBelow n t
+  written-below (sets.One b) t e = basic-below b t e
+  written-below (sets.Either b c) t h = either-below (Is b) (Is c) (basic-below b) (basic-below c) t h
+  written-below (sets.Both b c) t h = both-below (Is b) (Is c) (basic-below b) (basic-below c) t h
+  written-below sets.Frozen t h =
+      both-below (IsBoth (Is set.Readonly) (IsAllBut set.ErrorAll)) (IsAllBut set.FunctionAll)
+      (both-below (Is set.Readonly) (IsAllBut set.ErrorAll) (basic-below set.Readonly) (all-but-below set.ErrorAll)) (all-but-below set.FunctionAll) t h
+
+pub sets-exactly : (env : List AtomDef) (k : Kind) (all : Sets) (t : SemType) → sets_of k ≡ Some all → IsWritten all t → HasExactly env t (IsOfKind k)
+sets-exactly env k all t e h x v = then-same (written-shapes env x all t h) (subst (Has k) e (in-kind k) x v)
 
 -- the known types have the shapes of the other kinds
 pub known-exactly : (env : List AtomDef) (known : KnownTypes) (k : Kind) → AreKnown env known → sets_of k ≡ None → HasExactly env (known_of known k) (IsOfKind k)
@@ -124,6 +180,15 @@ known-exactly env known k are e = absurd (let q : ⊥ = cc in q)
 pub known-defined : (env : List AtomDef) (known : KnownTypes) (k : Kind) → AreKnown env known → IsDefined env (known_of known k)
 known-defined env known kind.Sendable are = are.sendable_defined
 known-defined env known k are = are.anydata_defined
+
+-- so the kind is asked about
+pub as-written : (known : KnownTypes) (k : Kind) (all : Sets) → sets_of k ≡ Some all → (t : SemType) → IsWritten all t → IsKindType known k t
+as-written known k all e t h = inl (subst (λ o. IsSomeAnd o (λ s. IsWritten s t)) (sym e) h)
+
+pub as-known : (known : KnownTypes) (k : Kind) → sets_of k ≡ None → (t : SemType) → t ≡ known_of known k → IsKindType known k t
+as-known known kind.Anydata e t is = inr is
+as-known known kind.Sendable e t is = inr is
+as-known known k e t is = absurd (let q : ⊥ = cc in q)
 
 -- ---- constants
 
@@ -136,22 +201,16 @@ constant-exactly env c x v = (constant-back c x, (λ e. subst (λ y. InBasic y (
     own (constant.Int i) = (omega (arith, ints), omega (arith, ints))
     own (constant.Str t) = refl
 
--- ---- types that are written so
+-- ints
+pub ints-exactly : (env : List AtomDef) → HasExactly env (Basic all_ints) IsInteger
+ints-exactly env x v = integer x v
 
-abbrev pub Writes : Sets → Result SemType NoMemory → Type 0
-Writes all r = IfOk r (λ t. (env : List AtomDef) (x : Shape) → In env x t ↔ IsInSets all x)
+-- ---- what calls write
 
-pub so-written : (b : Sets) (all : Sets) (r : Result SemType NoMemory) → all ≡ b → Writes b r → Writes all r
-so-written b all r e h = subst (λ s. Writes s r) (sym e) h
+pub so-written : (b : Sets) (all : Sets) (r : Result SemType NoMemory) → all ≡ b → IfOk r (IsWritten b) → IfOk r (IsWritten all)
+so-written b all r e h = subst (λ s. IfOk r (IsWritten s)) (sym e) h
 
--- ---- immutable values
-
-module _ (s : SemType) where
-  pub frozen-given : (r : Result SemType NoMemory) → ((env : List AtomDef) (x : Shape) → In env x s ↔ (InBasic x set.Readonly × (¬ (InBasic x set.ErrorAll))))
-      → IfOk r (λ t. (env : List AtomDef) (x : Shape) → In env x t ↔ (In env x s × (¬ (InBasic x set.FunctionAll)))) → IfOk r (λ t. (env : List AtomDef) (x : Shape) → In env x t ↔ IsReadonlyData x)
-  frozen-given (Ok t) first second = λ env x. then-same (second env x) (both (first env x) itself)
-  frozen-given (Err m) first second = tt
-
-  pub below-given : (r : Result SemType NoMemory) → ((n : ℕ) → NamesBelow n s) → IfOk r (λ t. (n : ℕ) → NamesBelow n s → NamesBelow n t) → IfOk r (λ t. (n : ℕ) → NamesBelow n t)
-  below-given (Ok t) first second = λ n. second n (first n)
-  below-given (Err m) first second = tt
+pub frozen-given : (s : SemType) (r : Result SemType NoMemory) → IsBoth (Is set.Readonly) (IsAllBut set.ErrorAll) s → IfOk r (IsBoth (λ t. t ≡ s) (IsAllBut set.FunctionAll)) → IfOk r (IsWritten sets.Frozen)
+frozen-given s (Ok (And' _ a _ b)) given h = (subst (IsBoth (Is set.Readonly) (IsAllBut set.ErrorAll)) (sym h.0) given, h.1)
+frozen-given s (Ok t) given h = absurd h
+frozen-given s (Err m) given h = tt

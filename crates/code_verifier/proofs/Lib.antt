@@ -1,4 +1,6 @@
-mod Answered
+pub mod Answered
 mod KeyNames
-mod KindShapes
+pub mod KindShapes
+pub mod Leading
 mod MadeShapes
+mod Ordering

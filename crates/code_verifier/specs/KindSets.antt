@@ -1,12 +1,12 @@
 -- How kinds are written as types.
-use Rattle.std.specs.Prelude.{◌⊎◌, true, false, pos, negsuc, List, Option, Some, None}
+use Rattle.std.specs.Prelude.{◌⊎◌, true, false, pos, negsuc, ◌≡◌, IsSomeAnd, List, Option, Some, None}
 use Rattle.bal_base.specs.Limits.{greatest_int}
 use Rattle.bal_base.specs.declared.shape.Shape.{Shape}
 use Rattle.type_model.specs.declared.basic.BasicSet.{BasicSet}
 use Rattle.type_model.specs.declared.basic.BasicSet.TheVariants as set
 use Rattle.type_model.specs.Anydata.{IsAnydata}
 use Rattle.type_model.specs.declared.atoms.AtomDef.{AtomDef}
-use Rattle.type_model.specs.declared.basic.SemType.{SemType}
+use Rattle.type_model.specs.declared.basic.SemType.{SemType, Basic, Or', And', Not'}
 use Rattle.type_model.specs.Defined.{IsDefined}
 use Rattle.type_model.specs.Inclusion.{HasExactly}
 use Rattle.operations.specs.Kinds.{IsSendable}
@@ -65,21 +65,35 @@ pub record AreKnown (env : List AtomDef) (known : KnownTypes) : Type 0 where
   pub sendable : HasExactly env known.sendable IsSendable
   pub sendable_defined : IsDefined env known.sendable
 
+-- ---- the types that are asked about
+
+-- put together of such two types
+abbrev pub IsEither : (SemType → Type 0) → (SemType → Type 0) → SemType → Type 0
+IsEither P Q (Or' _ s _ t) = P s × Q t
+IsEither P Q _ = ⊥
+
+abbrev pub IsBoth : (SemType → Type 0) → (SemType → Type 0) → SemType → Type 0
+IsBoth P Q (And' _ s _ t) = P s × Q t
+IsBoth P Q _ = ⊥
+
+-- all but the set
+abbrev pub IsAllBut : BasicSet → SemType → Type 0
+IsAllBut b (Not' _ t) = t ≡ Basic b
+IsAllBut b _ = ⊥
+
+-- sets as they are written
+abbrev pub IsWritten : Sets → SemType → Type 0
+IsWritten (sets.One b) t = t ≡ Basic b
+IsWritten (sets.Either b c) t = IsEither (λ s. s ≡ Basic b) (λ s. s ≡ Basic c) t
+IsWritten (sets.Both b c) t = IsBoth (λ s. s ≡ Basic b) (λ s. s ≡ Basic c) t
+IsWritten sets.Frozen t = IsBoth (IsBoth (λ s. s ≡ Basic set.Readonly) (IsAllBut set.ErrorAll)) (IsAllBut set.FunctionAll) t
+
 -- the known type of a kind that has anydata in it
-abbrev pub known_of : KnownTypes → Kind → SemType
-known_of known kind.Nils = known.anydata
-known_of known kind.Booleans = known.anydata
-known_of known kind.Integers = known.anydata
-known_of known kind.Strings = known.anydata
-known_of known kind.Lists = known.anydata
-known_of known kind.Mappings = known.anydata
-known_of known kind.Errors = known.anydata
-known_of known kind.Functions = known.anydata
-known_of known kind.Futures = known.anydata
-known_of known kind.Anydata = known.anydata
-known_of known kind.Sendable = known.sendable
-known_of known kind.ImmutableData = known.anydata
-known_of known kind.Details = known.anydata
-known_of known kind.NilsOrErrors = known.anydata
-known_of known kind.MappingsOrNils = known.anydata
-known_of known kind.IntegersOrErrors = known.anydata
+abbrev pub IsKnown : KnownTypes → Kind → SemType → Type 0
+IsKnown known kind.Anydata t = t ≡ known.anydata
+IsKnown known kind.Sendable t = t ≡ known.sendable
+IsKnown known _ t = ⊥
+
+-- a kind as it is asked about: its sets as they are written, or the known type
+abbrev pub IsKindType : KnownTypes → Kind → SemType → Type 0
+IsKindType known k t = IsSomeAnd (sets_of k) (λ all. IsWritten all t) ⊎ IsKnown known k t

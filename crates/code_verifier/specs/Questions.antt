@@ -1,41 +1,112 @@
 -- Questions one after another, and what comes of them.
 use Rattle.std.specs.Prelude.{◌≡◌, ◌<◌, ℕ, List, Option, Some, None, All, length, take, slice_get}
-use Rattle.bal_base.specs.Valid.{IsValid}
 use Rattle.bal_base.specs.declared.shape.Shape.{Shape}
+use Rattle.type_model.specs.declared.answers.TypeLimit.{TypeLimit}
 use Rattle.type_model.specs.declared.atoms.AtomDef.{AtomDef}
+use Rattle.type_model.specs.declared.basic.SemType.{Basic}
+use Rattle.type_model.specs.Calls.{Asked, Without}
 use Rattle.type_model.specs.Defined.{IsDefined}
-use Rattle.code_needs.specs.Needs.{IsMet, Need, Below, Has, HasConstant, HasMade, MemberHas, MemberIn, PartHas, PartIn, Within}
+use Rattle.type_model.specs.Parts.{StandsAt}
+use Rattle.type_model.specs.SameType.{IsSameType}
+use Rattle.code_needs.specs.Needs.{IsMet, Need, Below, Has, HasBoth, HasConstant, HasMade, MemberHas, MemberIn, Ordered, PartHas, PartIn, Within}
+use Rattle.code_verifier.specs.declared.kind_types.KnownTypes.{KnownTypes}
+use Rattle.code_verifier.specs.declared.questions.OfKinds.{OfKinds}
+use Rattle.code_verifier.specs.declared.questions.OfKinds.TheVariants as kinds
+use Rattle.code_verifier.specs.declared.questions.OfParts.{OfParts}
+use Rattle.code_verifier.specs.declared.questions.OfParts.TheVariants as parts
+use Rattle.code_verifier.specs.declared.questions.OfTypes.{OfTypes}
+use Rattle.code_verifier.specs.declared.questions.OfTypes.TheVariants as types
 use Rattle.code_verifier.specs.declared.questions.Question.{Question}
 use Rattle.code_verifier.specs.declared.questions.Question.TheVariants as ask
+use Rattle.code_verifier.specs.Asked.{IsAgainst}
+use Rattle.code_verifier.specs.KindSets.{IsBoth, IsKindType, constant_set}
+use Rattle.code_verifier.specs.LedTo.{AsksAbove, AsksBelow, AsksMember, AsksOfMember, AsksOfPart, AsksOrder, AsksPart, IsMadeType, SomePasses}
 
--- the need that a question asks of
+-- ---- the need that a question asks of
+
+abbrev pub need_of_types : OfTypes → Need
+need_of_types (types.Below s t) = Below s.now t.now
+need_of_types (types.HasConstant t value) = HasConstant t.now value.now
+need_of_types (types.HasBoth r s t) = HasBoth r.now s.now t.now
+need_of_types (types.HasMade t atom immutable) = HasMade t.now atom immutable
+
+abbrev pub need_of_kinds : OfKinds → Need
+need_of_kinds (kinds.Within s kind) = Within s.now kind
+need_of_kinds (kinds.Has t kind) = Has t.now kind
+need_of_kinds (kinds.Ordered a b) = Ordered a.now b.now
+
+abbrev pub need_of_parts : OfParts → Need
+need_of_parts (parts.PartIn whole keys t) = PartIn whole.now keys.now t.now
+need_of_parts (parts.PartHas whole keys v) = PartHas whole.now keys.now v.now
+need_of_parts (parts.MemberIn m k t) = MemberIn m.now k.now t.now
+need_of_parts (parts.MemberHas m k v) = MemberHas m.now k.now v.now
+
 abbrev pub need_of : Question → Need
-need_of (ask.Below s t) = Below s.now t.now
-need_of (ask.Within s kind) = Within s.now kind
-need_of (ask.Has t kind) = Has t.now kind
-need_of (ask.HasConstant t value) = HasConstant t.now value.now
-need_of (ask.PartIn whole keys t) = PartIn whole.now keys.now t.now
-need_of (ask.PartHas whole keys v) = PartHas whole.now keys.now v.now
-need_of (ask.MemberIn m k t) = MemberIn m.now k.now t.now
-need_of (ask.MemberHas m k v) = MemberHas m.now k.now v.now
-need_of (ask.HasMade t atom immutable) = HasMade t.now atom immutable
+need_of (ask.Types q) = need_of_types q
+need_of (ask.Kinds q) = need_of_kinds q
+need_of (ask.Parts q) = need_of_parts q
 
--- its types are defined
-abbrev pub IsAskable : List AtomDef → Question → Type 0
-IsAskable env (ask.Below s t) = IsDefined env s.now × IsDefined env t.now
-IsAskable env (ask.Within s kind) = IsDefined env s.now
-IsAskable env (ask.Has t kind) = IsDefined env t.now
-IsAskable env (ask.HasConstant t value) = IsDefined env t.now
-IsAskable env (ask.PartIn whole keys t) = IsDefined env whole.now × IsDefined env t.now
-IsAskable env (ask.PartHas whole keys v) = IsDefined env whole.now × IsDefined env v.now
-IsAskable env (ask.MemberIn m k t) = IsDefined env m.now × IsDefined env k.now × IsDefined env t.now
-IsAskable env (ask.MemberHas m k v) = IsDefined env m.now × IsDefined env k.now × IsDefined env v.now
-IsAskable env (ask.HasMade t atom immutable) = (atom < length env) × IsDefined env t.now
+-- ---- its types are defined
+
+module _ (env : List AtomDef) where
+  abbrev pub AreAskableTypes : OfTypes → Type 0
+  AreAskableTypes (types.Below s t) = IsDefined env s.now × IsDefined env t.now
+  AreAskableTypes (types.HasConstant t value) = IsDefined env t.now
+  AreAskableTypes (types.HasBoth r s t) = IsDefined env r.now × IsDefined env s.now × IsDefined env t.now
+  AreAskableTypes (types.HasMade t atom immutable) = (atom < length env) × IsDefined env t.now
+
+  abbrev pub AreAskableKinds : OfKinds → Type 0
+  AreAskableKinds (kinds.Within s kind) = IsDefined env s.now
+  AreAskableKinds (kinds.Has t kind) = IsDefined env t.now
+  AreAskableKinds (kinds.Ordered a b) = IsDefined env a.now × IsDefined env b.now
+
+  abbrev pub AreAskableParts : OfParts → Type 0
+  AreAskableParts (parts.PartIn whole keys t) = IsDefined env whole.now × IsDefined env t.now
+  AreAskableParts (parts.PartHas whole keys v) = IsDefined env whole.now × IsDefined env v.now
+  AreAskableParts (parts.MemberIn m k t) = IsDefined env m.now × IsDefined env k.now × IsDefined env t.now
+  AreAskableParts (parts.MemberHas m k v) = IsDefined env m.now × IsDefined env k.now × IsDefined env v.now
+
+  abbrev pub IsAskable : Question → Type 0
+  IsAskable (ask.Types q) = AreAskableTypes q
+  IsAskable (ask.Kinds q) = AreAskableKinds q
+  IsAskable (ask.Parts q) = AreAskableParts q
+
+-- ---- the questions about types that it leads to
+
+abbrev pub TypesLeadTo : OfTypes → Asked → Type 0
+TypesLeadTo (types.Below s t) asked = asked ≡ Without s.now t.now
+TypesLeadTo (types.HasConstant t value) asked = asked ≡ Without (Basic (constant_set value.now)) t.now
+TypesLeadTo (types.HasBoth r s t) asked = AsksAbove r.now (IsBoth (IsSameType s.now) (IsSameType t.now)) asked
+TypesLeadTo (types.HasMade t atom immutable) asked = AsksAbove t.now (IsMadeType atom immutable) asked
+
+abbrev pub KindsLeadTo : KnownTypes → OfKinds → Asked → Type 0
+KindsLeadTo known (kinds.Within s kind) asked = AsksBelow s.now (IsKindType known kind) asked
+KindsLeadTo known (kinds.Has t kind) asked = AsksAbove t.now (IsKindType known kind) asked
+KindsLeadTo known (kinds.Ordered a b) asked = AsksOrder a.now b.now asked
+
+abbrev pub PartsLeadTo : List AtomDef → OfParts → Asked → Type 0
+PartsLeadTo env (parts.PartIn whole keys t) asked = AsksPart env whole.now (StandsAt env whole.now keys.now) t.now asked
+PartsLeadTo env (parts.PartHas whole keys v) asked = AsksOfPart env whole.now (StandsAt env whole.now keys.now) v.now asked
+PartsLeadTo env (parts.MemberIn m k t) asked = AsksMember env m.now k.now t.now asked
+PartsLeadTo env (parts.MemberHas m k v) asked = AsksOfMember env m.now k.now v.now asked
+
+abbrev pub LeadsTo : List AtomDef → KnownTypes → Question → Asked → Type 0
+LeadsTo env known (ask.Types q) asked = TypesLeadTo q asked
+LeadsTo env known (ask.Kinds q) asked = KindsLeadTo known q asked
+LeadsTo env known (ask.Parts q) asked = PartsLeadTo env q asked
+
+-- ---- one after another
 
 abbrev pub IsYes : List AtomDef → Question → Type 0
 IsYes env q = IsMet env (need_of q)
 
--- all needs are met; or all before one are and this one isn't, and a valid shape stands beside that
+-- all needs are met; or all before one are and this one isn't, as the shape shows
 abbrev pub Answered : List AtomDef → List Question → Option Shape → Type 0
 Answered env qs None = All (IsYes env) qs
-Answered env qs (Some x) = (k : ℕ) × (q : Question) × (slice_get qs k ≡ Some q) × All (IsYes env) (take k qs) × IsValid x × (¬ (IsYes env q))
+Answered env qs (Some x) =
+    (k : ℕ) × (q : Question) × (slice_get qs k ≡ Some q) × All (IsYes env) (take k qs) × IsAgainst env (need_of q) x × (¬ (IsYes env q))
+
+-- all needs before one are met, and a question to which this one leads passes the limit
+abbrev pub FirstPasses : (List AtomDef → Asked → TypeLimit → Type 0) → List AtomDef → KnownTypes → List Question → TypeLimit → Type 0
+FirstPasses passes env known qs limit =
+    (k : ℕ) × (q : Question) × (slice_get qs k ≡ Some q) × All (IsYes env) (take k qs) × SomePasses passes env (LeadsTo env known q) limit

@@ -1,11 +1,15 @@
 //! Needs as questions about types.
 ghost use Rattle.std.specs.Prelude.{◌≡◌, IfOk, Some};
 ghost use Rattle.bal_base.specs.Stops.{IfFault};
+ghost use Rattle.type_model.specs.declared.basic.SemType.{Basic};
+ghost use Rattle.type_model.specs.Calls.{Without};
 ghost use Rattle.type_model.specs.Defined.{IsDefined};
+ghost use Rattle.type_model.specs.Parts.{StandsAt};
 ghost use Rattle.code_needs.specs.Needs.{Below as IsBelow, Has as HasAll, HasConstant, PartHas, PartIn, Within};
-ghost use Rattle.code_verifier.specs.Asked.{Answers, SomePasses};
+ghost use Rattle.code_verifier.specs.Asked.{Answers};
+ghost use Rattle.code_verifier.specs.LedTo.{AsksAbove, AsksBelow, AsksOfPart, AsksPart, SomePasses};
 ghost use Rattle.code_needs.specs.declared.kind.Kind.{Kind as KindOf};
-ghost use Rattle.code_verifier.specs.KindSets.{AreKnown, sets_of};
+ghost use Rattle.code_verifier.specs.KindSets.{AreKnown, IsKindType, IsWritten, constant_set as set_of_constant, sets_of};
 
 use crate::kind_types::{KnownTypes, known_type, written};
 use crate::sets::{Sets, constant_set, kind_sets};
@@ -26,7 +30,7 @@ pub fn is_below<T: Types>(
     requires right { IsDefined (T.atoms types.old) t.now }
     ensures atoms { T.atoms types.new ≡ T.atoms types.old }
     ensures answers { IfOk result (Answers (T.atoms types.old) (IsBelow s.now t.now)) }
-    ensures limit { IfFault result (SomePasses T.passes (T.atoms types.old)) }
+    ensures limit { IfFault result (T.passes (T.atoms types.old) (Without s.now t.now)) }
 {
     types.sub(alloc, s, t)
 }
@@ -41,7 +45,7 @@ fn is_within_sets<T: Types>(
     requires { IsDefined (T.atoms types.old) s.now }
     ensures atoms { T.atoms types.new ≡ T.atoms types.old }
     ensures answers { (kind : KindOf) → sets_of kind ≡ Some sets → IfOk result (Answers (T.atoms types.old) (Within s.now kind)) }
-    ensures limit { IfFault result (SomePasses T.passes (T.atoms types.old)) }
+    ensures limit { IfFault result (SomePasses T.passes (T.atoms types.old) (AsksBelow s.now (IsWritten sets))) }
 {
     match written(alloc, sets) {
         Ok(want) => types.sub(alloc, s, &want),
@@ -61,7 +65,7 @@ pub fn is_within<T: Types>(
     requires defined { IsDefined (T.atoms types.old) s.now }
     ensures atoms { T.atoms types.new ≡ T.atoms types.old }
     ensures answers { IfOk result (Answers (T.atoms types.old) (Within s.now kind)) }
-    ensures limit { IfFault result (SomePasses T.passes (T.atoms types.old)) }
+    ensures limit { IfFault result (SomePasses T.passes (T.atoms types.old) (AsksBelow s.now (IsKindType known.now kind))) }
 {
     match kind_sets(kind) {
         Some(sets) => is_within_sets(alloc, types, s, sets),
@@ -79,7 +83,7 @@ fn has_sets<T: Types>(
     requires { IsDefined (T.atoms types.old) t.now }
     ensures atoms { T.atoms types.new ≡ T.atoms types.old }
     ensures answers { (kind : KindOf) → sets_of kind ≡ Some sets → IfOk result (Answers (T.atoms types.old) (HasAll t.now kind)) }
-    ensures limit { IfFault result (SomePasses T.passes (T.atoms types.old)) }
+    ensures limit { IfFault result (SomePasses T.passes (T.atoms types.old) (AsksAbove t.now (IsWritten sets))) }
 {
     match written(alloc, sets) {
         Ok(want) => types.sub(alloc, &want, t),
@@ -99,7 +103,7 @@ pub fn has_kind<T: Types>(
     requires defined { IsDefined (T.atoms types.old) t.now }
     ensures atoms { T.atoms types.new ≡ T.atoms types.old }
     ensures answers { IfOk result (Answers (T.atoms types.old) (HasAll t.now kind)) }
-    ensures limit { IfFault result (SomePasses T.passes (T.atoms types.old)) }
+    ensures limit { IfFault result (SomePasses T.passes (T.atoms types.old) (AsksAbove t.now (IsKindType known.now kind))) }
 {
     match kind_sets(kind) {
         Some(sets) => has_sets(alloc, types, t, sets),
@@ -117,7 +121,7 @@ pub fn has_constant<T: Types>(
     requires { IsDefined (T.atoms types.old) t.now }
     ensures atoms { T.atoms types.new ≡ T.atoms types.old }
     ensures answers { IfOk result (Answers (T.atoms types.old) (HasConstant t.now value.now)) }
-    ensures limit { IfFault result (SomePasses T.passes (T.atoms types.old)) }
+    ensures limit { IfFault result (T.passes (T.atoms types.old) (Without (Basic (set_of_constant value.now)) t.now)) }
 {
     let want = SemType::Basic(constant_set(value));
     types.sub(alloc, &want, t)
@@ -136,7 +140,7 @@ pub fn part_is_in<T: Types>(
     requires right { IsDefined (T.atoms types.old) t.now }
     ensures atoms { T.atoms types.new ≡ T.atoms types.old }
     ensures answers { IfOk result (Answers (T.atoms types.old) (PartIn whole.now keys.now t.now)) }
-    ensures limit { IfFault result (SomePasses T.passes (T.atoms types.old)) }
+    ensures limit { IfFault result (SomePasses T.passes (T.atoms types.old) (AsksPart (T.atoms types.old) whole.now (StandsAt (T.atoms types.old) whole.now keys.now) t.now)) }
 {
     match types.member(alloc, whole, keys) {
         Ok(part) => types.sub(alloc, &part, t),
@@ -157,7 +161,7 @@ pub fn part_has<T: Types>(
     requires right { IsDefined (T.atoms types.old) v.now }
     ensures atoms { T.atoms types.new ≡ T.atoms types.old }
     ensures answers { IfOk result (Answers (T.atoms types.old) (PartHas whole.now keys.now v.now)) }
-    ensures limit { IfFault result (SomePasses T.passes (T.atoms types.old)) }
+    ensures limit { IfFault result (SomePasses T.passes (T.atoms types.old) (AsksOfPart (T.atoms types.old) whole.now (StandsAt (T.atoms types.old) whole.now keys.now) v.now)) }
 {
     match types.member(alloc, whole, keys) {
         Ok(part) => types.sub(alloc, v, &part),

@@ -1,12 +1,16 @@
 //! Needs of what stands in mappings at the keys that a type names.
 ghost use Rattle.std.specs.Prelude.{◌≡◌, IfOk};
 ghost use Rattle.bal_base.specs.Stops.{IfFault};
-ghost use Rattle.type_model.specs.declared.basic.SemType.{SemType as TypeOf};
+ghost use Rattle.type_model.specs.declared.basic.BasicSet.TheVariants.{StringOne};
+ghost use Rattle.type_model.specs.declared.basic.SemType.{SemType as TypeOf, Basic};
+ghost use Rattle.type_model.specs.Calls.{Without};
 ghost use Rattle.type_model.specs.Defined.{IsDefined};
-ghost use Rattle.type_model.specs.Inclusion.{FindsShape, IsShapeOf};
+ghost use Rattle.type_model.specs.Inclusion.{AnswersSub, FindsShape, IsShapeOf};
+ghost use Rattle.operations.specs.Rows.{StandsAtKey};
 ghost use Rattle.code_needs.specs.Needs.{MemberHas, MemberIn};
-ghost use Rattle.code_verifier.specs.Asked.{Answers, SomePasses};
+ghost use Rattle.code_verifier.specs.Asked.{Answers};
 ghost use Rattle.code_verifier.specs.Keyed.{AreKeysOf, HasString, IsKeyBy};
+ghost use Rattle.code_verifier.specs.LedTo.{AsksKey, AsksMember, AsksOfMember, AsksOfPart, AsksPart, SomePasses};
 
 use crate::asking::{part_has, part_is_in};
 use bal_base::{Shape, Stop, Text};
@@ -14,13 +18,29 @@ use std::alloc::Global;
 use type_model::{Answer, BasicSet, Keys, SemType, TypeLimit, Types};
 
 /// The key of this name, where the answer is that there is no other, and else all keys.
-fn key_by(answer: Answer, name: Text) -> Option<Keys>
-    ensures { IsKeyBy name answer result }
+fn key_by(answer: Answer, name: &Text) -> Option<Keys>
+    ensures { IsKeyBy name.now answer result }
 {
     match answer {
-        Answer::Yes => Some(Keys::Field(name)),
+        Answer::Yes => Some(Keys::Field(name.share())),
         Answer::No(_) => Some(Keys::AnyField),
     }
+}
+
+/// Whether a type has no shape but a string of this text. `TypeLimit` where the question is too large.
+fn is_only<T: Types>(
+    alloc: Global,
+    types: &mut T,
+    k: &SemType,
+    name: &Text,
+) -> Result<Answer, Stop<TypeLimit>>
+    requires { IsDefined (T.atoms types.old) k.now }
+    ensures atoms { T.atoms types.new ≡ T.atoms types.old }
+    ensures answer { IfOk result (AnswersSub (T.atoms types.old) k.now (Basic (StringOne name.now))) }
+    ensures limit { IfFault result (T.passes (T.atoms types.old) (Without k.now (Basic (StringOne name.now)))) }
+{
+    let one = SemType::Basic(BasicSet::StringOne(name.share()));
+    types.sub(alloc, k, &one)
 }
 
 /// The keys that a type names that has a string of this text. `TypeLimit` where the question is too large.
@@ -28,16 +48,15 @@ fn keys_with<T: Types>(
     alloc: Global,
     types: &mut T,
     k: &SemType,
-    name: Text,
+    name: &Text,
 ) -> Result<Option<Keys>, Stop<TypeLimit>>
     requires defined { IsDefined (T.atoms types.old) k.now }
-    requires there { HasString (T.atoms types.old) k.now name }
+    requires there { HasString (T.atoms types.old) k.now name.now }
     ensures atoms { T.atoms types.new ≡ T.atoms types.old }
     ensures keys { IfOk result (AreKeysOf (T.atoms types.old) k.now) }
-    ensures limit { IfFault result (SomePasses T.passes (T.atoms types.old)) }
+    ensures limit { IfFault result (T.passes (T.atoms types.old) (Without k.now (Basic (StringOne name.now)))) }
 {
-    let one = SemType::Basic(BasicSet::StringOne(name.share()));
-    match types.sub(alloc, k, &one) {
+    match is_only(alloc, types, k, name) {
         Ok(answer) => Ok(key_by(answer, name)),
         Err(stop) => Err(stop),
     }
@@ -54,10 +73,10 @@ fn keys_of_shape<T: Types>(
     requires there { IsShapeOf (T.atoms types.old) k.now shape.now }
     ensures atoms { T.atoms types.new ≡ T.atoms types.old }
     ensures keys { IfOk result (AreKeysOf (T.atoms types.old) k.now) }
-    ensures limit { IfFault result (SomePasses T.passes (T.atoms types.old)) }
+    ensures limit { IfFault result (SomePasses T.passes (T.atoms types.old) (AsksKey (T.atoms types.old) k.now)) }
 {
     match shape {
-        Shape::Str(name) => keys_with(alloc, types, k, name.share()),
+        Shape::Str(name) => keys_with(alloc, types, k, name),
         _ => Ok(Some(Keys::AnyField)),
     }
 }
@@ -73,7 +92,7 @@ fn keys_of_found<T: Types>(
     requires found { FindsShape (T.atoms types.old) k.now found }
     ensures atoms { T.atoms types.new ≡ T.atoms types.old }
     ensures keys { IfOk result (AreKeysOf (T.atoms types.old) k.now) }
-    ensures limit { IfFault result (SomePasses T.passes (T.atoms types.old)) }
+    ensures limit { IfFault result (SomePasses T.passes (T.atoms types.old) (AsksKey (T.atoms types.old) k.now)) }
 {
     match found {
         Some(shape) => keys_of_shape(alloc, types, k, &shape),
@@ -91,7 +110,7 @@ fn named_keys<T: Types>(
     requires { IsDefined (T.atoms types.old) k.now }
     ensures atoms { T.atoms types.new ≡ T.atoms types.old }
     ensures keys { IfOk result (AreKeysOf (T.atoms types.old) k.now) }
-    ensures limit { IfFault result (SomePasses T.passes (T.atoms types.old)) }
+    ensures limit { IfFault result (SomePasses T.passes (T.atoms types.old) (AsksKey (T.atoms types.old) k.now)) }
 {
     match types.has_shape(alloc, k) {
         Ok(found) => keys_of_found(alloc, types, k, found),
@@ -111,7 +130,7 @@ fn parts_are_in<T: Types>(
     requires right { IsDefined (T.atoms types.old) t.now }
     ensures atoms { T.atoms types.new ≡ T.atoms types.old }
     ensures answers { (k : TypeOf) → AreKeysOf (T.atoms types.old) k keys → IfOk result (Answers (T.atoms types.old) (MemberIn m.now k t.now)) }
-    ensures limit { IfFault result (SomePasses T.passes (T.atoms types.old)) }
+    ensures limit { (k : TypeOf) → AreKeysOf (T.atoms types.old) k keys → IfFault result (SomePasses T.passes (T.atoms types.old) (AsksPart (T.atoms types.old) m.now (StandsAtKey (T.atoms types.old) m.now k) t.now)) }
 {
     match keys {
         Some(keys) => part_is_in(alloc, types, m, &keys, t),
@@ -131,7 +150,7 @@ fn parts_have<T: Types>(
     requires right { IsDefined (T.atoms types.old) v.now }
     ensures atoms { T.atoms types.new ≡ T.atoms types.old }
     ensures answers { (k : TypeOf) → AreKeysOf (T.atoms types.old) k keys → IfOk result (Answers (T.atoms types.old) (MemberHas m.now k v.now)) }
-    ensures limit { IfFault result (SomePasses T.passes (T.atoms types.old)) }
+    ensures limit { (k : TypeOf) → AreKeysOf (T.atoms types.old) k keys → IfFault result (SomePasses T.passes (T.atoms types.old) (AsksOfPart (T.atoms types.old) m.now (StandsAtKey (T.atoms types.old) m.now k) v.now)) }
 {
     match keys {
         Some(keys) => part_has(alloc, types, m, &keys, v),
@@ -153,7 +172,7 @@ pub fn member_is_in<T: Types>(
     requires right { IsDefined (T.atoms types.old) t.now }
     ensures atoms { T.atoms types.new ≡ T.atoms types.old }
     ensures answers { IfOk result (Answers (T.atoms types.old) (MemberIn m.now k.now t.now)) }
-    ensures limit { IfFault result (SomePasses T.passes (T.atoms types.old)) }
+    ensures limit { IfFault result (SomePasses T.passes (T.atoms types.old) (AsksMember (T.atoms types.old) m.now k.now t.now)) }
 {
     match named_keys(alloc, types, k) {
         Ok(keys) => parts_are_in(alloc, types, m, keys, t),
@@ -175,7 +194,7 @@ pub fn member_has<T: Types>(
     requires right { IsDefined (T.atoms types.old) v.now }
     ensures atoms { T.atoms types.new ≡ T.atoms types.old }
     ensures answers { IfOk result (Answers (T.atoms types.old) (MemberHas m.now k.now v.now)) }
-    ensures limit { IfFault result (SomePasses T.passes (T.atoms types.old)) }
+    ensures limit { IfFault result (SomePasses T.passes (T.atoms types.old) (AsksOfMember (T.atoms types.old) m.now k.now v.now)) }
 {
     match named_keys(alloc, types, k) {
         Ok(keys) => parts_have(alloc, types, m, keys, v),

@@ -1,11 +1,9 @@
 //! Kinds of shapes as types.
-ghost use Rattle.std.specs.Prelude.{◌≡◌, ◌⊎◌, ◌↔◌, ℕ, IfOk, List};
-ghost use Rattle.bal_base.specs.declared.shape.Shape.{Shape};
-ghost use Rattle.type_model.specs.declared.atoms.AtomDef.{AtomDef as Atom};
-ghost use Rattle.type_model.specs.Basic.{InBasic};
-ghost use Rattle.type_model.specs.Defined.{NamesBelow};
-ghost use Rattle.type_model.specs.Membership.{In};
-ghost use Rattle.code_verifier.specs.KindSets.{IsInSets, IsReadonlyData, known_of};
+ghost use Rattle.std.specs.Prelude.{◌≡◌, IfOk};
+ghost use Rattle.type_model.specs.declared.basic.SemType.{Basic};
+ghost use Rattle.code_verifier.specs.declared.sets.Sets.TheVariants.{Frozen};
+ghost use Rattle.code_verifier.specs.inner.Known.{known_of};
+ghost use Rattle.code_verifier.specs.KindSets.{IsAllBut, IsBoth, IsEither, IsWritten};
 
 use crate::sets::Sets;
 use bal_base::Memory;
@@ -15,8 +13,7 @@ use type_model::{BasicSet, SemType};
 
 /// The shapes of the type, and all of the set.
 fn with_set(alloc: Global, t: SemType, set: BasicSet) -> Result<SemType, Memory>
-    ensures shapes { IfOk result (λ u. (env : List Atom) (x : Shape) → In env x u ↔ (In env x t ⊎ InBasic x set)) }
-    ensures defined { IfOk result (λ u. (n : ℕ) → NamesBelow n t → NamesBelow n u) }
+    ensures { IfOk result (IsEither (λ s. s ≡ t) (λ s. s ≡ Basic set)) }
 {
     let t = Box::new(alloc, t)?;
     let set = Box::new(alloc, SemType::Basic(set))?;
@@ -25,8 +22,7 @@ fn with_set(alloc: Global, t: SemType, set: BasicSet) -> Result<SemType, Memory>
 
 /// The shapes of the type that are in the set.
 pub(crate) fn in_set(alloc: Global, t: SemType, set: BasicSet) -> Result<SemType, Memory>
-    ensures shapes { IfOk result (λ u. (env : List Atom) (x : Shape) → In env x u ↔ (In env x t × InBasic x set)) }
-    ensures defined { IfOk result (λ u. (n : ℕ) → NamesBelow n t → NamesBelow n u) }
+    ensures { IfOk result (IsBoth (λ s. s ≡ t) (λ s. s ≡ Basic set)) }
 {
     let t = Box::new(alloc, t)?;
     let set = Box::new(alloc, SemType::Basic(set))?;
@@ -35,8 +31,7 @@ pub(crate) fn in_set(alloc: Global, t: SemType, set: BasicSet) -> Result<SemType
 
 /// The shapes that aren't in the set.
 fn complement(alloc: Global, set: BasicSet) -> Result<Box<SemType>, Memory>
-    ensures shapes { IfOk result (λ u. (env : List Atom) (x : Shape) → In env x u.value ↔ (¬ InBasic x set)) }
-    ensures defined { IfOk result (λ u. (n : ℕ) → NamesBelow n u.value) }
+    ensures { IfOk result (λ u. IsAllBut set u.value) }
 {
     let set = Box::new(alloc, SemType::Basic(set))?;
     Ok(Box::new(alloc, SemType::Not(set))?)
@@ -44,8 +39,7 @@ fn complement(alloc: Global, set: BasicSet) -> Result<Box<SemType>, Memory>
 
 /// The shapes of the type that aren't in the set.
 fn out_of(alloc: Global, t: SemType, set: BasicSet) -> Result<SemType, Memory>
-    ensures shapes { IfOk result (λ u. (env : List Atom) (x : Shape) → In env x u ↔ (In env x t × (¬ InBasic x set))) }
-    ensures defined { IfOk result (λ u. (n : ℕ) → NamesBelow n t → NamesBelow n u) }
+    ensures { IfOk result (IsBoth (λ s. s ≡ t) (IsAllBut set)) }
 {
     let t = Box::new(alloc, t)?;
     let rest = complement(alloc, set)?;
@@ -54,8 +48,7 @@ fn out_of(alloc: Global, t: SemType, set: BasicSet) -> Result<SemType, Memory>
 
 /// What may stand in an immutable structure: simple values, and lists and mappings that are immutable.
 fn frozen(alloc: Global) -> Result<SemType, Memory>
-    ensures shapes { IfOk result (λ t. (env : List Atom) (x : Shape) → In env x t ↔ IsReadonlyData x) }
-    ensures defined { IfOk result (λ t. (n : ℕ) → NamesBelow n t) }
+    ensures { IfOk result (IsWritten Frozen) }
 {
     let readonly = SemType::Basic(BasicSet::Readonly);
     let values = out_of(alloc, readonly, BasicSet::ErrorAll)?;
@@ -64,8 +57,7 @@ fn frozen(alloc: Global) -> Result<SemType, Memory>
 
 /// The type of the shapes of the sets.
 pub(crate) fn written(alloc: Global, sets: Sets) -> Result<SemType, Memory>
-    ensures shapes { IfOk result (λ t. (env : List Atom) (x : Shape) → In env x t ↔ IsInSets sets x) }
-    ensures defined { IfOk result (λ t. (n : ℕ) → NamesBelow n t) }
+    ensures { IfOk result (IsWritten sets) }
 {
     match sets {
         Sets::One(set) => Ok(SemType::Basic(set)),

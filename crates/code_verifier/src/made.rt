@@ -1,13 +1,10 @@
 //! Needs of structures that are made.
-ghost use Rattle.std.specs.Prelude.{◌≡◌, ◌<◌, ◌↔◌, ℕ, IfOk, List, length};
-ghost use Rattle.bal_base.specs.declared.shape.Shape.{Shape as ShapeOf};
+ghost use Rattle.std.specs.Prelude.{◌≡◌, ◌<◌, IfOk, length};
 ghost use Rattle.bal_base.specs.Stops.{IfFault};
-ghost use Rattle.type_model.specs.declared.atoms.AtomDef.{AtomDef as Atom};
-ghost use Rattle.type_model.specs.Defined.{IsDefined, NamesBelow};
-ghost use Rattle.type_model.specs.Membership.{In};
-ghost use Rattle.operations.specs.Structures.{IsMade};
+ghost use Rattle.type_model.specs.Defined.{IsDefined};
 ghost use Rattle.code_needs.specs.Needs.{HasMade};
-ghost use Rattle.code_verifier.specs.Asked.{Answers, SomePasses};
+ghost use Rattle.code_verifier.specs.Asked.{Answers};
+ghost use Rattle.code_verifier.specs.LedTo.{AsksAbove, IsMadeType, SomePasses};
 
 use crate::kind_types::in_set;
 use bal_base::{Memory, Stop};
@@ -16,8 +13,7 @@ use type_model::{Answer, BasicSet, SemType, TypeLimit, Types};
 
 /// The structures of an atom, or those of them that are immutable.
 fn made_type(alloc: Global, atom: u32, immutable: bool) -> Result<SemType, Memory>
-    ensures shapes { IfOk result (λ u. (env : List Atom) (x : ShapeOf) → In env x u ↔ IsMade env atom immutable x) }
-    ensures defined { IfOk result (λ u. (n : ℕ) → atom < n → NamesBelow n u) }
+    ensures { IfOk result (IsMadeType atom immutable) }
 {
     match immutable {
         true => in_set(alloc, SemType::Atom(atom), BasicSet::Readonly),
@@ -38,7 +34,7 @@ pub fn has_made<T: Types>(
     requires defined { IsDefined (T.atoms types.old) t.now }
     ensures atoms { T.atoms types.new ≡ T.atoms types.old }
     ensures answers { IfOk result (Answers (T.atoms types.old) (HasMade t.now atom immutable)) }
-    ensures limit { IfFault result (SomePasses T.passes (T.atoms types.old)) }
+    ensures limit { IfFault result (SomePasses T.passes (T.atoms types.old) (AsksAbove t.now (IsMadeType atom immutable))) }
 {
     match made_type(alloc, atom, immutable) {
         Ok(want) => types.sub(alloc, &want, t),

@@ -1,31 +1,50 @@
 //! Needs as questions, asked one after another.
 ghost use Rattle.std.specs.Prelude.{◌≡◌, All, IfOk};
 ghost use Rattle.bal_base.specs.Stops.{IfFault};
-ghost use Rattle.code_verifier.specs.Asked.{Answers, SomePasses};
+ghost use Rattle.code_verifier.specs.Asked.{Answers};
 ghost use Rattle.code_verifier.specs.KindSets.{AreKnown};
-ghost use Rattle.code_verifier.specs.Questions.{Answered, IsAskable, need_of};
+ghost use Rattle.code_verifier.specs.LedTo.{SomePasses};
+ghost use Rattle.code_verifier.specs.Questions.{Answered, AreAskableKinds, AreAskableParts, AreAskableTypes, FirstPasses, IsAskable, KindsLeadTo, LeadsTo, PartsLeadTo, TypesLeadTo, need_of, need_of_kinds, need_of_parts, need_of_types};
 
 use crate::asking::{has_constant, has_kind, is_below, is_within, part_has, part_is_in};
+use crate::combined::has_both;
 use crate::keyed::{member_has, member_is_in};
 use crate::kind_types::KnownTypes;
 use crate::made::has_made;
+use crate::ordered::are_ordered;
 use bal_base::{Shape, Stop};
 use code_needs::Kind;
 use operations::Constant;
 use std::alloc::Global;
 use type_model::{Answer, Keys, SemType, TypeLimit, Types};
 
-/// A need that a few questions about types decide, as `need_of` in `specs/Questions.antt` says.
+/// A need of types, constants and structures of atoms.
 #[derive(Clone, Copy)]
-pub enum Question<'c> {
+pub enum OfTypes<'c> {
     /// The first type is below the second.
     Below(&'c SemType, &'c SemType),
+    /// The constant's shape is in the type.
+    HasConstant(&'c SemType, &'c Constant),
+    /// What is in both of the last two types is in the first.
+    HasBoth(&'c SemType, &'c SemType, &'c SemType),
+    /// All structures of the atom, or all immutable ones, are in the type.
+    HasMade(&'c SemType, u32, bool),
+}
+
+/// A need of kinds of shapes.
+#[derive(Clone, Copy)]
+pub enum OfKinds<'c> {
     /// All shapes of the type are of the kind.
     Within(&'c SemType, Kind),
     /// All shapes of the kind are in the type.
     Has(&'c SemType, Kind),
-    /// The constant's shape is in the type.
-    HasConstant(&'c SemType, &'c Constant),
+    /// Both are ints, or both are strings.
+    Ordered(&'c SemType, &'c SemType),
+}
+
+/// A need of what stands in lists, mappings and futures.
+#[derive(Clone, Copy)]
+pub enum OfParts<'c> {
     /// All that stands at such a key of the first type is in the second.
     PartIn(&'c SemType, &'c Keys, &'c SemType),
     /// Each shape of the second type stands at such a key of the first.
@@ -34,11 +53,78 @@ pub enum Question<'c> {
     MemberIn(&'c SemType, &'c SemType, &'c SemType),
     /// Each shape of the third type stands in the first at a key that the second names.
     MemberHas(&'c SemType, &'c SemType, &'c SemType),
-    /// All structures of the atom, or all immutable ones, are in the type.
-    HasMade(&'c SemType, u32, bool),
 }
 
-/// Whether the need is met. `TypeLimit` where a question is too large.
+/// A need that a few questions about types decide, as `need_of` in `specs/Questions.antt` says.
+#[derive(Clone, Copy)]
+pub enum Question<'c> {
+    /// Of types, constants and structures of atoms.
+    Types(OfTypes<'c>),
+    /// Of kinds of shapes.
+    Kinds(OfKinds<'c>),
+    /// Of what stands in lists, mappings and futures.
+    Parts(OfParts<'c>),
+}
+
+/// Whether a need of types is met.
+fn ask_types<T: Types>(
+    alloc: Global,
+    types: &mut T,
+    question: OfTypes<'_>,
+) -> Result<Answer, Stop<TypeLimit>>
+    requires { AreAskableTypes (T.atoms types.old) question }
+    ensures atoms { T.atoms types.new ≡ T.atoms types.old }
+    ensures answers { IfOk result (Answers (T.atoms types.old) (need_of_types question.entry)) }
+    ensures limit { IfFault result (SomePasses T.passes (T.atoms types.old) (TypesLeadTo question.entry)) }
+{
+    match question {
+        OfTypes::Below(s, t) => is_below(alloc, types, s, t),
+        OfTypes::HasConstant(t, value) => has_constant(alloc, types, t, value),
+        OfTypes::HasBoth(r, s, t) => has_both(alloc, types, r, s, t),
+        OfTypes::HasMade(t, atom, immutable) => has_made(alloc, types, t, atom, immutable),
+    }
+}
+
+/// Whether a need of kinds is met.
+fn ask_kinds<T: Types>(
+    alloc: Global,
+    types: &mut T,
+    known: &KnownTypes,
+    question: OfKinds<'_>,
+) -> Result<Answer, Stop<TypeLimit>>
+    requires known { AreKnown (T.atoms types.old) known.now }
+    requires askable { AreAskableKinds (T.atoms types.old) question }
+    ensures atoms { T.atoms types.new ≡ T.atoms types.old }
+    ensures answers { IfOk result (Answers (T.atoms types.old) (need_of_kinds question.entry)) }
+    ensures limit { IfFault result (SomePasses T.passes (T.atoms types.old) (KindsLeadTo known.now question.entry)) }
+{
+    match question {
+        OfKinds::Within(s, kind) => is_within(alloc, types, known, s, kind),
+        OfKinds::Has(t, kind) => has_kind(alloc, types, known, t, kind),
+        OfKinds::Ordered(a, b) => are_ordered(alloc, types, a, b),
+    }
+}
+
+/// Whether a need of parts is met.
+fn ask_parts<T: Types>(
+    alloc: Global,
+    types: &mut T,
+    question: OfParts<'_>,
+) -> Result<Answer, Stop<TypeLimit>>
+    requires { AreAskableParts (T.atoms types.old) question }
+    ensures atoms { T.atoms types.new ≡ T.atoms types.old }
+    ensures answers { IfOk result (Answers (T.atoms types.old) (need_of_parts question.entry)) }
+    ensures limit { IfFault result (SomePasses T.passes (T.atoms types.old) (PartsLeadTo (T.atoms types.old) question.entry)) }
+{
+    match question {
+        OfParts::PartIn(whole, keys, t) => part_is_in(alloc, types, whole, keys, t),
+        OfParts::PartHas(whole, keys, v) => part_has(alloc, types, whole, keys, v),
+        OfParts::MemberIn(m, k, t) => member_is_in(alloc, types, m, k, t),
+        OfParts::MemberHas(m, k, v) => member_has(alloc, types, m, k, v),
+    }
+}
+
+/// Whether the need is met. `TypeLimit` where a question that it leads to is too large.
 pub fn ask<T: Types>(
     alloc: Global,
     types: &mut T,
@@ -49,23 +135,17 @@ pub fn ask<T: Types>(
     requires askable { IsAskable (T.atoms types.old) question }
     ensures atoms { T.atoms types.new ≡ T.atoms types.old }
     ensures answers { IfOk result (Answers (T.atoms types.old) (need_of question.entry)) }
-    ensures limit { IfFault result (SomePasses T.passes (T.atoms types.old)) }
+    ensures limit { IfFault result (SomePasses T.passes (T.atoms types.old) (LeadsTo (T.atoms types.old) known.now question.entry)) }
 {
     match question {
-        Question::Below(s, t) => is_below(alloc, types, s, t),
-        Question::Within(s, kind) => is_within(alloc, types, known, s, kind),
-        Question::Has(t, kind) => has_kind(alloc, types, known, t, kind),
-        Question::HasConstant(t, value) => has_constant(alloc, types, t, value),
-        Question::PartIn(whole, keys, t) => part_is_in(alloc, types, whole, keys, t),
-        Question::PartHas(whole, keys, v) => part_has(alloc, types, whole, keys, v),
-        Question::MemberIn(m, k, t) => member_is_in(alloc, types, m, k, t),
-        Question::MemberHas(m, k, v) => member_has(alloc, types, m, k, v),
-        Question::HasMade(t, atom, immutable) => has_made(alloc, types, t, atom, immutable),
+        Question::Types(question) => ask_types(alloc, types, question),
+        Question::Kinds(question) => ask_kinds(alloc, types, known, question),
+        Question::Parts(question) => ask_parts(alloc, types, question),
     }
 }
 
 /// A shape that shows that a need isn't met, of the first such question, or `None` where all are met. It asks up to
-/// four questions about types for each. `TypeLimit` where one is too large.
+/// four questions about types for each. `TypeLimit` where one that the first undecided need leads to is too large.
 pub fn first_unmet<T: Types>(
     alloc: Global,
     types: &mut T,
@@ -76,7 +156,7 @@ pub fn first_unmet<T: Types>(
     requires askable { All (IsAskable (T.atoms types.old)) questions.now }
     ensures atoms { T.atoms types.new ≡ T.atoms types.old }
     ensures answered { IfOk result (Answered (T.atoms types.old) questions.now) }
-    ensures limit { IfFault result (SomePasses T.passes (T.atoms types.old)) }
+    ensures limit { IfFault result (FirstPasses T.passes (T.atoms types.old) known.now questions.now) }
 {
     for question in questions {
         if let Answer::No(shape) = ask(alloc, types, known, *question)? {

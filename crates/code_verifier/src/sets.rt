@@ -16,7 +16,7 @@ pub(crate) enum Sets {
 }
 
 /// All ints.
-fn ints() -> BasicSet
+pub(crate) fn ints() -> BasicSet
     ensures { result ≡ all_ints }
 {
     BasicSet::IntRange(i64::MIN, i64::MAX)

@@ -1,11 +1,14 @@
-use Rattle.std.proofs.Common.{subst, sym}
+use Rattle.std.proofs.Common.{refl, subst, sym}
 use Rattle.type_model.specs.declared.basic.SemType.{SemType}
 use Rattle.type_model.specs.Calls.{Without}
 use Rattle.type_model.specs.Defined.{IsDefined}
 use Rattle.type_model.specs.Inclusion.{HasExactly}
 use Rattle.code_needs.specs.Needs.{IsOfKind}
-use Rattle.code_verifier.proofs.Answered.{fault-passes, within-told}
-use Rattle.code_verifier.proofs.KindShapes.{known-defined, known-exactly}
+use Rattle.code_verifier.specs.KindSets.{IsKindType, IsWritten}
+use Rattle.code_verifier.specs.LedTo.{AsksBelow}
+use Rattle.code_verifier.proofs.Answered.{within-told}
+use Rattle.code_verifier.proofs.KindShapes.{as-known, as-written, known-defined, known-exactly}
+use Rattle.code_verifier.proofs.Leading.{below-on, fault-leads, fault-on}
 use Rattle.code_verifier.proofs.asking.is_within.Goals as goal
 
 pub sub-requires-clause-right : goal.sub-requires-clause-right
@@ -16,12 +19,21 @@ sub-requires-clause-right g c =
 pub returns-in-Some-clause-answers : goal.returns-in-Some-clause-answers
 returns-in-Some-clause-answers g c = c.is_within_sets.ensures.answers c.args.kind (sym c.in-Some.ensures)
 
+pub returns-in-Some-clause-limit : goal.returns-in-Some-clause-limit
+returns-in-Some-clause-limit g c =
+    let from = IsWritten c.in-Some.sets in
+    let to = IsKindType c.args.known.now c.args.kind in
+    fault-on g.T.Types.passes (g.T.Types.atoms c.args.types.now) (AsksBelow c.args.s.now from) (AsksBelow c.args.s.now to)
+    (below-on c.args.s.now from to (as-written c.args.known.now c.args.kind c.in-Some.sets (sym c.in-Some.ensures))) c.is_within_sets.result c.is_within_sets.ensures.limit
+
 pub returns-in-None-clause-answers : goal.returns-in-None-clause-answers
 returns-in-None-clause-answers g c =
     let env = g.T.Types.atoms c.args.types.now in
-    within-told env c.args.s.now c.known_type.result.now c.args.kind
+    within-told env c.args.s.now c.known_type.result.now (IsOfKind c.args.kind)
     (subst (λ (t : SemType). HasExactly env t (IsOfKind c.args.kind)) (sym c.known_type.ensures) (known-exactly env c.args.known.now c.args.kind c.requires.known (sym c.in-None.ensures)))
     c.sub.result c.sub.ensures.answer
 
 pub returns-in-None-clause-limit : goal.returns-in-None-clause-limit
-returns-in-None-clause-limit g c = fault-passes g.T.Types.passes (g.T.Types.atoms c.args.types.now) (Without c.args.s.now c.known_type.result.now) c.sub.result c.sub.ensures.limit
+returns-in-None-clause-limit g c =
+    fault-leads g.T.Types.passes (g.T.Types.atoms c.args.types.now) (AsksBelow c.args.s.now (IsKindType c.args.known.now c.args.kind)) (Without c.args.s.now c.known_type.result.now)
+    (c.known_type.result.now, as-known c.args.known.now c.args.kind (sym c.in-None.ensures) c.known_type.result.now c.known_type.ensures, refl) c.sub.result c.sub.ensures.limit

@@ -1,13 +1,13 @@
-use Rattle.std.proofs.Common.{IfOk, List, Option, subst, sym}
+use Rattle.std.proofs.Common.{IfOk, List, Option, inl, refl, subst, sym}
 use Rattle.bal_base.specs.declared.shape.Shape.{Shape}
 use Rattle.bal_base.specs.Stops.{IfFault}
 use Rattle.type_model.specs.declared.answers.Keys.{Keys}
 use Rattle.type_model.specs.declared.atoms.AtomDef.{AtomDef}
 use Rattle.type_model.specs.Calls.{Alone}
 use Rattle.type_model.specs.Inclusion.{FindsShape}
-use Rattle.code_verifier.specs.Asked.{SomePasses}
 use Rattle.code_verifier.specs.Keyed.{AreKeysOf}
-use Rattle.code_verifier.proofs.Answered.{stop-passes}
+use Rattle.code_verifier.specs.LedTo.{AsksKey, SomePasses}
+use Rattle.code_verifier.proofs.Leading.{stop-leads}
 use Rattle.code_verifier.proofs.keyed.named_keys.Goals as goal
 
 pub keys_of_found-requires-clause-found : goal.keys_of_found-requires-clause-found
@@ -17,7 +17,9 @@ pub returns-in-Ok-clause-keys : goal.returns-in-Ok-clause-keys
 returns-in-Ok-clause-keys g c = subst (λ (env : List AtomDef). IfOk c.keys_of_found.result (AreKeysOf env c.args.k.now)) c.has_shape.ensures.atoms c.keys_of_found.ensures.keys
 
 pub returns-in-Ok-clause-limit : goal.returns-in-Ok-clause-limit
-returns-in-Ok-clause-limit g c = subst (λ (env : List AtomDef). IfFault c.keys_of_found.result (SomePasses g.T.Types.passes env)) c.has_shape.ensures.atoms c.keys_of_found.ensures.limit
+returns-in-Ok-clause-limit g c = subst (λ (env : List AtomDef). IfFault c.keys_of_found.result (SomePasses g.T.Types.passes env (AsksKey env c.args.k.now))) c.has_shape.ensures.atoms c.keys_of_found.ensures.limit
 
 pub returns-in-Err-clause-limit : goal.returns-in-Err-clause-limit
-returns-in-Err-clause-limit g c = stop-passes g.T.Types.passes (g.T.Types.atoms c.args.types.now) (Alone c.args.k.now) (Option Shape) (Option Keys) c.in-Err.stop c.in-Err.ensures.limit
+returns-in-Err-clause-limit g c =
+    let env = g.T.Types.atoms c.args.types.now in
+    stop-leads g.T.Types.passes env (AsksKey env c.args.k.now) (Alone c.args.k.now) (inl refl) (Option Shape) (Option Keys) c.in-Err.stop c.in-Err.ensures.limit

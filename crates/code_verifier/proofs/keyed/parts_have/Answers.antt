@@ -1,11 +1,14 @@
 use Rattle.std.proofs.Common.{Option, subst}
 use Rattle.type_model.specs.declared.answers.Keys.{Keys}
+use Rattle.type_model.specs.Calls.{Without}
 use Rattle.type_model.specs.declared.basic.BasicSet.TheVariants.{Never}
 use Rattle.type_model.specs.declared.basic.SemType.{Basic}
-use Rattle.type_model.specs.Calls.{Without}
+use Rattle.type_model.specs.Parts.{StandsAt}
+use Rattle.operations.specs.Rows.{StandsAtKey}
 use Rattle.code_verifier.specs.Keyed.{AreKeysOf}
-use Rattle.code_verifier.proofs.Answered.{fault-passes}
-use Rattle.code_verifier.proofs.KeyNames.{member_has-told, none-has-told}
+use Rattle.code_verifier.specs.LedTo.{AsksOfPart}
+use Rattle.code_verifier.proofs.KeyNames.{member_has-told, of-part-leads, never-leads, none-has-told}
+use Rattle.code_verifier.proofs.Leading.{fault-leads, fault-on}
 use Rattle.code_verifier.proofs.keyed.parts_have.Goals as goal
 
 pub returns-in-Some-clause-answers : goal.returns-in-Some-clause-answers
@@ -13,10 +16,19 @@ returns-in-Some-clause-answers g c = λ k are.
     let env = g.T.Types.atoms c.args.types.now in
     member_has-told env k c.args.m.now c.args.v.now c.in-Some.keys (subst (λ (o : Option Keys). AreKeysOf env k o) c.in-Some.is are) c.part_has.result c.part_has.ensures.answers
 
+pub returns-in-Some-clause-limit : goal.returns-in-Some-clause-limit
+returns-in-Some-clause-limit g c = λ k are.
+    let env = g.T.Types.atoms c.args.types.now in
+    fault-on g.T.Types.passes env (AsksOfPart env c.args.m.now (StandsAt env c.args.m.now c.in-Some.keys) c.args.v.now) (AsksOfPart env c.args.m.now (StandsAtKey env c.args.m.now k) c.args.v.now)
+    (of-part-leads env k c.args.m.now c.args.v.now c.in-Some.keys (subst (λ (o : Option Keys). AreKeysOf env k o) c.in-Some.is are)) c.part_has.result c.part_has.ensures.limit
+
 pub returns-in-None-clause-answers : goal.returns-in-None-clause-answers
 returns-in-None-clause-answers g c = λ k are.
     let env = g.T.Types.atoms c.args.types.now in
     none-has-told env k c.args.m.now c.args.v.now (subst (λ (o : Option Keys). AreKeysOf env k o) c.in-None.is are) c.sub.result c.sub.ensures.answer
 
 pub returns-in-None-clause-limit : goal.returns-in-None-clause-limit
-returns-in-None-clause-limit g c = fault-passes g.T.Types.passes (g.T.Types.atoms c.args.types.now) (Without c.args.v.now (Basic Never)) c.sub.result c.sub.ensures.limit
+returns-in-None-clause-limit g c = λ k are.
+    let env = g.T.Types.atoms c.args.types.now in
+    fault-leads g.T.Types.passes env (AsksOfPart env c.args.m.now (StandsAtKey env c.args.m.now k) c.args.v.now) (Without c.args.v.now (Basic Never))
+    (never-leads env k c.args.m.now c.args.v.now (subst (λ (o : Option Keys). AreKeysOf env k o) c.in-None.is are)) c.sub.result c.sub.ensures.limit
