@@ -1,4 +1,5 @@
 pub mod Growing
+pub mod Held
 pub mod Judges
 pub mod Lists
 pub mod Sound

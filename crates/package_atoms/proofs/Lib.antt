@@ -1,0 +1,14 @@
+pub mod Actions
+pub mod Branches
+pub mod Calls
+pub mod EachNeed
+pub mod Functions
+pub mod HeldStmts
+pub mod Keeping
+pub mod Law
+pub mod Members
+pub mod Questions
+pub mod Statements
+pub mod Units
+pub mod Values
+pub mod Words
