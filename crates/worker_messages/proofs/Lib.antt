@@ -1,2 +1,3 @@
+mod Fitted
 mod InOrder
 mod Returned
