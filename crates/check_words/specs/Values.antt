@@ -1,8 +1,9 @@
 -- What it means that the needs of names, literals, operators and conditions are met (Ballerina specification, section 6).
-use Rattle.std.specs.Prelude.{◌≡◌, ◌⊎◌, ◌&&◌, ◌++◌, ℕ, Bool, true, false, not, List, [], ◌∷◌, Option, Some, None, is_some}
+use Rattle.std.specs.Prelude.{◌≡◌, ◌⊎◌, ◌↔◌, ◌&&◌, ◌++◌, ℕ, Bool, true, false, not, List, [], ◌∷◌, Option, Some, None, is_some}
 use Rattle.bal_base.specs.declared.fault.FaultCode.TheVariants.{Captured, NameAsValue, Unknown}
 use Rattle.bal_base.specs.declared.place.Place.{Place}
 use Rattle.bal_base.specs.declared.text.Name.{Name}
+use Rattle.bal_base.specs.declared.shape.Shape.{Shape}
 use Rattle.bal_tree.specs.declared.name.Literal.{Literal}
 use Rattle.bal_tree.specs.declared.name.Literal.TheVariants as literal
 use Rattle.bal_tree.specs.declared.name.QualifiedName.{QualifiedName}
@@ -24,7 +25,6 @@ use Rattle.type_model.specs.declared.atoms.AtomDef.{AtomDef}
 use Rattle.type_model.specs.declared.basic.SemType.{SemType, Atom}
 use Rattle.type_model.specs.declared.basic.Ty.{Ty}
 use Rattle.type_model.specs.Calls.{Asked}
-use Rattle.type_model.specs.Inclusion.{HasExactly}
 use Rattle.type_model.specs.Membership.{In}
 use Rattle.typed_tree.specs.declared.form.Operator.{Operator}
 use Rattle.typed_tree.specs.declared.form.Operator.TheVariants as operator
@@ -70,9 +70,9 @@ gives_variable v at = uses v at ▷ λ u. makes 0 (λ env parts e. (t : Shared) 
 abbrev pub gives_constant : Constant → Place → Step
 gives_constant c at = makes_strict 0 (form.Constant c) (SingleOf c) at
 
--- the constant whose type is this one
+-- the constant whose type is this one: its value is in the type, and nothing else is
 abbrev pub constant_in : Ty → Check State Constant
-constant_in t = some_over (λ env c. HasExactly env t.sem (λ x. x ≡ shape_of c))
+constant_in t = some_over (λ env c. (x : Shape) → In env x t.sem ↔ (x ≡ shape_of c))
 
 abbrev pub gives_meaning : Meaning → Place → Step
 gives_meaning (meaning.TypeName t) at = fails Unknown at

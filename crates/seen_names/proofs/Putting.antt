@@ -1,5 +1,5 @@
 -- Names as expressions: what the call of each makes.
-use Rattle.std.proofs.Common.{◌≡◌, ◌++◌, ◌-◌, ◌&&◌, ℕ, Bool, true, false, not, List, [], ◌∷◌, length, Some, None, is_some, Result, Ok, Err, IfOk, IsErr, IsErrAnd, arith, rules, refl, sym, subst, ap}
+use Rattle.std.proofs.Common.{◌≡◌, ◌↔◌, ◌++◌, ◌-◌, ◌&&◌, ℕ, Bool, true, false, not, List, [], ◌∷◌, length, Some, None, is_some, Result, Ok, Err, IfOk, IsErr, IsErrAnd, arith, rules, refl, sym, subst, ap}
 use Rattle.std.proofs.lemmas.Bool.{false≢true}
 use Rattle.std.proofs.lemmas.List.{append-nil, take_all}
 use Rattle.bal_base.specs.declared.fault.Fault.{Fault}
@@ -10,6 +10,7 @@ use Rattle.bal_base.specs.declared.place.Place.{Place}
 use Rattle.bal_base.specs.declared.stop.Memory.{Memory as NoMemory}
 use Rattle.bal_base.specs.declared.stop.Stop.{Stop}
 use Rattle.bal_base.specs.declared.stop.Stop.TheVariants.{Memory, Fault as OwnFault}
+use Rattle.bal_base.specs.declared.shape.Shape.{Shape}
 use Rattle.checks.specs.Checks.{Check, Comes, gives_some, refuses, ◌▷◌}
 use Rattle.checks.specs.Questions.{IsFault}
 use Rattle.checks.proofs.Steps.{ran_out, stops}
@@ -20,7 +21,7 @@ use Rattle.operations.specs.Rows.{shape_of}
 use Rattle.type_model.specs.declared.atoms.AtomDef.{AtomDef}
 use Rattle.type_model.specs.declared.basic.SemType.{SemType, Basic}
 use Rattle.type_model.specs.declared.basic.Ty.{Ty}
-use Rattle.type_model.specs.Inclusion.{HasExactly}
+use Rattle.type_model.specs.Membership.{In}
 use Rattle.typed_tree.specs.declared.expr.TypedExpr.{TypedExpr}
 use Rattle.typed_tree.specs.declared.form.StrictForm.{StrictForm}
 use Rattle.typed_tree.specs.Exprs.{type_of}
@@ -105,7 +106,7 @@ lifted-if P (Err e) h = tt
 
 -- ---- constants
 
-pub only-value : (s : SemType) (c : Constant) → s ≡ Basic (constant_set c) → (env : List AtomDef) → HasExactly env s (λ x. x ≡ shape_of c)
-only-value s c is env = subst (λ t. HasExactly env t (λ x. x ≡ shape_of c)) (sym is) (λ x valid. single-set c x)
+pub only-value : (s : SemType) (c : Constant) → s ≡ Basic (constant_set c) → (env : List AtomDef) (x : Shape) → In env x s ↔ (x ≡ shape_of c)
+only-value s c is env x = subst (λ t. In env x t ↔ (x ≡ shape_of c)) (sym is) (single-set c x)
 
 pub ruleset putting = (out-puts)

@@ -1,14 +1,15 @@
 //! Names as expressions.
 #![tactic(auto, using(crate::proofs::Putting::putting))]
 
-ghost use Rattle.std.specs.Prelude.{◌≡◌, ◌&&◌, ℕ, IfOk, IfSome, List};
+ghost use Rattle.std.specs.Prelude.{◌≡◌, ◌↔◌, ◌&&◌, ℕ, IfOk, IfSome, List};
 ghost use Rattle.descriptors.specs.declared.names.Meaning.TheVariants.{Constant as Known, Variable as Declared, Function as Named};
 ghost use Rattle.descriptors.specs.Steps.{MeaningBelow, SignatureBelow};
 ghost use Rattle.flow_narrowing.specs.Flows.{VariableBelow};
 ghost use Rattle.operations.specs.Rows.{shape_of};
 ghost use Rattle.type_model.specs.declared.atoms.AtomDef.{AtomDef as Atom};
 ghost use Rattle.type_model.specs.Defined.{TyBelow};
-ghost use Rattle.type_model.specs.Inclusion.{HasExactly};
+ghost use Rattle.bal_base.specs.declared.shape.Shape.{Shape};
+ghost use Rattle.type_model.specs.Membership.{In};
 ghost use Rattle.check_kinds.specs.Sets.{constant_set as set_of_constant};
 ghost use Rattle.check_words.specs.Sharing.{SameShared};
 ghost use Rattle.check_words.specs.Stands.{PartBelow, SharedBelow};
@@ -114,7 +115,7 @@ fn value_of_set(set: &BasicSet) -> Option<Constant>
 
 /// The constant whose value alone the type has, where it is written as the set of that value. Takes no memory.
 pub fn single_value(t: &Ty) -> Option<Constant>
-    ensures { IfSome result (λ c. (env : List Atom) → HasExactly env t.now.sem (λ x. x ≡ shape_of c)) }
+    ensures { IfSome result (λ c. (env : List Atom) (x : Shape) → In env x t.now.sem ↔ (x ≡ shape_of c)) }
 {
     match &t.sem {
         SemType::Basic(set) => value_of_set(set),

@@ -1,9 +1,10 @@
-use Rattle.std.proofs.Common.{◌≡◌, IfOk, subst, sym}
+use Rattle.std.proofs.Common.{◌≡◌, ◌↔◌, IfOk, subst, sym}
+use Rattle.bal_base.specs.declared.shape.Shape.{Shape}
 use Rattle.descriptors.specs.declared.names.Meaning.TheVariants.{Constant as Known}
 use Rattle.descriptors.specs.Described.{IsCopy}
 use Rattle.descriptors.proofs.Yielding.{copy-below}
 use Rattle.operations.specs.Rows.{shape_of}
-use Rattle.type_model.specs.Inclusion.{HasExactly}
+use Rattle.type_model.specs.Membership.{In}
 use Rattle.typed_tree.specs.declared.form.StrictForm.TheVariants as form
 use Rattle.check_words.specs.Stands.{PartBelow}
 use Rattle.check_words.specs.Values.{gives_meaning}
@@ -20,6 +21,6 @@ returns-clause-below c = λ n h.
 pub returns-clause-puts : goal.returns-clause-puts
 returns-clause-puts c =
     subst (Puts (gives_meaning (Known c.args.t.now) c.args.at)) (sym c.lift.ensures)
-    (then-puts (λ s v. HasExactly s.atoms c.args.t.now.sem (λ x. x ≡ shape_of v)) (λ v. makes_strict 0 (form.Constant v) (λ env. IsCopy c.args.t.now) c.args.at) c.in-Some.value _
+    (then-puts (λ s v. (x : Shape) → In s.atoms x c.args.t.now.sem ↔ (x ≡ shape_of v)) (λ v. makes_strict 0 (form.Constant v) (λ env. IsCopy c.args.t.now) c.args.at) c.in-Some.value _
     (λ s. c.in-Some.ensures s.atoms)
     (sole-puts (λ env. IsCopy c.args.t.now) (form.Constant c.in-Some.value) c.in_ok-ty.ty c.args.at c.sole.result (λ env. c.in_ok-ty.ensures) c.sole.ensures.is))
