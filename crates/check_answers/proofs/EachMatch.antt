@@ -15,7 +15,7 @@ module _ (passes : List AtomDef → Asked → TypeLimit → Type 0) (names : Nam
   matches-agree =
       record {
         begins_match = λ name at. agrees-before passes names (BeginsMatch name at) (λ m n twins. begins-match-leads m n twins name at);
-        has_pattern = λ have p. agrees-before passes names (HasPattern p) (λ m n twins. has-pattern-leads m n twins names have p);
+        has_pattern = λ p. agrees-before passes names (HasPattern p) (λ m n twins. has-pattern-leads m n twins names p);
         begins_clause = λ any. agrees-behind passes names (BeginsClause any) (λ m n twins. begins-clause-leads m n twins passes any);
         ends_clause = λ at. agrees-before passes names (EndsClause at) (λ m n twins. ends-clause-leads m n twins at);
         makes_match = λ any at. agrees-these passes names (MakesMatch any at) (λ s t p twins. makes-match-leads s.atoms t.atoms twins passes s t p any at);

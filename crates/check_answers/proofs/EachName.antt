@@ -1,4 +1,4 @@
--- Names as values, in calls and in waits, where constants have values: two runs of each need come to the same.
+-- Names as values, in calls and in waits: two runs of each need come to the same.
 use Rattle.std.proofs.Common.{List}
 use Rattle.descriptors.specs.declared.names.Names.{Names}
 use Rattle.type_model.specs.declared.answers.TypeLimit.{TypeLimit}
@@ -13,7 +13,7 @@ module _ (passes : List AtomDef → Asked → TypeLimit → Type 0) (names : Nam
   pub names-agree : NamesAgree passes names
   names-agree =
       record {
-        gives_named = λ have q. agrees-behind passes names (GivesNamed q) (λ m n twins. named-leads m n twins names have q);
-        calls_named = λ have started q count at. agrees-behind passes names (CallsNamed started q count at) (λ m n twins. calls-named-leads m n twins passes names have started q count at);
-        awaits = λ have q. agrees-behind passes names (Awaits q) (λ m n twins. awaits-leads m n twins passes names have q);
+        gives_named = λ q. agrees-behind passes names (GivesNamed q) (λ m n twins. named-leads m n twins names q);
+        calls_named = λ started q count at. agrees-behind passes names (CallsNamed started q count at) (λ m n twins. calls-named-leads m n twins passes names started q count at);
+        awaits = λ q. agrees-behind passes names (Awaits q) (λ m n twins. awaits-leads m n twins passes names q);
       }

@@ -28,7 +28,7 @@ use Rattle.check_words.specs.Stands.{CallBelow, ChoiceBelow, ConstructorBelow, M
 use Rattle.check_words.specs.State.{State}
 use Rattle.check_words.specs.Units.{signature_in}
 use Rattle.package_checks.specs.Checked.{IsStart, IsTyped, at_first, checked_package}
-use Rattle.check_answers.specs.Answers.{AgreesWith, HaveValues, PackageTwins, SamePackage, Twins}
+use Rattle.check_answers.specs.Answers.{AgreesWith, PackageTwins, SamePackage, Twins}
 use Rattle.check_answers.specs.Laws.{PackagesAgree}
 use Rattle.check_answers.specs.TwinTypes.{SettledTwins, TwinAtoms, TwinDefs, TwinFields, TwinTypes}
 use Rattle.check_answers.proofs.EachNeed.{all-lines-agree}
@@ -132,20 +132,20 @@ module _ (passes : List AtomDef → Asked → TypeLimit → Type 0) (names : Nam
 
   pub packages-agree : PackagesAgree passes names
   unfolding checked_package
-  packages-agree have p env is are (Gives t) (Gives u) m n (s, met, x, e) (r, other, y, f) =
-      let h = all-lines-agree passes names have (package_needs p) (at_first env p) (at_first env p) (nothing-twins env names is are p) (Gives tt) (Gives tt) s r met other in
+  packages-agree p env is are (Gives t) (Gives u) m n (s, met, x, e) (r, other, y, f) =
+      let h = all-lines-agree passes names (package_needs p) (at_first env p) (at_first env p) (nothing-twins env names is are p) (Gives tt) (Gives tt) s r met other in
       at-end m n s r t u e f h.over.atoms (typed-same p s r t u h x y)
-  packages-agree have p env is are (Gives t) (Refuses g) m n (s, met, x, e) (r, other, f) =
-      all-lines-agree passes names have (package_needs p) (at_first env p) (at_first env p) (nothing-twins env names is are p) (Gives tt) (Refuses g) s r met other
-  packages-agree have p env is are (Refuses f) (Gives u) m n (s, met, e) (r, other, y, i) =
-      all-lines-agree passes names have (package_needs p) (at_first env p) (at_first env p) (nothing-twins env names is are p) (Refuses f) (Gives tt) s r met other
-  packages-agree have p env is are (Refuses f) (Refuses g) m n (s, met, e) (r, other, i) =
-      all-lines-agree passes names have (package_needs p) (at_first env p) (at_first env p) (nothing-twins env names is are p) (Refuses f) (Refuses g) s r met other
+  packages-agree p env is are (Gives t) (Refuses g) m n (s, met, x, e) (r, other, f) =
+      all-lines-agree passes names (package_needs p) (at_first env p) (at_first env p) (nothing-twins env names is are p) (Gives tt) (Refuses g) s r met other
+  packages-agree p env is are (Refuses f) (Gives u) m n (s, met, e) (r, other, y, i) =
+      all-lines-agree passes names (package_needs p) (at_first env p) (at_first env p) (nothing-twins env names is are p) (Refuses f) (Gives tt) s r met other
+  packages-agree p env is are (Refuses f) (Refuses g) m n (s, met, e) (r, other, i) =
+      all-lines-agree passes names (package_needs p) (at_first env p) (at_first env p) (nothing-twins env names is are p) (Refuses f) (Refuses g) s r met other
 
   -- and so does what a call answered
-  pub agrees-with : HaveValues names → (p : Package) (env : List AtomDef) → IsEnv env → AreNames env names → (o : Outcome TypedPackage) (m : List AtomDef)
+  pub agrees-with : (p : Package) (env : List AtomDef) → IsEnv env → AreNames env names → (o : Outcome TypedPackage) (m : List AtomDef)
       (r : Result TypedPackage (Stop Fault)) (n : List AtomDef) → checked_package passes names p env o m → Comes (checked_package passes names p) env r n → AgreesWith o m r n
   unfolding Comes
-  agrees-with have p env is are o m (Ok t) n x y = packages-agree have p env is are o (Gives t) m n x y
-  agrees-with have p env is are o m (Err (OwnFault f)) n x y = packages-agree have p env is are o (Refuses f) m n x y
-  agrees-with have p env is are o m (Err Memory) n x y = tt
+  agrees-with p env is are o m (Ok t) n x y = packages-agree p env is are o (Gives t) m n x y
+  agrees-with p env is are o m (Err (OwnFault f)) n x y = packages-agree p env is are o (Refuses f) m n x y
+  agrees-with p env is are o m (Err Memory) n x y = tt

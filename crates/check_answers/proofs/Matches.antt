@@ -27,7 +27,6 @@ use Rattle.check_words.specs.Sharing.{SameMatch, SameOption}
 use Rattle.check_words.specs.State.{MatchAtWork}
 use Rattle.check_words.specs.StmtViews.{IsClause}
 use Rattle.check_words.specs.Words.{Atoms}
-use Rattle.check_answers.specs.Answers.{HaveValues, IsMeaningValued}
 use Rattle.check_answers.specs.Pieces as say
 use Rattle.check_answers.specs.Pieces.{SamePieces, stmt_pieces}
 use Rattle.check_answers.specs.TwinStates.{BlockTwins, ClauseTwins, FlowTwins, MatchTwins, SharedTwins, VariableTwins}
@@ -36,7 +35,7 @@ use Rattle.check_answers.proofs.Handed.{match-handed}
 use Rattle.check_answers.proofs.Leading.{Any2, Leads, Pairs, leads-becomes, leads-fails, leads-from, leads-handles, leads-over, leads-some, leads-then}
 use Rattle.check_answers.proofs.Mapping.{flow-map, match-map}
 use Rattle.check_answers.proofs.Meanings.{same-twin}
-use Rattle.check_answers.proofs.Named.{by-valued, constant-in-leads, looks-leads}
+use Rattle.check_answers.proofs.Named.{by-seen, constant-in-leads, looks-leads}
 use Rattle.check_answers.proofs.Narrowing.{flow-retyped, narrows-leads}
 use Rattle.check_answers.proofs.Questions.{Before, Behind, D, Equal, W, before-atoms, before-behind, settled-twins}
 use Rattle.check_answers.proofs.Seeing.{named-found}
@@ -132,21 +131,21 @@ module _ (m n : Atoms) (twins : TwinAtoms m n) where
   pattern-leads c d at e =
       leads-then B B B _ Any2 _ _ _ _ (match-leads E) (λ k l h. sets-match-leads E _ _ (with-pattern k l c d at e h))
 
-  meaning-leads : (k : Meaning) (at : Place) → IsMeaningValued k → Leads B B Any2 (meaning_pattern k at) (meaning_pattern k at)
-  meaning-leads (meaning.Constant t) at h =
-      leads-then B B B Equal Any2 _ _ _ _ (constant-in-leads m n twins t h) (λ c d e. pattern-leads (Some c) (Some d) at (ap Some e))
-  meaning-leads (meaning.TypeName t) at h = leads-fails B B Any2 Unknown at
-  meaning-leads (meaning.Variable number final t) at h = leads-fails B B Any2 Unknown at
-  meaning-leads (meaning.Function f) at h = leads-fails B B Any2 Unknown at
+  meaning-leads : (k : Meaning) (at : Place) → Leads B B Any2 (meaning_pattern k at) (meaning_pattern k at)
+  meaning-leads (meaning.Constant t) at =
+      leads-then B B B Equal Any2 _ _ _ _ (constant-in-leads m n twins t) (λ c d e. pattern-leads (Some c) (Some d) at (ap Some e))
+  meaning-leads (meaning.TypeName t) at = leads-fails B B Any2 Unknown at
+  meaning-leads (meaning.Variable number final t) at = leads-fails B B Any2 Unknown at
+  meaning-leads (meaning.Function f) at = leads-fails B B Any2 Unknown at
 
-  pub has-pattern-leads : (names : Names) → HaveValues names → (p : Pattern) → Leads B B Any2 (has_pattern names p) (has_pattern names p)
-  has-pattern-leads names have (pattern.Any at) = pattern-leads None None at refl
-  has-pattern-leads names have (pattern.Value v) = pattern-leads (Some (value_constant v)) (Some (value_constant v)) (place_of_value v) refl
-  has-pattern-leads names have (pattern.Name q) =
-      leads-then B B B _ Any2 _ _ _ _ (looks-leads m n twins names have q)
-      (by-valued m n twins B B Any2 (λ seen. seen_pattern seen q.at) (λ seen. seen_pattern seen q.at) (λ v u h. leads-fails B B Any2 Unknown q.at)
+  pub has-pattern-leads : (names : Names) (p : Pattern) → Leads B B Any2 (has_pattern names p) (has_pattern names p)
+  has-pattern-leads names (pattern.Any at) = pattern-leads None None at refl
+  has-pattern-leads names (pattern.Value v) = pattern-leads (Some (value_constant v)) (Some (value_constant v)) (place_of_value v) refl
+  has-pattern-leads names (pattern.Name q) =
+      leads-then B B B _ Any2 _ _ _ _ (looks-leads m n twins names q)
+      (by-seen m n twins B B Any2 (λ seen. seen_pattern seen q.at) (λ seen. seen_pattern seen q.at) (λ v u h. leads-fails B B Any2 Unknown q.at)
       (λ w. leads-fails B B Any2 NameAsValue q.at) (λ c. pattern-leads (Some c) (Some c) q.at refl) (λ r. leads-fails B B Any2 Unknown q.at)
-      (λ k h. meaning-leads k q.at h) (λ code. leads-fails B B Any2 code q.at))
+      (λ k. meaning-leads k q.at) (λ code. leads-fails B B Any2 code q.at))
 
   -- ---- clauses
 

@@ -1,24 +1,17 @@
 -- Two runs of needs come to the same: between any two needs their states are twins.
-use Rattle.std.specs.Prelude.{◌≡◌, List, IfOk, ⊤, Result, Ok, Err}
+use Rattle.std.specs.Prelude.{◌≡◌, List, ⊤, Result, Ok, Err}
 use Rattle.std.specs.List.{AllZip}
 use Rattle.bal_base.specs.declared.fault.Fault.{Fault}
-use Rattle.bal_base.specs.declared.shape.Shape.{Shape}
 use Rattle.bal_base.specs.declared.stop.Stop.{Stop}
 use Rattle.bal_base.specs.declared.stop.Stop.TheVariants.{Memory, Fault as OwnFault}
-use Rattle.bal_tree.specs.declared.name.QualifiedName.{QualifiedName}
 use Rattle.checks.specs.Agreement.{Agree, Corresponds}
 use Rattle.checks.specs.Checks.{Gives, Outcome, Refuses}
-use Rattle.descriptors.specs.declared.names.Meaning.{Meaning}
-use Rattle.descriptors.specs.declared.names.Meaning.TheVariants as meaning
 use Rattle.descriptors.specs.declared.names.Names.{Names}
-use Rattle.descriptors.specs.declared.names.Scope.{Scope}
-use Rattle.descriptors.specs.Naming.{meaning_named}
 use Rattle.needs.specs.Agreement.{NeedAgrees}
 use Rattle.type_model.specs.declared.answers.TypeLimit.{TypeLimit}
 use Rattle.type_model.specs.declared.atoms.AtomDef.{AtomDef}
 use Rattle.type_model.specs.declared.basic.Ty.{Ty}
 use Rattle.type_model.specs.Calls.{Asked}
-use Rattle.type_model.specs.Inclusion.{IsShapeOf}
 use Rattle.typed_tree.specs.declared.package.TypedPackage.{TypedPackage}
 use Rattle.expr_needs.specs.Needs.{Need}
 use Rattle.check_words.specs.Meets.{meets}
@@ -44,18 +37,6 @@ pub record Twins (names : Names) (s t : State) : Type 0 where
 -- from twins two runs of the need come to the same
 abbrev pub Agrees : (List AtomDef → Asked → TypeLimit → Type 0) → Names → Need → Type 0
 Agrees passes names need = NeedAgrees (Twins names) (standing names (meets passes names)) need
-
--- ---- what the names of a package stand for
-
--- a constant has a value, whatever atoms there are
-abbrev pub IsMeaningValued : Meaning → Type 0
-IsMeaningValued (meaning.Constant t) = (env : List AtomDef) → (x : Shape) × IsShapeOf env t.sem x
-IsMeaningValued (meaning.TypeName t) = ⊤
-IsMeaningValued (meaning.Variable number final t) = ⊤
-IsMeaningValued (meaning.Function f) = ⊤
-
-abbrev pub HaveValues : Names → Type 0
-HaveValues names = (scope : Scope) (q : QualifiedName) → IfOk (meaning_named names scope q) IsMeaningValued
 
 -- ---- packages
 

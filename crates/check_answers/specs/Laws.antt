@@ -36,7 +36,7 @@ use Rattle.check_words.specs.Meets.{meets}
 use Rattle.check_words.specs.State.{State}
 use Rattle.package_checks.specs.Checked.{checked_package, standing}
 use Rattle.expr_needs.specs.Needs.{Fails, IsOf, IsWanted, Widens, WantsResult, WantsErrorToo, DropsWant, GivesLiteral, Forms, Decides, IsSort, Adds, Compares, Splits, Switches, Turns, Conjoins, Disjoins, Chooses, FillsNil, Tests, Casts, Checks, ChecksPanicking, Traps, Encloses, Describes, IsAccessed, IsIndex, ReadsElement, ReadsField, ReadsOptional, HasField, ExpectsStored, ReadsStored, ReadsStoredField, ChoosesList, ChoosesMapping, BeginsKeys, GivesKey, TakesKey, ComputesKey, ExpectsItem, ExpectsMember, IsItem, IsDetail, LacksCause, IsMember, Declares, IsAssignable, Assigns, ReadsName, Stores, IsIgnorable, Performs, Stops, Returns, ReturnsNil, Breaks, Continues, BeginsBlock, EndsBlock, MakesBlock, MakesIf, Heads, OpensLoop, MakesWhile, IsItemOfLoop, WidensItem, IsCounter, WantsCounter, HasItem, MakesForeach, MakesRange, CallsValue, CallsMethod, ExpectsArgument, IsArgument, BeginsAnonymous, HasParameter, BeginsValue, IsNew, WaitsForAny, Receives, Sends, SendsAndWaits, Flushes, MakesList, MakesError, WaitsForAll, HasRest, MakesCall, MakesMapping, MakesAnonymous, Starts, GivesNamed, CallsNamed, Awaits, IsOperand, UpdatesName, UpdatesElement, UpdatesField, BeginsMatch, HasPattern, BeginsClause, EndsClause, MakesMatch, EntersFile, NamesParameter, EndsFunction, EndsValueFunction, BeginsWorker, EndsWorker, EndsModule, BeginsInitial, EndsInitial, BeginsFunction, IsConstant, Need, MemberSeen}
-use Rattle.check_answers.specs.Answers.{Agrees, HaveValues, PackageTwins, Twins}
+use Rattle.check_answers.specs.Answers.{Agrees, PackageTwins, Twins}
 use Rattle.check_answers.specs.TwinTypes.{TwinAtoms}
 
 -- a type has the same shapes over atoms that are twins
@@ -163,11 +163,11 @@ module _ (passes : List AtomDef → Asked → TypeLimit → Type 0) (names : Nam
     pub makes_anonymous : (isolated : Bool) (at : Place) → Agrees passes names (MakesAnonymous isolated at)
     pub starts : (here at : Place) → Agrees passes names (Starts here at)
 
-  -- Names as values, in calls and in waits, where constants have values: two runs of each need come to the same.
+  -- Names as values, in calls and in waits: two runs of each need come to the same.
   pub record NamesAgree : Type 0 where
-    pub gives_named : HaveValues names → (q : QualifiedName) → Agrees passes names (GivesNamed q)
-    pub calls_named : HaveValues names → (started : Bool) (q : QualifiedName) (count : ℕ) (at : Place) → Agrees passes names (CallsNamed started q count at)
-    pub awaits : HaveValues names → (q : QualifiedName) → Agrees passes names (Awaits q)
+    pub gives_named : (q : QualifiedName) → Agrees passes names (GivesNamed q)
+    pub calls_named : (started : Bool) (q : QualifiedName) (count : ℕ) (at : Place) → Agrees passes names (CallsNamed started q count at)
+    pub awaits : (q : QualifiedName) → Agrees passes names (Awaits q)
 
   -- Assignments with an operator: two runs of each need come to the same.
   pub record UpdatesAgree : Type 0 where
@@ -179,7 +179,7 @@ module _ (passes : List AtomDef → Asked → TypeLimit → Type 0) (names : Nam
   -- Matches: two runs of each need come to the same.
   pub record MatchesAgree : Type 0 where
     pub begins_match : (name : Option QualifiedName) (at : Place) → Agrees passes names (BeginsMatch name at)
-    pub has_pattern : HaveValues names → (p : Pattern) → Agrees passes names (HasPattern p)
+    pub has_pattern : (p : Pattern) → Agrees passes names (HasPattern p)
     pub begins_clause : (any : Bool) → Agrees passes names (BeginsClause any)
     pub ends_clause : (at : Place) → Agrees passes names (EndsClause at)
     pub makes_match : (any : Bool) (at : Place) → Agrees passes names (MakesMatch any at)
@@ -205,10 +205,10 @@ module _ (passes : List AtomDef → Asked → TypeLimit → Type 0) (names : Nam
       → Alike (BehindTwins (Twins names) (standing names (meets passes names))) s t (all_met (standing names (meets passes names)) needs)
       (all_met (standing names (meets passes names)) needs)
 
-  -- where constants have values two runs of any needs come to the same
+  -- two runs of any needs come to the same
   abbrev pub AllLinesAgree : Type 0
   AllLinesAgree =
-      HaveValues names → (needs : Listed Need) → (s t : State) → Twins names s t
+      (needs : Listed Need) (s t : State) → Twins names s t
       → Alike (BehindTwins (Twins names) (standing names (meets passes names))) s t (all_met (standing names (meets passes names)) needs)
       (all_met (standing names (meets passes names)) needs)
 
@@ -217,7 +217,7 @@ module _ (passes : List AtomDef → Asked → TypeLimit → Type 0) (names : Nam
   -- each other.
   abbrev pub PackagesAgree : Type 0
   PackagesAgree =
-      HaveValues names → (p : Package) (env : List AtomDef) → IsEnv env → AreNames env names
+      (p : Package) (env : List AtomDef) → IsEnv env → AreNames env names
       → Alike PackageTwins env env (checked_package passes names p) (checked_package passes names p)
 
 -- whatever the names of the package stand for

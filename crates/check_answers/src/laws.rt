@@ -56,7 +56,7 @@ pub fn made_atoms_agree<T: Types>()
     ensures { MadeAtomsAgreeAlways T.passes }
 {}
 
-/// Of names as values, in calls and in waits, where constants have values: from states that are twins two runs of each need give states that are twins, or refuse with one fault, but for a limit that
+/// Of names as values, in calls and in waits: from states that are twins two runs of each need give states that are twins, or refuse with one fault, but for a limit that
 /// either may meet.
 pub fn names_agree<T: Types>()
     ensures { NamesAgreeAlways T.passes }
@@ -85,7 +85,7 @@ pub fn lines_agree<T: Types>()
     ensures { LinesAgreeAlways T.passes }
 {}
 
-/// Any needs one behind another: where constants have values two runs of all come to the same.
+/// Any needs one behind another: two runs of all come to the same.
 pub fn all_lines_agree<T: Types>()
     ensures { AllLinesAgreeAlways T.passes }
 {}
