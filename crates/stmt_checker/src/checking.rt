@@ -1,8 +1,11 @@
 //! Packages, checked.
 #![tactic(auto)]
 
-ghost use Rattle.std.specs.Prelude.{IfOk};
-ghost use Rattle.checks.specs.Checks.{Comes};
+ghost use Rattle.std.specs.Prelude.{IfOk, List};
+ghost use Rattle.checks.specs.Checks.{Comes, Outcome};
+ghost use Rattle.type_model.specs.declared.atoms.AtomDef.{AtomDef};
+ghost use Rattle.typed_tree.specs.declared.package.TypedPackage.{TypedPackage as TypedPackageOf};
+ghost use Rattle.check_answers.specs.Answers.{AgreesWith};
 ghost use Rattle.descriptors.specs.Steps.{AreNames};
 ghost use Rattle.needs.specs.Needs.{Runs};
 ghost use Rattle.stmt_needs.specs.PackageTable.{package_needs};
@@ -48,7 +51,9 @@ pub struct Checked<T> {
 
 /// Checks all bodies of a package, in the order of modules, files and text (Ballerina specification, sections 6 to 8): the typed package, or
 /// the first fault. It takes the types, to which atoms are added, and gives them back. The first fault is that of the first need that isn't
-/// met; 207 and 208 come only at a question or an atom that a need names.
+/// met; 207 and 208 come only at a question or an atom that a need names. Nothing else can be the case: whatever
+/// else the check may come to is the same typed package, but for how its types are written, or the same code at the same place, but
+/// for 207 and 208.
 ///
 /// It steps once through the trees, and asks what the needs ask; what is known of variables is copied where a way is left that is entered
 /// again. Frames grow with how deep the trees are nested.
@@ -60,8 +65,10 @@ pub fn check_package<T: Types>(
 ) -> Checked<T>
     requires { AreNames (T.atoms types) names.now }
     ensures comes { Comes (checked_package T.passes names.now «package».now) (T.atoms types) result.answer (T.atoms result.types) }
+    ensures only { (o : Outcome TypedPackageOf) (behind : List AtomDef) → checked_package T.passes names.now «package».now (T.atoms types) o behind → AgreesWith o behind result.answer (T.atoms result.types) }
     ensures names { IfOk result.answer (λ _. AreNames (T.atoms result.types) names.now) }
 {
+    let _atoms = types.env().defs();
     let work = match first_work(alloc, package) {
         Ok(work) => work,
         Err(_) => {

@@ -1,6 +1,8 @@
 use Rattle.std.proofs.Common.{refl, subst}
 use Rattle.checks.proofs.Steps.{ran_out}
 use Rattle.descriptors.specs.Steps.{AreNames}
+use Rattle.type_model.specs.Defined.{IsEnv}
+use Rattle.check_answers.proofs.Itself.{agrees-with}
 use Rattle.check_work.specs.Views.{state_of}
 use Rattle.all_needs.proofs.Named.{it-holds}
 use Rattle.stmt_checker.proofs.Begun.{first-holds}
@@ -9,6 +11,9 @@ use Rattle.stmt_checker.proofs.checking.check_package.Goals as goal
 
 pub returns-in-Err-clause-comes : goal.returns-in-Err-clause-comes
 returns-in-Err-clause-comes g c = ran_out _ _ _
+
+pub returns-in-Err-clause-only : goal.returns-in-Err-clause-only
+returns-in-Err-clause-only g c = λ o behind h. tt
 
 pub meet-requires : goal.meet-requires
 meet-requires g c =
@@ -34,3 +39,10 @@ returns-clause-names g c =
     subst (λ names. AreNames behind names)
     (names-stay g.T.Types.passes c.args.names.now c.args.package.now env behind last.names.now c.in-Ok.work last.work (c.in-Ok.ensures env) none c.meet.ensures.met)
     (it-holds behind last.names.now last.work c.meet.ensures.stands none).0)
+
+pub returns-clause-only : goal.returns-clause-only
+returns-clause-only g c = λ o behind h.
+    let env = g.T.Types.atoms c.args.types in
+    let last = c.meet.new.all.meets.checker in
+    agrees-with g.T.Types.passes c.args.names.now c.args.package.now env (subst IsEnv c.env.ensures c.defs-atoms.ensures.env) c.requires o behind c.answer.result
+    (g.T.Types.atoms last.types) h (returns-clause-comes g c)
