@@ -169,7 +169,7 @@ module _ (env : List AtomDef) (passes : List AtomDef → Asked → TypeLimit →
   unfolding ◌▷◌ gives_some
   meant-constant t at old new (c, a, (only, first), makes-it) = (
     c,
-    only,
+    (λ x valid. only x),
     between 0 (StrictMade (form.Constant c) (λ env. IsCopy t) at) old a new new (as-same old a first)
         (made 0 (StrictMade (form.Constant c) (λ env. IsCopy t) at) tt a new makes-it) (as-same new new refl),
   )
