@@ -1,7 +1,7 @@
 //! Packages, checked.
 #![tactic(auto)]
 
-ghost use Rattle.std.specs.Prelude.{IfOk, List};
+ghost use Rattle.std.specs.Prelude.{IfOk, List, length};
 ghost use Rattle.checks.specs.Checks.{Comes, Outcome};
 ghost use Rattle.type_model.specs.declared.atoms.AtomDef.{AtomDef};
 ghost use Rattle.typed_tree.specs.declared.package.TypedPackage.{TypedPackage as TypedPackageOf};
@@ -9,6 +9,7 @@ ghost use Rattle.check_answers.specs.Answers.{AgreesWith};
 ghost use Rattle.descriptors.specs.Steps.{AreNames};
 ghost use Rattle.needs.specs.Needs.{Runs};
 ghost use Rattle.stmt_needs.specs.PackageTable.{package_needs};
+ghost use Rattle.isolation_check.specs.Typed.{AreTyped};
 ghost use Rattle.package_checks.specs.Checked.{checked_package};
 ghost use Rattle.all_needs.specs.Named.{going_of, meaning_of, stands_over};
 
@@ -53,7 +54,8 @@ pub struct Checked<T> {
 /// the first fault. It takes the types, to which atoms are added, and gives them back. The first fault is that of the first need that isn't
 /// met; 207 and 208 come only at a question or an atom that a need names. Nothing else can be the case: whatever
 /// else the check may come to is the same typed package, but for how its types are written, or the same code at the same place, but
-/// for 207 and 208.
+/// for 207 and 208. What the check of isolation looks at in the typed package has types that name atoms that are there, so that it may be
+/// asked of it.
 ///
 /// It steps once through the trees, and asks what the needs ask; what is known of variables is copied where a way is left that is entered
 /// again. Frames grow with how deep the trees are nested.
@@ -67,6 +69,7 @@ pub fn check_package<T: Types>(
     ensures comes { Comes (checked_package T.passes names.now «package».now) (T.atoms types) result.answer (T.atoms result.types) }
     ensures only { (o : Outcome TypedPackageOf) (behind : List AtomDef) → checked_package T.passes names.now «package».now (T.atoms types) o behind → AgreesWith o behind result.answer (T.atoms result.types) }
     ensures names { IfOk result.answer (λ _. AreNames (T.atoms result.types) names.now) }
+    ensures typed { IfOk result.answer (AreTyped (length (T.atoms result.types))) }
 {
     let _atoms = types.env().defs();
     let work = match first_work(alloc, package) {

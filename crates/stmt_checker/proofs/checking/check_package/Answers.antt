@@ -7,6 +7,7 @@ use Rattle.check_work.specs.Views.{state_of}
 use Rattle.all_needs.proofs.Named.{it-holds}
 use Rattle.stmt_checker.proofs.Begun.{first-holds}
 use Rattle.stmt_checker.proofs.Ended.{names-stay, package-ended, stands-still}
+use Rattle.stmt_checker.proofs.Typed.{answer-typed}
 use Rattle.stmt_checker.proofs.checking.check_package.Goals as goal
 
 pub returns-in-Err-clause-comes : goal.returns-in-Err-clause-comes
@@ -46,3 +47,8 @@ returns-clause-only g c = λ o behind h.
     let last = c.meet.new.all.meets.checker in
     agrees-with g.T.Types.passes c.args.names.now c.args.package.now env (subst IsEnv c.env.ensures c.defs-atoms.ensures.env) c.requires o behind c.answer.result
     (g.T.Types.atoms last.types) h (returns-clause-comes g c)
+
+pub returns-clause-typed : goal.returns-clause-typed
+returns-clause-typed g c =
+    answer-typed g.T.Types.passes c.args.names.now c.args.package.now (g.T.Types.atoms c.args.types) (g.T.Types.atoms c.meet.new.all.meets.checker.types)
+    c.answer.result (subst IsEnv c.env.ensures c.defs-atoms.ensures.env) c.requires (returns-clause-comes g c)
