@@ -18,7 +18,7 @@ use Rattle.type_model.proofs.SameTypes.{In-same}
 use Rattle.flow_narrowing.specs.declared.changes.Change.{Change}
 use Rattle.flow_narrowing.specs.declared.changes.End.{End}
 use Rattle.flow_narrowing.specs.declared.flow.Joins.{Joins}
-use Rattle.flow_narrowing.specs.declared.flow.Joins.TheVariants.{Second, Both}
+use Rattle.flow_narrowing.specs.declared.flow.Joins.TheVariants.{First, Second, Both}
 use Rattle.flow_narrowing.specs.declared.flow.Variable.{Variable}
 use Rattle.flow_narrowing.specs.Changes.{is_told, put, told, undone, with_narrowed}
 use Rattle.flow_narrowing.specs.Flows.{AreJoined, AreSame, IfShared, IsJoin, IsJoined, NarrowedTo, UnionOf, VariableBelow, VariablesBelow, joins, now, or_declared}
@@ -172,6 +172,9 @@ module _ (env : List AtomDef) (vs : List Variable) (first second : List Change) 
         (one-joined which v (told first i v.narrowed) (told second i v.narrowed) (told cs i v.narrowed) (h i v here.1))));
   }
 
+  pub first-alone : AreJoined env First (length (undone first vs)) (undone first vs) (undone second vs) (undone first vs)
+  first-alone = are-joined First first (λ i v e. same-type (told first i v.narrowed))
+
   pub second-alone : AreJoined env Second (length (undone first vs)) (undone first vs) (undone second vs) (undone second vs)
   second-alone = are-joined Second second (λ i v e. same-type (told second i v.narrowed))
 
@@ -196,6 +199,11 @@ module _ (env : List AtomDef) (vs : List Variable) (first second : List Change) 
 
 -- ---- the flows to which two ends lead
 
+reached-first : (a b : Bool) → joins a b ≡ First → a ≡ (a || b)
+reached-first true b e = refl
+reached-first false true e = absurd (cc)
+reached-first false false e = refl
+
 reached-second : (a b : Bool) → joins a b ≡ Second → b ≡ (a || b)
 reached-second true true e = absurd (cc)
 reached-second true false e = absurd (cc)
@@ -214,6 +222,14 @@ joined-by env which vs ws first second reached e j r = record {
   variables = subst (λ w. AreJoined env w (length (undone first.changes.items vs)) (undone first.changes.items vs) (undone second.changes.items vs) ws) (sym e) j;
   reached = r;
 }
+
+pub meets-first : (env : List AtomDef) (vs ws : List Variable) (first second : End) (reached : Bool) → joins first.reached second.reached ≡ First
+    → ws ≡ undone first.changes.items vs → reached ≡ first.reached → IsJoin env (flow_at vs first) (flow_at vs second) (record { variables = ws; reached = reached })
+meets-first env vs ws first second reached e is r =
+    joined-by env First vs ws first second reached e
+    (subst (AreJoined env First (length (undone first.changes.items vs)) (undone first.changes.items vs) (undone second.changes.items vs)) (sym is)
+    (first-alone env vs first.changes.items second.changes.items))
+    (r ∙ reached-first first.reached second.reached e)
 
 pub meets-second : (env : List AtomDef) (vs ws : List Variable) (first second : End) (reached : Bool) → joins first.reached second.reached ≡ Second
     → ws ≡ undone second.changes.items vs → reached ≡ second.reached → IsJoin env (flow_at vs first) (flow_at vs second) (record { variables = ws; reached = reached })

@@ -1,10 +1,19 @@
 use Rattle.std.proofs.Common.{◌≡◌, All, length, rules, subst, sym}
-use Rattle.flow_narrowing.specs.declared.flow.Joins.TheVariants.{Second, Both}
+use Rattle.flow_narrowing.specs.declared.flow.Joins.TheVariants.{First, Second, Both}
 use Rattle.flow_narrowing.specs.Changes.{undone}
 use Rattle.flow_narrowing.specs.Flows.{VariablesBelow, joins}
 use Rattle.flow_narrowing.specs.Meetings.{ChangeJoined}
-use Rattle.flow_narrowing.proofs.MetWays.{joined-below, meets-both, meets-second, on-both}
+use Rattle.flow_narrowing.proofs.MetWays.{joined-below, meets-both, meets-first, meets-second, on-both}
 use Rattle.flow_narrowing.proofs.changes.Flows.join.Goals as goal
+
+pub returns-in-First-clause-is : goal.returns-in-First-clause-is
+returns-in-First-clause-is g c =
+    let vs = c.args.self.now.variables.items in
+    let new = c.resume.new.self in
+    let which : joins c.args.first.reached c.args.second.reached ≡ First = search rules in
+    on-both c.resume.result (new.variables.items ≡ undone c.args.first.changes.items vs) (new.reached ≡ c.args.first.reached) _
+    (λ is reached. meets-first (g.T.Types.atoms c.args.types.now) vs new.variables.items c.args.first c.args.second new.reached which is reached)
+    c.resume.ensures.variables c.resume.ensures.reached
 
 pub returns-in-Second-clause-is : goal.returns-in-Second-clause-is
 returns-in-Second-clause-is g c =
