@@ -2,6 +2,7 @@ pub mod Growing
 pub mod Held
 pub mod Judges
 pub mod Lists
+pub mod OneWalk
 pub mod Sound
 pub mod Stepping
 pub mod Strict

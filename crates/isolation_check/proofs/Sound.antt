@@ -27,7 +27,7 @@ use Rattle.isolation_check.specs.Isolated.{IsIsolated, IsKeptBy, IsReached, IsSt
 use Rattle.isolation_check.specs.Parts.{Calls, CallsValue, Captures, Does, Part, Reads, Stores, function_parts}
 use Rattle.isolation_check.specs.Walk.{Open, Walks, are_readonly, body, ends, enters, goes_on, has_to_be, is_steady, keeps, leads, leaves, new_at, not_isolated, refuses_here}
 
-some-same : {X : Type 0} (x y : X) → Some x ≡ Some y → x ≡ y
+pub some-same : {X : Type 0} (x y : X) → Some x ≡ Some y → x ≡ y
 some-same x y e = cc
 
 -- ---- which functions were entered
@@ -163,7 +163,7 @@ module _ (passes : List AtomDef → Asked → TypeLimit → Type 0) (own : OwnTy
         by (inr wrong) = inr (λ (w, same, k). wrong (subst (IsSteady p own env) (sym (some-same v w same)) k))
     variable-refused None f h = absurd h.0
 
-    part-given : (d : Does) → keeps passes own p d names at env (Gives tt) env → IsKeptBy p own env d
+    pub part-given : (d : Does) → keeps passes own p d names at env (Gives tt) env → IsKeptBy p own env d
     unfolding refuses
     part-given (Reads m) h = variable-given (slice_get p.variables.items m) h
     part-given Stores h = absurd h
@@ -171,7 +171,7 @@ module _ (passes : List AtomDef → Asked → TypeLimit → Type 0) (own : OwnTy
     part-given (CallsValue t) h = (below-given passes names at _ _ env env h).1
     part-given (Captures cs) h = readonly-given passes names at cs env env h
 
-    part-refused : (d : Does) (f : Fault) → keeps passes own p d names at env (Refuses f) env → (f.code ≡ TooLarge) ⊎ (¬ IsKeptBy p own env d)
+    pub part-refused : (d : Does) (f : Fault) → keeps passes own p d names at env (Refuses f) env → (f.code ≡ TooLarge) ⊎ (¬ IsKeptBy p own env d)
     unfolding refuses gives_some
     part-refused (Reads m) f h = variable-refused (slice_get p.variables.items m) f h
     part-refused Stores f h = inr (λ k. k)

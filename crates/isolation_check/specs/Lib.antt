@@ -1,4 +1,5 @@
 pub mod inner
+pub mod Alone
 pub mod Isolated
 pub mod Parts
 pub mod Typed

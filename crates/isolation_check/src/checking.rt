@@ -1,17 +1,19 @@
 //! The check of a package.
 #![tactic(auto)]
 
-ghost use Rattle.std.specs.Prelude.{◌≡◌, ◌<◌, ◌∷◌, [], ℕ, All, IfOk, None, false, length, map, replicate};
+ghost use Rattle.std.specs.Prelude.{◌≡◌, ◌<◌, ◌∷◌, [], ℕ, All, IfOk, List, None, false, length, map, replicate};
 ghost use Rattle.bal_base.specs.Stops.{IfFault};
 ghost use Rattle.bal_base.specs.declared.fault.FaultCode.TheVariants.{NotIsolated};
-ghost use Rattle.checks.specs.Checks.{Comes};
+ghost use Rattle.checks.specs.Checks.{Comes, Outcome};
 ghost use Rattle.descriptors.specs.Steps.{AreOwnTypes};
+ghost use Rattle.isolation_check.specs.Alone.{IsOnly};
 ghost use Rattle.isolation_check.specs.Isolated.{IsIsolated, own_parts, promises as promises_of};
 ghost use Rattle.isolation_check.specs.Parts.{function_parts};
 ghost use Rattle.isolation_check.specs.inner.Opened.{AreBelow, open_of};
 ghost use Rattle.isolation_check.specs.inner.Views.{parts_of};
 ghost use Rattle.isolation_check.specs.Typed.{AreTyped, PartBelow};
 ghost use Rattle.isolation_check.specs.Walk.{isolated};
+ghost use Rattle.type_model.specs.declared.atoms.AtomDef.{AtomDef as Atom};
 
 use crate::gathering::{Gathered, gather};
 use crate::walk::{Bodies, OpenBody, Walk};
@@ -79,6 +81,8 @@ fn walked<'p, 'a, T: Types>(
 ///   calls are followed in depth first, in the order of the text.
 /// - `TypeLimit` at the place of a question that is too large.
 ///
+/// Nothing else can be the case, but for a question that is too large: one package has one answer, and one path.
+///
 /// It costs by the nodes of the tree, and a question for each part that needs one. `own`: the language's own types, of whose atoms it
 /// needs that of all isolated functions.
 pub fn check_isolated<T: Types>(
@@ -91,6 +95,7 @@ pub fn check_isolated<T: Types>(
     requires typed { AreTyped (length (T.atoms types.old)) «package».now }
     ensures atoms { T.atoms types.new ≡ T.atoms types.old }
     ensures comes { Comes (isolated T.passes own.now «package».now) (T.atoms types.old) result (T.atoms types.new) }
+    ensures only { (o : Outcome (Unit {0})) (other : List Atom) → isolated T.passes own.now «package».now (T.atoms types.old) o other → IsOnly result o }
     ensures right { IfOk result (λ u. IsIsolated «package».now own.now (T.atoms types.old)) }
     ensures wrong { IfFault result (λ f. f.code ≡ NotIsolated → ¬ IsIsolated «package».now own.now (T.atoms types.old)) }
 {
