@@ -1,0 +1,5 @@
+mod Arguments
+mod FieldAtoms
+mod Giving
+mod Stops
+mod Zipping

@@ -1,0 +1,4 @@
+pub mod Added
+pub mod Both
+pub mod inner
+pub mod Limits

@@ -1,0 +1,19 @@
+//! What code needs of types, where a question wants an atom of its own: mappings with a key, and what functions give
+//! to arguments.
+//!
+//! - [`QuestionLimit`]: why such a question isn't answered.
+//! - [`has_field`]: whether all shapes of a type are mappings that have a key.
+//! - [`gives`]: whether no function of a type fails at arguments, and all that they give is in a type.
+//!
+//! Each call keeps the atoms that are there and adds one behind them; `specs/Limits.antt` says which limits are passed,
+//! `specs/Added.antt` which atoms are added, and `specs/Both.antt` what an answer tells of two needs.
+#![tactic(auto)]
+
+mod adding;
+mod applications;
+mod fields;
+mod limits;
+
+pub use applications::gives;
+pub use fields::has_field;
+pub use limits::QuestionLimit;
