@@ -250,7 +250,7 @@ module _ (passes : List AtomDef → Asked → TypeLimit → Type 0) where
         all = e6 ∙ ap (λ (s : State). record s { calls = replaced s.calls (one_more c) }) (e5 ∙ ap (λ (s : State). record s { wants = all_but 1 s.wants }) four);
       }
 
-  call-closed : (c : CallAtWork) (old new : State) → closes_call old (Gives c) new → IsLast old.calls c × (new.found ≡ old.found) × (new.atoms ≡ old.atoms)
+  pub call-closed : (c : CallAtWork) (old new : State) → closes_call old (Gives c) new → IsLast old.calls c × (new.found ≡ old.found) × (new.atoms ≡ old.atoms)
   unfolding ◌▷◌ gives_some does
   call-closed c old new (d, s, (last, first), (u, t, second, (same, third))) =
       let all : new ≡ record s { calls = all_but 1 s.calls } = third ∙ second in (

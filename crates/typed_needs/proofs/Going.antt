@@ -1,5 +1,5 @@
 -- The words of needs: atoms come behind those that are there, and units go on.
-use Rattle.std.proofs.Common.{◌≡◌, ◌∙◌, ◌++◌, ℕ, Bool, true, false, List, [], ◌∷◌, map, Option, Some, append-nil, append_assoc, refl, sym, subst, ap}
+use Rattle.std.proofs.Common.{◌≡◌, ◌∙◌, ◌++◌, ℕ, Bool, true, false, List, [], ◌∷◌, length, arith, map, Option, Some, append-nil, append_assoc, refl, sym, subst, ap}
 use Rattle.std.specs.List.{AllZip}
 use Rattle.bal_base.specs.declared.fault.Fault.{Fault}
 use Rattle.bal_base.specs.declared.fault.FaultCode.{FaultCode}
@@ -12,7 +12,7 @@ use Rattle.typed_tree.specs.SharedTypes.{Shared, sem_of}
 use Rattle.flow_narrowing.specs.declared.flow.Flow.{Flow}
 use Rattle.check_words.specs.Sharing.{SameShared, SameUnit}
 use Rattle.check_words.specs.State.{ChoiceAtWork, ConstructorAtWork, IsLast, State, UnitAtWork, Ways, all_but, replaced}
-use Rattle.check_words.specs.Words.{Atoms, asking, becomes, by_handles, closes_choice, closes_constructor, fails, flow_now, makes, new_slot, opens_choice, opens_constructor, sets_constructor, sets_flow, sets_unit, sets_ways, unless, wants as wanting, wants_no_more, wants_some, ways_now}
+use Rattle.check_words.specs.Words.{Atoms, asking, becomes, by_handles, closes_choice, closes_constructor, done, fails, flow_now, makes, new_slot, opens_choice, opens_constructor, sets_constructor, sets_flow, sets_unit, sets_ways, unless, wants as wanting, wants_no_more, wants_some, ways_now}
 use Rattle.typed_needs.specs.Going.{GoesOn, IsSameUnit}
 use Rattle.typed_needs.proofs.Placed.{all-but-last}
 use Rattle.typed_needs.proofs.Questions.{AddsBehind}
@@ -60,17 +60,23 @@ unit-by-handles u v w f h =
 
 -- ---- units
 
-each-itself : (us : List UnitAtWork) → AllZip IsSameUnit us us
+pub each-itself : (us : List UnitAtWork) → AllZip IsSameUnit us us
 each-itself [] = tt
 each-itself (u ∷ us) = (unit-itself u, each-itself us)
 
-each-then : (us vs ws : List UnitAtWork) → AllZip IsSameUnit us vs → AllZip IsSameUnit vs ws → AllZip IsSameUnit us ws
+pub each-then : (us vs ws : List UnitAtWork) → AllZip IsSameUnit us vs → AllZip IsSameUnit vs ws → AllZip IsSameUnit us ws
 each-then [] [] [] f g = tt
 each-then (u ∷ us) (v ∷ vs) (w ∷ ws) f g = (unit-then u v w f.0 g.0, each-then us vs ws f.1 g.1)
 each-then [] (v ∷ vs) ws f g = absurd f
 each-then (u ∷ us) [] ws f g = absurd f
 each-then [] [] (w ∷ ws) f g = absurd g
 each-then (u ∷ us) (v ∷ vs) [] f g = absurd g
+
+pub each-long : (us vs : List UnitAtWork) → AllZip IsSameUnit us vs → length vs ≡ length us
+each-long [] [] h = refl
+each-long (u ∷ us) (v ∷ vs) h = let more = each-long us vs h.1 in omega (arith, more)
+each-long [] (v ∷ vs) h = absurd h
+each-long (u ∷ us) [] h = absurd h
 
 -- those that go on from the first ones, and those from the others
 record Cut (us vs ws : List UnitAtWork) : Type 0 where
@@ -138,6 +144,9 @@ goes-fails code at = goes-refuses _
 pub goes-unless : (b : Bool) (code : FaultCode) (at : Place) → Goes (unless b code at)
 goes-unless true code at = goes-some _
 goes-unless false code at = goes-fails code at
+
+pub goes-done : Goes done
+goes-done = goes-some _
 
 pub goes-either : {A : Type 0} (b : Bool) (m n : Check State A) → Goes m → Goes n → Goes (either b m n)
 goes-either true m n f g = f

@@ -1,10 +1,14 @@
+mod Anonymous
 mod Asking
 mod AtomKinds
 mod Choices
 mod Conditions
+mod EachGoes
 mod FunctionCalls
 mod Going
+mod GoingBelow
 mod GoingNeeds
+mod GoingStmts
 mod Items
 mod Leaving
 mod MemberReads
@@ -15,3 +19,6 @@ mod Opened
 mod Placed
 mod Questions
 mod Strict
+mod ValueCalls
+mod Waits
+mod WholeRuns

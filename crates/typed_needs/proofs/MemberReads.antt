@@ -159,7 +159,7 @@ FieldMade w m at = StrictMade (form.Read (read.Field w.name)) (λ env t. t ≡ p
 -- ---- what is asked before a read
 
 module _ (passes : List AtomDef → Asked → TypeLimit → Type 0) where
-  member-asked : (t : SemType) (keys : Keys) (at : Place) (old new : State) (m : SemType) → member_at passes t keys at old (Gives m) new
+  pub member-asked : (t : SemType) (keys : Keys) (at : Place) (old new : State) (m : SemType) → member_at passes t keys at old (Gives m) new
       → IsDefined old.atoms m × HasExactly old.atoms m (StandsAt old.atoms t keys) × (new ≡ old)
   unfolding asks member
   member-asked t keys at old new m ((defined, exactly, atoms), over) = (defined, exactly, over ∙ ap (λ (xs : Atoms). record old { atoms = xs }) atoms)

@@ -8,6 +8,7 @@ use Rattle.typed_tree.specs.SharedTypes.{sem_of}
 use Rattle.check_words.specs.State.{IsLast, UnitAtWork}
 use Rattle.typed_needs.specs.Going.{IsSameUnit}
 use Rattle.typed_needs.specs.OnTheWay.{PlacesAreKept, StatesAreBefore}
+use Rattle.typed_needs.proofs.Going.{each-long}
 use Rattle.typed_needs.proofs.Placed.{last-same}
 
 pub states-are-before : StatesAreBefore
@@ -49,12 +50,6 @@ last-came (u ∷ x ∷ us) (w ∷ []) v h last = absurd h.1
 none-above : (xs : List UnitAtWork) → length xs ≡ 0 → xs ≡ []
 none-above [] e = refl
 none-above (x ∷ xs) e = absurd (omega (arith, e))
-
-each-long : (us vs : List UnitAtWork) → AllZip IsSameUnit us vs → length vs ≡ length us
-each-long [] [] h = refl
-each-long (u ∷ us) (v ∷ vs) h = let more = each-long us vs h.1 in omega (arith, more)
-each-long [] (v ∷ vs) h = absurd h
-each-long (u ∷ us) [] h = absurd h
 
 pub places-are-kept : PlacesAreKept
 places-are-kept place old new goes many placed =

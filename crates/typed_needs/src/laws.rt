@@ -1,4 +1,5 @@
 //! Laws of needs that are met, piece by piece. These calls do nothing: their clauses are laws.
+ghost use Rattle.typed_needs.specs.Anonymous.{AnonymousAreTyped};
 ghost use Rattle.typed_needs.specs.Asked.{NeedsAskOfParts};
 ghost use Rattle.typed_needs.specs.Choices.{AllChoicesAreTyped};
 ghost use Rattle.typed_needs.specs.FunctionCalls.{AllFunctionCallsAreTyped};
@@ -9,7 +10,11 @@ ghost use Rattle.typed_needs.specs.Named.{NamesAreTyped};
 ghost use Rattle.typed_needs.specs.OnTheWay.{PlacesAreKept, StatesAreBefore};
 ghost use Rattle.typed_needs.specs.Pieces.{AllConditionsAreTyped, ComparisonsAreTyped, KindsAreAsked, LiteralsAreTyped, OperatorsAreTyped, SumsAreTyped, TrapsAreTyped, WantsAreAsked};
 ghost use Rattle.typed_needs.specs.MemberReads.{AllReadsAreTyped};
+ghost use Rattle.typed_needs.specs.ValueCalls.{ValueCallsAreTyped};
+ghost use Rattle.typed_needs.specs.Waits.{AllWaitsAreTyped};
+ghost use Rattle.typed_needs.specs.WholeRuns.{RunsGoOn};
 
+use check_laws::{positions_are_kept, stmt_positions_are_kept};
 use type_model::Types;
 
 /// Where a need that asks for a kind, or for what is wanted, is met, the last part is so, over all atoms that there are at the end, and nothing changes. So it is of the
@@ -54,8 +59,8 @@ pub fn needs_make_typed_lists<T: Types>()
     ensures { AllListsAreTyped T.passes }
 {}
 
-/// Where a need of expressions or of actions is met, atoms come behind those that are there, and none is gone or changed; and each unit that is there stays the same unit,
-/// with slots behind its own, whatever stands on it. So it is but for the needs that change or close the unit of an anonymous function. A state that goes on to one whose
+/// Where a need finds on a state what it takes, and is met, atoms come behind those that are there, and none is gone or changed; and each unit of that state stays the same
+/// unit, with slots behind its own, whatever becomes of units that stand on them. A state that goes on to one whose
 /// atoms are the first ones of those at the end is itself such a state, and its unit at hand has the first slots of the same place, where no unit has come.
 pub fn needs_go_on<T: Types>()
     ensures on { NeedsGoOn T.passes }
@@ -72,4 +77,29 @@ pub fn needs_make_typed_messages<T: Types>()
 /// its arguments, where they are as many as the function takes, and the place has the function's unit.
 pub fn needs_make_typed_function_calls<T: Types>()
     ensures { AllFunctionCallsAreTyped T.passes }
+{}
+
+/// Where all needs of an expression, of an action, of a statement, of a block or of a worker are met, atoms have come behind those that were there, and each unit that was
+/// there is the same unit, with slots behind its own; units of anonymous functions and of workers have come and gone.
+pub fn runs_go_on<T: Types>()
+    ensures { RunsGoOn T.passes }
+{
+    positions_are_kept::<T>();
+    stmt_positions_are_kept::<T>();
+}
+
+/// Where the need that ends an anonymous function is met, there is one typed part in place of its value, where what it captures is typed, and the place has its unit.
+pub fn needs_make_typed_functions<T: Types>()
+    ensures { AnonymousAreTyped T.passes }
+{}
+
+/// Where the need of a name in a wait is met, a type is wanted that has all that the worker, or the future, gives; and a future is a typed part.
+pub fn needs_await_typed_names<T: Types>()
+    ensures { AllWaitsAreTyped T.passes }
+{}
+
+/// Where the need of a call of a function value is met, there is one typed part in place of the value and its arguments: those are in its domain, and the type is that of
+/// what it gives to them.
+pub fn needs_make_typed_value_calls<T: Types>()
+    ensures { ValueCallsAreTyped T.passes }
 {}

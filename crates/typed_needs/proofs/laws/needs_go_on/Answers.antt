@@ -1,5 +1,5 @@
 use Rattle.typed_needs.proofs.laws.needs_go_on.Goals as goal
-use Rattle.typed_needs.proofs.GoingNeeds.{needs-go-on}
+use Rattle.typed_needs.proofs.EachGoes.{needs-go-on}
 use Rattle.typed_needs.proofs.OnTheWay.{places-are-kept, states-are-before}
 
 pub returns-clause-on : goal.returns-clause-on
