@@ -1,0 +1,5 @@
+pub mod Bodies
+pub mod Expressions
+pub mod Mapping
+pub mod Parting
+pub mod Statements
