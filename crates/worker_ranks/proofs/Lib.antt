@@ -1,0 +1,8 @@
+mod Edges
+mod Graphs
+mod Named
+mod Numbered
+mod Placed
+mod Ringed
+mod Risen
+mod Texts

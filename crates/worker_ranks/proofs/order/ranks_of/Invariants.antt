@@ -1,0 +1,5 @@
+use Rattle.worker_ranks.specs.Vertices.{AreRanks}
+use Rattle.worker_ranks.proofs.order.ranks_of.Given as goal
+
+abbrev pub invariant-loop-number : goal.invariant-loop-number
+invariant-loop-number l = AreRanks l.order l.ranks.items l.number

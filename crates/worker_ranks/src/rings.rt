@@ -1,0 +1,150 @@
+//! The ring of events that allows no ranks.
+#![tactic(auto)]
+
+ghost use Rattle.std.specs.Prelude.{◌≡◌, ◌++◌, ◌∷◌, IfOk, IfSome, IsSomeAnd, OnOk, map};
+ghost use Rattle.std.specs.List.{flat_map};
+ghost use Rattle.bal_base.specs.declared.fault.FaultCode.TheVariants.{WaitCycle};
+ghost use Rattle.bal_base.specs.declared.fault.Kept.TheVariants.{Events as ShowsEvents};
+ghost use Rattle.checks.specs.Questions.{IsFault};
+ghost use Rattle.graphs.specs.Distances.{IsReversed};
+ghost use Rattle.worker_pairing.specs.Faults.{IsRingFault, event_of as event_held};
+ghost use Rattle.worker_pairing.specs.Marks.{in_text};
+ghost use Rattle.worker_members.specs.Held.{member_held, numbered_held};
+ghost use Rattle.worker_ranks.specs.Vertices.{IsRing, ShowsRing, place_in_text, shown};
+
+use crate::nodes::{graph, nodes};
+use bal_base::{Event, Fault, FaultCode, Kept, Memory, Place, Row};
+use graphs::{first_cycle, reversed};
+use std::alloc::Global;
+use worker_members::{HeldMember, Standing};
+
+/// A ring by the numbers of its events in text order.
+#[derive(Drop)]
+pub(crate) struct Ring {
+    first: usize,
+    others: Vec<usize>,
+}
+
+/// The ring that begins with the first number that lies on one. Each number in front costs a search of the graph.
+fn first_ring(
+    alloc: Global,
+    next: &[Vec<usize>],
+    back: &[Vec<usize>],
+) -> Result<Option<Ring>, Memory>
+    requires reversed { IsReversed (map (λ v. v.items) next.now) (map (λ v. v.items) back.now) }
+    ensures { IfOk result (λ found. IfSome found (λ ring. IsRing (map (λ v. v.items) next.now) ring.first ring.others.items)) }
+{
+    for first in 0..back.len() {
+        let found = first_cycle(alloc, next, back, first)?;
+        match found {
+            Some(others) => return Ok(Some(Ring { first, others })),
+            None => {}
+        }
+    }
+    Ok(None)
+}
+
+/// The ring of a graph.
+fn ring_of(alloc: Global, next: &[Vec<usize>]) -> Result<Option<Ring>, Memory>
+    ensures { IfOk result (λ found. IfSome found (λ ring. IsRing (map (λ v. v.items) next.now) ring.first ring.others.items)) }
+{
+    let back = reversed(alloc, next)?;
+    first_ring(alloc, next, &back)
+}
+
+/// An event as it is shown.
+fn event_of(event: Standing<'_>) -> Event
+    ensures { result ≡ event_held (numbered_held event.entry) }
+{
+    Event {
+        worker: event.worker,
+        number: event.number,
+        at: event.said.at,
+    }
+}
+
+/// The event with this number, where there is one, behind those that are shown.
+fn show(events: &mut Vec<Event>, text: &[Standing<'_>], number: usize) -> Result<(), Memory>
+    ensures { OnOk result (events.new.items ≡ events.old.items ++ shown (map numbered_held text.now) number) }
+{
+    match text.get(number) {
+        Some(event) => {
+            events.push(event_of(*event))?;
+            Ok(())
+        }
+        None => Ok(()),
+    }
+}
+
+/// The events of a ring.
+fn events_of(
+    alloc: Global,
+    text: &[Standing<'_>],
+    first: usize,
+    others: &[usize],
+) -> Result<Vec<Event>, Memory>
+    ensures { IfOk result (λ events. events.items ≡ flat_map (shown (map numbered_held text.now)) (first ∷ others.now)) }
+{
+    let mut events = Vec::new(alloc);
+    show(&mut events, text, first)?;
+    for number in others {
+        show(&mut events, text, *number)?;
+    }
+    Ok(events)
+}
+
+/// Where the event with this number stands.
+fn place_at(text: &[Standing<'_>], number: usize) -> Option<Place>
+    ensures { result ≡ place_in_text (map numbered_held text.now) number }
+{
+    match text.get(number) {
+        Some(event) => Some(event.said.at),
+        None => None,
+    }
+}
+
+/// `WaitCycle` at this place with these events.
+fn wait_cycle(at: Option<Place>, events: Vec<Event>) -> Fault
+    ensures { IsFault WaitCycle at (ShowsEvents events.items) result }
+{
+    Fault {
+        code: FaultCode::WaitCycle,
+        at,
+        kept: Kept::Events(Row::of(events)),
+    }
+}
+
+/// The fault that shows a ring, where there is one.
+fn shown_ring(
+    alloc: Global,
+    text: &[Standing<'_>],
+    found: Option<Ring>,
+) -> Result<Option<Fault>, Memory>
+    ensures { IfOk result (λ told. IfSome told (λ f. IsSomeAnd found (λ ring. ShowsRing (map numbered_held text.now) ring.first ring.others.items f))) }
+{
+    match found {
+        Some(ring) => {
+            let events = events_of(alloc, text, ring.first, &ring.others)?;
+            Ok(Some(wait_cycle(place_at(text, ring.first), events)))
+        }
+        None => Ok(None),
+    }
+}
+
+/// The ring in which events of the workers wait for one another, as `WaitCycle` at its first event, where there is one: it begins with
+/// the first event in text order that lies on a ring, and is a shortest one, and of those the one whose events come first in text order.
+/// `text` has all events in text order. Takes memory that grows with the square of the events, and for each event in front of the first
+/// one a search of what each follows or needs. Wants memory alone.
+pub fn ring_fault(
+    alloc: Global,
+    workers: &[HeldMember<'_>],
+    text: &[Standing<'_>],
+) -> Result<Option<Fault>, Memory>
+    requires { map numbered_held text.now ≡ in_text (map member_held workers.now) }
+    ensures { IfOk result (λ found. IfSome found (IsRingFault (map member_held workers.now))) }
+{
+    let vertices = nodes(alloc, workers, text)?;
+    let next = graph(alloc, &vertices)?;
+    let found = ring_of(alloc, &next)?;
+    shown_ring(alloc, text, found)
+}
