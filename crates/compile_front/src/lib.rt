@@ -1,0 +1,12 @@
+//! The front of a compiler: from a package that was read to its typed package, or to the first fault.
+//!
+//! - [`accept`]: what its names stand for and its typed package, which keeps its promises of isolation ([`Accepted`]); or the first fault
+//!   ([`Answered`]).
+//!
+//! `specs/Front.antt` says what the front of a package comes to, and `specs/Codes.antt` which codes its faults have.
+#![tactic(auto)]
+
+mod accepting;
+mod codes;
+
+pub use accepting::{Accepted, Answered, accept};
