@@ -72,7 +72,7 @@ impl Tables {
             Op::GetField(name) => self.field(name),
             Op::GetOptional(name) => self.optional(name),
             Op::Test(t) => self.test(alloc, t),
-            Op::Cast(t) => self.cast(alloc, t),
+            Op::Cast(t) => self.cast(alloc, TestedType::Tree(t)),
             Op::Call { unit, count } => self.call(unit, count),
             Op::Start { unit, count } => self.start(unit, count),
             Op::Library { call, atom, count } => library(call, atom, count),

@@ -57,7 +57,6 @@ fn type_copy(alloc: Global, t: TestedType<'_>) -> Result<SemType, Memory>
 {
     match t {
         TestedType::Tree(t) => t.sem.copy(alloc),
-        TestedType::Code(t) => t.copy(alloc),
         TestedType::Nil => Ok(SemType::Basic(BasicSet::Nil)),
         TestedType::Error => Ok(SemType::Basic(BasicSet::ErrorAll)),
         TestedType::Single(c) => Ok(single(c)),

@@ -20,7 +20,6 @@ singleton (constant.Str t) = Basic (basic.StringOne t)
 
 abbrev pub type_of : TestedType → SemType
 type_of (tested.Tree t) = sem_of t.now
-type_of (tested.Code t) = t.now
 type_of tested.Nil = Basic basic.Nil
 type_of tested.Error = Basic basic.ErrorAll
 type_of (tested.Single c) = singleton c.now
@@ -60,7 +59,7 @@ operation_of (op.GetOptional name) = operation.GetOptional name.now
 operation_of op.SetItem = operation.SetItem
 operation_of op.SetKey = operation.SetKey
 operation_of (op.Test t) = operation.Test (type_of t)
-operation_of (op.Cast t) = operation.Cast (type_of t)
+operation_of (op.Cast t) = operation.Cast (sem_of t.now)
 operation_of (op.Call unit count) = operation.Call unit count
 operation_of (op.CallValue count) = operation.CallValue count
 operation_of (op.Library call atom count) = operation.Library call atom count

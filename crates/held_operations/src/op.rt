@@ -2,7 +2,6 @@
 
 use bal_base::Text;
 use operations::{Awaited, Constant, LibraryCall};
-use type_model::SemType;
 use typed_tree::SharedTy;
 
 /// The type that a test asks for, or to which a variable is narrowed.
@@ -10,8 +9,6 @@ use typed_tree::SharedTy;
 pub enum TestedType<'a> {
     /// A type of the tree.
     Tree(&'a SharedTy),
-    /// A type of the code.
-    Code(&'a SemType),
     /// Nil alone.
     Nil,
     /// All errors.
@@ -70,7 +67,7 @@ pub enum Op<'a> {
     SetItem,
     SetKey,
     Test(TestedType<'a>),
-    Cast(TestedType<'a>),
+    Cast(&'a SharedTy),
     Call {
         unit: u32,
         count: u64,

@@ -147,10 +147,7 @@ fn library<'a>(
 {
     match cast {
         None => draft.dos(&[Op::Library { call, atom, count }]),
-        Some(t) => draft.dos(&[
-            Op::Library { call, atom, count },
-            Op::Cast(TestedType::Tree(t)),
-        ]),
+        Some(t) => draft.dos(&[Op::Library { call, atom, count }, Op::Cast(t)]),
     }
 }
 
@@ -215,7 +212,7 @@ pub fn strict<'a>(draft: &mut Draft<'a>, form: &'a StrictForm, count: u64) -> Re
         StrictForm::FunctionName { unit } => draft.dos(&[named_function(*unit)]),
         StrictForm::Operator(op) => operator(draft, *op),
         StrictForm::Is(t) => draft.dos(&[Op::Test(TestedType::Tree(t))]),
-        StrictForm::Cast(t) => draft.dos(&[Op::Cast(TestedType::Tree(t))]),
+        StrictForm::Cast(t) => draft.dos(&[Op::Cast(t)]),
         StrictForm::List { atom, immutable } => draft.dos(&[list(*atom, *immutable, count)]),
         StrictForm::Mapping { atom, immutable } => {
             draft.dos(&[mapping(*atom, *immutable, count / 2)])

@@ -159,13 +159,7 @@ fn library<'a>(
 {
     match cast {
         None => dos(tasks, &[Op::Library { call, atom, count }]),
-        Some(t) => dos(
-            tasks,
-            &[
-                Op::Library { call, atom, count },
-                Op::Cast(TestedType::Tree(t)),
-            ],
-        ),
+        Some(t) => dos(tasks, &[Op::Library { call, atom, count }, Op::Cast(t)]),
     }
 }
 
@@ -230,7 +224,7 @@ pub fn strict<'a>(tasks: &mut Vec<Task<'a>>, form: &'a StrictForm, count: u64) -
         StrictForm::FunctionName { unit } => dos(tasks, &[named_function(*unit)]),
         StrictForm::Operator(op) => operator(tasks, *op),
         StrictForm::Is(t) => dos(tasks, &[Op::Test(TestedType::Tree(t))]),
-        StrictForm::Cast(t) => dos(tasks, &[Op::Cast(TestedType::Tree(t))]),
+        StrictForm::Cast(t) => dos(tasks, &[Op::Cast(t)]),
         StrictForm::List { atom, immutable } => dos(tasks, &[list(*atom, *immutable, count)]),
         StrictForm::Mapping { atom, immutable } => {
             dos(tasks, &[mapping(*atom, *immutable, count / 2)])

@@ -1,5 +1,6 @@
 -- In which part of the table an operation stands, and where it is not told what it comes to.
 use Rattle.std.specs.Prelude.{⊤, List}
+use Rattle.typed_tree.specs.SharedTypes.{sem_of}
 use Rattle.value_model.specs.declared.value.Value.{Value}
 use Rattle.plain_run.specs.declared.facts.Facts.{Facts}
 use Rattle.plain_run.specs.declared.held.Common.{Common}
@@ -145,7 +146,7 @@ module _ (facts : Facts) (vs : List Value) (old : Common) where
   IsUntold op.SetItem = SetItemIsBeyond facts vs old.world
   IsUntold op.SetKey = SetKeyIsBeyond facts vs old.world
   IsUntold (op.Test t) = AreBeyond facts old.world.heap vs (type_of t)
-  IsUntold (op.Cast t) = AreBeyond facts old.world.heap vs (type_of t)
+  IsUntold (op.Cast t) = AreBeyond facts old.world.heap vs (sem_of t.now)
   IsUntold (op.Call unit count) = ⊥
   IsUntold (op.CallValue count) = ⊥
   IsUntold (op.Library call atom count) = IsCallBeyond facts call old.world vs

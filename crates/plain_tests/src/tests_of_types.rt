@@ -1,6 +1,7 @@
 //! Tests of types, and casts.
 ghost use Rattle.std.specs.Prelude.{◌≡◌, IfOk};
 ghost use Rattle.operations.specs.declared.operation.Operation.TheVariants as operation;
+ghost use Rattle.typed_tree.specs.SharedTypes.{sem_of};
 ghost use Rattle.plain_run.specs.declared.held.Asker.{Asker as AskerOf};
 ghost use Rattle.plain_run.specs.Came.{WorldStays, came_of};
 ghost use Rattle.plain_run.specs.Effects.{IsPerformed, Stays};
@@ -14,6 +15,7 @@ use operations::Constant;
 use plain_run::{Came, Common, Facts, Heap, Performed, World, lifted, panics, told};
 use std::alloc::Global;
 use type_model::{BasicSet, SemType};
+use typed_tree::SharedTy;
 use value_model::{PanicName, Value};
 
 /// The type of one constant.
@@ -40,7 +42,6 @@ fn belongs_to(
 {
     match t {
         TestedType::Tree(ty) => belongs(alloc, facts, heap, v, &ty.sem),
-        TestedType::Code(ty) => belongs(alloc, facts, heap, v, ty),
         TestedType::Nil => belongs(alloc, facts, heap, v, &SemType::Basic(BasicSet::Nil)),
         TestedType::Error => belongs(alloc, facts, heap, v, &SemType::Basic(BasicSet::ErrorAll)),
         TestedType::Single(c) => belongs(alloc, facts, heap, v, &singleton(c)),
@@ -82,15 +83,15 @@ fn casts(alloc: Global, world: &mut World, v: &Value, holds: bool) -> Result<Cam
 pub fn perform_cast(
     alloc: Global,
     facts: &Facts,
-    t: TestedType,
+    t: &SharedTy,
     operands: &[Value],
     common: &mut Common,
 ) -> Result<Performed, Memory>
-    ensures row { IfOk result (λ done. (asker : AskerOf) → IsPerformed facts.now (operation.Cast (operations.type_of t.entry)) operands.now asker common.old common.new (AreBeyond facts.now common.old.world.heap operands.now (operations.type_of t.entry)) done) }
+    ensures row { IfOk result (λ done. (asker : AskerOf) → IsPerformed facts.now (operation.Cast (sem_of t.now)) operands.now asker common.old common.new (AreBeyond facts.now common.old.world.heap operands.now (sem_of t.now)) done) }
     ensures stays { IfOk result (Stays common.old common.new) }
 {
     match operands {
-        [v] => match belongs_to(alloc, facts, &common.world.heap, v, t)? {
+        [v] => match belongs(alloc, facts, &common.world.heap, v, &t.sem)? {
             Some(holds) => {
                 let came = casts(alloc, &mut common.world, v, holds)?;
                 Ok(Performed::Done(lifted(came)))
