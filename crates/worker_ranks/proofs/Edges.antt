@@ -1,15 +1,12 @@
 -- Two vertices show whether the first event follows or needs the second.
-use Rattle.std.proofs.Common.{◌≡◌, ◌∙◌, ◌<◌, ◌≤◌, ◌⊎◌, ◌+◌, ◌==◌, ◌↔◌, ℕ, zero, suc, Bool, true, false, List, [], ◌∷◌, Option, Some, None, get_or, length, refl, sym, subst, ap, inl, inr, arith}
-use Rattle.std.specs.Prelude.{◌&&◌, ◌||◌, Contains, IsSomeAnd, nat_lt, slice_get}
-use Rattle.std.specs.List.{list_any}
+use Rattle.std.proofs.Common.{◌≡◌, ◌∙◌, ◌<◌, ◌⊎◌, ◌+◌, ◌==◌, ℕ, zero, suc, Bool, true, false, List, [], ◌∷◌, Some, None, length, refl, sym, subst, ap, inl, inr, arith}
+use Rattle.std.specs.Prelude.{◌&&◌, Contains, IsSomeAnd, nat_lt, slice_get}
 use Rattle.std.proofs.lemmas.Bool.{and_from, and_parts, eq-eqb, eqb-true, false≢true, lt-ltb, ltb-true, or_cases, or_left, or_right}
-use Rattle.std.proofs.lemmas.Option.{slice_get-get_or}
 use Rattle.typed_tree.specs.declared.event.EventKind.{EventKind}
 use Rattle.typed_tree.specs.declared.event.EventKind.TheVariants.{Send, Post, Done, Receive, Flush, Wait, End}
 use Rattle.worker_pairing.specs.Events.{Crew, IsNth, Needs, NeedsAs, before, events_of, receives_from, sends_to}
-use Rattle.worker_pairing.specs.Marks.{Members}
 use Rattle.worker_pairing.proofs.Counts.{nth-length}
-use Rattle.worker_ranks.specs.Vertices.{Vertex, is_among, is_edge, needs_other, place_in, vertex_at}
+use Rattle.worker_ranks.specs.inner.Vertices.{Vertex, is_among, is_close, is_edge, needs_other, place_in, vertex_at}
 
 -- ---- one of several numbers
 
@@ -34,6 +31,17 @@ three x y z is =
     let first = and_parts x (y && z) is in
     let more = and_parts y z first.1 in
     (first.0, more.0, more.1)
+
+-- the one right before stands before it
+pub close-edge : (a b : Vertex) → is_close a b ≡ true → is_edge a b ≡ true
+close-edge a b is = by (or_cases _ _ is)
+  where
+    by : (((a.worker == b.worker) && (b.number + 1 == a.number)) ≡ true) ⊎ (needs_other a.kind a b ≡ true) → is_edge a b ≡ true
+    by (inl step) =
+        let parts = and_parts _ _ step in
+        let next = eqb-true (b.number + 1) a.number parts.1 in
+        or_left _ _ (and_from _ _ parts.0 (lt-ltb b.number a.number (omega (arith, next))))
+    by (inr needs) = or_right _ _ needs
 
 module _ (crew : Crew) where
   -- ---- places of messages
@@ -154,6 +162,12 @@ module _ (crew : Crew) where
 
       pub behind-edge : w ≡ u → j < i → is_edge (vertex_at crew w i e) second ≡ true
       behind-edge same lt = or_left _ _ (and_from _ _ (eq-eqb w u same) (lt-ltb j i lt))
+
+      pub need-close : Needs crew w i u j → is_close (vertex_at crew w i e) second ≡ true
+      need-close h = or_right _ _ (need-shows e (subst (λ o. IsSomeAnd o (λ k. NeedsAs crew k w i u j)) at h))
+
+      pub step-close : w ≡ u → j + 1 ≡ i → is_close (vertex_at crew w i e) second ≡ true
+      step-close same next = or_left _ _ (and_from _ _ (eq-eqb w u same) (eq-eqb (j + 1) i next))
 
       pub shows-edge : ((w ≡ u) × (j < i)) ⊎ Needs crew w i u j → is_edge (vertex_at crew w i e) second ≡ true
       shows-edge (inl (same, lt)) = behind-edge same lt

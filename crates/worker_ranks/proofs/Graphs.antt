@@ -1,16 +1,15 @@
 -- The graph of vertices has the edges of the definition.
-use Rattle.std.proofs.Common.{◌≡◌, ◌∙◌, ◌<◌, ◌⊎◌, ◌+◌, ◌++◌, ◌↔◌, ℕ, zero, suc, Bool, true, false, List, [], ◌∷◌, Option, Some, None, map, get_or, length, refl, sym, subst, ap, inl, inr, arith}
-use Rattle.std.specs.Prelude.{All, Contains, IsSomeAnd, if◌then◌else◌, option_map, slice_get}
-use Rattle.std.proofs.lemmas.Bool.{cases_lt, false≢true}
+use Rattle.std.proofs.Common.{◌≡◌, ◌∙◌, ◌<◌, ◌⊎◌, ◌+◌, ◌++◌, ℕ, zero, suc, Bool, true, false, List, [], ◌∷◌, Option, Some, None, map, get_or, refl, sym, subst, ap, arith}
+use Rattle.std.specs.Prelude.{Contains, IsSomeAnd, if◌then◌else◌, option_map, slice_get}
 use Rattle.std.proofs.lemmas.List.{length-map}
-use Rattle.std.proofs.lemmas.Option.{get_or_from_slice_get, slice_get-get_or, slice_get-map, slice_get_within}
+use Rattle.std.proofs.lemmas.Option.{get_or_from_slice_get, slice_get-map, slice_get_within}
 use Rattle.graphs.specs.Cycles.{Follows}
 use Rattle.graphs.specs.Ordering.{IsInside}
 use Rattle.worker_pairing.specs.Events.{Needs}
 use Rattle.worker_pairing.specs.Faults.{IsGraphOf, crew_of}
 use Rattle.worker_pairing.specs.Marks.{Members, Numbered, in_text}
-use Rattle.worker_pairing.proofs.Paired.{behind, in-front}
-use Rattle.worker_ranks.specs.Vertices.{Vertex, graph_of, is_edge, passing, vertex_of}
+use Rattle.worker_pairing.proofs.Paired.{behind}
+use Rattle.worker_ranks.specs.inner.Vertices.{Vertex, graph_by, graph_of, is_edge, passing, vertex_of}
 use Rattle.worker_ranks.proofs.Edges.{edge-shows, shows-edge}
 use Rattle.worker_ranks.proofs.Texts.{IsThere, text-there}
 
@@ -70,24 +69,24 @@ row-has f (x ∷ vs) zero t a at c = subst (λ y. Contains (f y) t) (same at) c
     same e = grind (arith, e)
 row-has f (x ∷ vs) (suc s) t a at c = row-has f vs s t a at c
 
-module _ (vs : List Vertex) where
-  pub edge-there : (s t : ℕ) → Follows (graph_of vs) s t → (a : Vertex) × (b : Vertex) × (slice_get vs s ≡ Some a) × (slice_get vs t ≡ Some b) × (is_edge a b ≡ true)
+module _ (edge : Vertex → Vertex → Bool) (vs : List Vertex) where
+  pub edge-there : (s t : ℕ) → Follows (graph_by edge vs) s t → (a : Vertex) × (b : Vertex) × (slice_get vs s ≡ Some a) × (slice_get vs t ≡ Some b) × (edge a b ≡ true)
   edge-there s t f =
-      let row = row-there (λ a. passing (is_edge a) 0 vs) vs s t f in
-      let found = passing-shows (is_edge row.0) 0 vs t row.2 in
+      let row = row-there (λ a. passing (edge a) 0 vs) vs s t f in
+      let found = passing-shows (edge row.0) 0 vs t row.2 in
       let place : found.0 ≡ t = let e = found.1 in omega (arith, e) in
       (row.0, found.2, row.1, ap (slice_get vs) (sym place) ∙ found.3, found.4)
 
-  pub edge-has : (s t : ℕ) (a b : Vertex) → slice_get vs s ≡ Some a → slice_get vs t ≡ Some b → is_edge a b ≡ true → Follows (graph_of vs) s t
+  pub edge-has : (s t : ℕ) (a b : Vertex) → slice_get vs s ≡ Some a → slice_get vs t ≡ Some b → edge a b ≡ true → Follows (graph_by edge vs) s t
   edge-has s t a b from to is =
       let place : 0 + t ≡ t = omega arith in
-      row-has (λ a. passing (is_edge a) 0 vs) vs s t a from (subst (Contains (passing (is_edge a) 0 vs)) place (passing-has (is_edge a) 0 vs t b to is))
+      row-has (λ a. passing (edge a) 0 vs) vs s t a from (subst (Contains (passing (edge a) 0 vs)) place (passing-has (edge a) 0 vs t b to is))
 
-  pub graph-inside : IsInside (graph_of vs)
+  pub graph-inside : IsInside (graph_by edge vs)
   graph-inside s t f =
       let e = edge-there s t f in
       let lt = slice_get_within vs t e.1 e.3 in
-      let long = length-map vs (λ a. passing (is_edge a) 0 vs) in
+      let long = length-map vs (λ a. passing (edge a) 0 vs) in
       omega (arith, lt, long)
 
 -- ---- events as vertices
@@ -120,12 +119,12 @@ module _ (ms : Members) where
   abbrev Edge : Numbered → Numbered → Type 0
   Edge a b = ((a.worker ≡ b.worker) × (b.number < a.number)) ⊎ Needs (crew_of ms) a.worker a.number b.worker b.number
 
-  there-at : (s : ℕ) (e : Numbered) → slice_get text s ≡ Some e → IsThere ms e
+  pub there-at : (s : ℕ) (e : Numbered) → slice_get text s ≡ Some e → IsThere ms e
   there-at s e at = subst (IsThere ms) (get_or_from_slice_get text s e e at) (text-there ms s e (slice_get_within text s e at))
 
   graph-shows : (s t : ℕ) → Follows (graph_of (map (vertex_of ms) text)) s t → IsSomeAnd (slice_get text s) (λ a. IsSomeAnd (slice_get text t) (λ b. Edge a b))
   graph-shows s t f =
-      let e = edge-there (map (vertex_of ms) text) s t f in
+      let e = edge-there is_edge (map (vertex_of ms) text) s t f in
       let a = vertex-from ms text s e.0 e.2 in
       let b = vertex-from ms text t e.1 e.3 in
       let is = (λ i. is_edge (sym a.2 i) (sym b.2 i)) ∙ e.4 in
@@ -137,7 +136,7 @@ module _ (ms : Members) where
   graph-has s t h =
       let a = some-is (λ a. IsSomeAnd (slice_get text t) (λ b. Edge a b)) (slice_get text s) h in
       let b = some-is (λ b. Edge a.0 b) (slice_get text t) a.2 in
-      edge-has (map (vertex_of ms) text) s t (vertex_of ms a.0) (vertex_of ms b.0) (vertex-has ms text s a.0 a.1) (vertex-has ms text t b.0 b.1)
+      edge-has is_edge (map (vertex_of ms) text) s t (vertex_of ms a.0) (vertex_of ms b.0) (vertex-has ms text s a.0 a.1) (vertex-has ms text t b.0 b.1)
       (shows-edge (crew_of ms) a.0.worker a.0.number b.0.worker b.0.number b.0.saying.kind (there-at t b.0 b.1) a.0.saying.kind (there-at s a.0 a.1) b.2)
 
   pub is-graph : IsGraphOf ms (graph_of (map (vertex_of ms) text))

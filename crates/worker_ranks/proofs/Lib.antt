@@ -1,5 +1,8 @@
+mod Closer
 mod Edges
 mod Graphs
+mod Groups
+mod InTurn
 mod Named
 mod Numbered
 mod Placed

@@ -1,11 +1,11 @@
 -- Names of workers, one after another.
-use Rattle.std.proofs.Common.{◌≡◌, ◌∙◌, ◌<◌, ◌≤◌, ◌⊎◌, ◌+◌, ◌-◌, ◌==◌, ℕ, Bool, true, false, List, [], ◌∷◌, Option, Some, None, drop, get_or, length, refl, sym, ap, inl, inr, arith}
+use Rattle.std.proofs.Common.{◌≡◌, ◌∙◌, ◌<◌, ◌≤◌, ◌⊎◌, ◌+◌, ◌-◌, ◌==◌, ℕ, Bool, true, false, List, ◌∷◌, Option, Some, None, drop, get_or, length, refl, sym, ap, inl, inr, arith}
 use Rattle.std.specs.Prelude.{◌||◌}
 use Rattle.std.proofs.lemmas.Bool.{cases_eq, eq-eqb, false≢true, ne_eqb}
 use Rattle.graphs.proofs.Rows.{drop-more}
 use Rattle.operations.specs.Talk.{workers_in}
 use Rattle.worker_pairing.specs.Events.{is_peer}
-use Rattle.worker_ranks.specs.Vertices.{is_among}
+use Rattle.worker_ranks.specs.inner.Vertices.{is_among}
 
 other-name : (name : Option ℕ) (rest : List (Option ℕ)) (w : ℕ) → is_peer w name ≡ false → is_among (workers_in (name ∷ rest)) w ≡ is_among (workers_in rest) w
 other-name (Some n) rest w off = ap (λ b. b || is_among (workers_in rest) w) off

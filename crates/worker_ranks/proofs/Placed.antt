@@ -4,7 +4,7 @@ use Rattle.std.specs.Prelude.{IfOk}
 use Rattle.std.proofs.lemmas.Bool.{cases_lt}
 use Rattle.std.proofs.lemmas.List.{get_or_append_left, get_or_default, length-append}
 use Rattle.std.proofs.Math.Seq.{get_or-append_seam}
-use Rattle.worker_ranks.specs.Vertices.{AreRanks, IsFirstPlace}
+use Rattle.worker_ranks.specs.inner.Vertices.{AreRanks, IsFirstPlace}
 
 -- it stands at none of the first so many places
 abbrev pub NotYet : List ℕ → ℕ → ℕ → Type 0

@@ -1,6 +1,6 @@
 -- The ring that is found, as the fault that shows it.
 use Rattle.std.proofs.Common.{◌≡◌, ◌∙◌, ◌<◌, ◌≤◌, ◌⊎◌, ◌+◌, ◌++◌, ℕ, List, [], ◌∷◌, Option, Some, None, Result, Ok, Err, map, get_or, length, refl, sym, subst, ap, inl, inr, arith}
-use Rattle.std.specs.Prelude.{IfOk, IfSome, IsSomeAnd, option_map, slice_get}
+use Rattle.std.specs.Prelude.{IfOk, IfSome, IsSomeAnd, option_map}
 use Rattle.std.specs.List.{flat_map}
 use Rattle.std.proofs.lemmas.Bool.{cases_lt}
 use Rattle.std.proofs.lemmas.Option.{slice_get-map, slice_get_past, slice_get_read}
@@ -14,8 +14,9 @@ use Rattle.worker_pairing.specs.Faults.{IsRingFault, event_at, event_of}
 use Rattle.worker_pairing.specs.Marks.{Members, Numbered, in_text}
 use Rattle.worker_members.specs.declared.text.Standing.{Standing}
 use Rattle.worker_members.specs.Held.{numbered_held}
-use Rattle.worker_ranks.specs.Vertices.{IsRing, ShowsRing, Vertex, graph_of, one_shown, place_in_text, shown, vertex_of}
+use Rattle.worker_ranks.specs.inner.Vertices.{IsNoneBefore, IsRingAt, IsRingOf, ShowsRing, Vertex, close_of, graph_of, one_shown, place_in_text, shown, vertex_of}
 use Rattle.worker_ranks.specs.declared.rings.Ring.{Ring}
+use Rattle.worker_ranks.proofs.Closer.{none-before}
 use Rattle.worker_ranks.proofs.Graphs.{is-graph}
 
 module _ (ms : Members) where
@@ -26,28 +27,35 @@ module _ (ms : Members) where
   events-shown [] = refl
   events-shown (t ∷ ts) = λ i. event-shown t i ++ events-shown ts i
 
-  pub ring-fault : (vs : List Vertex) (next : List (List ℕ)) (first : ℕ) (others : List ℕ) (f : Fault)
-      → vs ≡ map (vertex_of ms) (in_text ms) → next ≡ graph_of vs → IsRing next first others → ShowsRing (in_text ms) first others f → IsRingFault ms f
-  ring-fault vs next first others f is graph ring fault =
-      let here : IsRing (graph_of (map (vertex_of ms) (in_text ms))) first others = subst (λ n. IsRing n first others) (graph ∙ ap graph_of is) ring in (
+  ring-fault : (vs : List Vertex) (first : ℕ) (others : List ℕ) (f : Fault)
+      → vs ≡ map (vertex_of ms) (in_text ms) → IsRingOf vs first others → ShowsRing (in_text ms) first others f → IsRingFault ms f
+  ring-fault vs first others f is ring fault =
+      let here : IsRingOf (map (vertex_of ms) (in_text ms)) first others = subst (λ xs. IsRingOf xs first others) is ring in (
         graph_of (map (vertex_of ms) (in_text ms)),
         first,
         others,
         is-graph ms,
-        here.0,
+        none-before ms first here.0,
         here.1,
         subst (λ es. IsFault WaitCycle (place_in_text (in_text ms) first) (kept.Events es) f) (events-shown (first ∷ others)) fault,
       )
 
   -- the same of what was found and told
-  pub ring-told : {Y : Type 0} (text : List Numbered) (vs : List Vertex) (next : List (List ℕ)) (found : Option Ring) (r : Result (Option Fault) Y)
-      → text ≡ in_text ms → vs ≡ map (vertex_of ms) text → next ≡ graph_of vs → IfSome found (λ ring. IsRing next ring.first ring.others.items)
+  pub ring-told : {Y : Type 0} (text : List Numbered) (vs : List Vertex) (found : Option Ring) (r : Result (Option Fault) Y)
+      → text ≡ in_text ms → vs ≡ map (vertex_of ms) text → IfSome found (λ ring. IsRingOf vs ring.first ring.others.items)
       → IfOk r (λ told. IfSome told (λ f. IsSomeAnd found (λ ring. ShowsRing text ring.first ring.others.items f))) → IfOk r (λ told. IfSome told (IsRingFault ms))
-  ring-told text vs next (Some ring) (Ok (Some f)) is held graph there told =
-      ring-fault vs next ring.first ring.others.items f (held ∙ ap (map (vertex_of ms)) is) graph there (subst (λ xs. ShowsRing xs ring.first ring.others.items f) is told)
-  ring-told text vs next None (Ok (Some f)) is held graph there told = absurd told
-  ring-told text vs next found (Ok None) is held graph there told = tt
-  ring-told text vs next found (Err e) is held graph there told = tt
+  ring-told text vs (Some ring) (Ok (Some f)) is held there told =
+      ring-fault vs ring.first ring.others.items f (held ∙ ap (map (vertex_of ms)) is) there (subst (λ xs. ShowsRing xs ring.first ring.others.items f) is told)
+  ring-told text vs None (Ok (Some f)) is held there told = absurd told
+  ring-told text vs found (Ok None) is held there told = tt
+  ring-told text vs found (Err e) is held there told = tt
+
+-- the first that is on a ring, and the ring that begins with it
+pub ring-so : {Y : Type 0} (vs : List Vertex) (n : ℕ) (r : Result (Option Ring) Y) → IsNoneBefore (close_of vs) n
+    → IfOk r (λ found. IfSome found (λ ring. IsRingAt (graph_of vs) n ring.first ring.others.items)) → IfOk r (λ found. IfSome found (λ ring. IsRingOf vs ring.first ring.others.items))
+ring-so vs n (Ok (Some ring)) none (same, is) = (subst (IsNoneBefore (close_of vs)) (sym same) none, is)
+ring-so vs n (Ok None) none is = tt
+ring-so vs n (Err e) none is = tt
 
 -- no cycle begins with a number before the next one
 pub none-before-next : {P : ℕ → Type 0} (n : ℕ) → ((i : ℕ) → i < n → P i) → P n → (i : ℕ) → i < n + 1 → P i

@@ -1,17 +1,19 @@
 -- Ranks that fall along each edge, and a numbering.
-use Rattle.std.proofs.Common.{◌≡◌, ◌∙◌, ◌<◌, ◌≤◌, ◌⊎◌, ◌+◌, ◌++◌, ◌↔◌, ℕ, zero, suc, Bool, true, false, List, [], ◌∷◌, Option, Some, None, map, get_or, length, refl, sym, subst, ap, inl, inr, arith}
-use Rattle.std.specs.Prelude.{◌&&◌, Contains, nat_lt, slice_get}
+use Rattle.std.proofs.Common.{◌≡◌, ◌∙◌, ◌<◌, ◌⊎◌, ◌+◌, ◌↔◌, ℕ, zero, suc, Bool, true, List, [], ◌∷◌, Option, Some, None, Result, Ok, Err, get_or, refl, sym, subst, ap, inl, inr, arith}
+use Rattle.std.specs.Prelude.{Contains, IfNone, IfOk, nat_lt, slice_get}
 use Rattle.std.specs.List.{list_all}
-use Rattle.std.proofs.lemmas.Bool.{and_from, and_parts, cases_lt, lt-ltb, ltb-true}
+use Rattle.std.proofs.lemmas.Bool.{and_from, and_parts, lt-ltb, ltb-true}
 use Rattle.std.proofs.lemmas.Option.{slice_get_within}
-use Rattle.graphs.specs.Cycles.{Follows}
-use Rattle.worker_pairing.specs.Events.{IsNumbering, Needs}
+use Rattle.graphs.specs.Cycles.{Follows, IsWay}
+use Rattle.graphs.specs.Ordering.{HasCycle}
+use Rattle.worker_pairing.specs.Events.{IsNumbering, IsOrderable, Needs}
 use Rattle.worker_pairing.specs.Faults.{crew_of, kinds_of, rank_in}
 use Rattle.worker_pairing.specs.Marks.{Members, Numbered, in_turn}
 use Rattle.worker_partners.proofs.Texts.{kind-there}
-use Rattle.worker_ranks.specs.Vertices.{Vertex, falls_from, graph_of, is_edge, vertex_of}
-use Rattle.worker_ranks.proofs.Edges.{edge-shows}
-use Rattle.worker_ranks.proofs.Graphs.{edge-there, vertex-from}
+use Rattle.worker_ranks.specs.inner.Vertices.{falls_from, is_close, vertex_of}
+use Rattle.worker_ranks.proofs.Edges.{close-edge, edge-shows}
+use Rattle.worker_ranks.proofs.Graphs.{vertex-from}
+use Rattle.worker_ranks.proofs.InTurn.{turned, turned-there}
 use Rattle.worker_ranks.proofs.Numbered.{Falls, is-numbering}
 use Rattle.worker_ranks.proofs.Texts.{turn-from}
 
@@ -60,37 +62,76 @@ module _ (ranks : List ℕ) where
 
 -- ---- a numbering falls along each edge
 
-module _ (ms : Members) (ranks : List ℕ) (is : IsNumbering (crew_of ms) (rank_in ms ranks)) where
-  abbrev vs : List Vertex
-  vs = map (vertex_of ms) (in_turn 0 ms)
+module _ (ms : Members) (rank : ℕ → ℕ → ℕ) (is : IsNumbering (crew_of ms) rank) where
+  lesser-so : (a b : Numbered) → slice_get (kinds_of ms a.worker) a.number ≡ Some a.saying.kind → ((a.worker ≡ b.worker) × (b.number < a.number)) ⊎ Needs (crew_of ms) a.worker a.number b.worker b.number
+      → rank b.worker b.number < rank a.worker a.number
+  lesser-so a b there (inl (same, lt)) =
+      subst (λ w. rank w b.number < rank a.worker a.number) same
+      (is.rises a.worker b.number a.number lt (slice_get_within (kinds_of ms a.worker) a.number a.saying.kind there))
+  lesser-so a b there (inr needs) = is.follows a.worker a.number b.worker b.number needs
 
-  numbering-falls : Falls (graph_of vs) ranks
-  numbering-falls s t f =
-      let e = edge-there vs s t f in
+  -- the events of two numbers, of which the second has the lesser rank
+  abbrev pub Lowers : ℕ → ℕ → Type 0
+  Lowers s t = (a : Numbered) × (b : Numbered) × (slice_get (in_turn 0 ms) s ≡ Some a) × (slice_get (in_turn 0 ms) t ≡ Some b) × (rank b.worker b.number < rank a.worker a.number)
+
+  pub edge-lowers : (s t : ℕ) → Follows (turned ms) s t → Lowers s t
+  edge-lowers s t f =
+      let e = turned-there ms s t f in
       let a = vertex-from ms (in_turn 0 ms) s e.0 e.2 in
       let b = vertex-from ms (in_turn 0 ms) t e.1 e.3 in
       let from = turn-from ms s a.0 a.1 in
       let to = turn-from ms t b.0 b.1 in
       let first = kind-there ms a.0.worker a.0.number a.0.saying from.1 in
       let second = kind-there ms b.0.worker b.0.number b.0.saying to.1 in
-      let edge = (λ i. is_edge (sym a.2 i) (sym b.2 i)) ∙ e.4 in
-      let lower = lesser-so a.0 b.0 first (edge-shows (crew_of ms) a.0.worker a.0.number b.0.worker b.0.number b.0.saying.kind second a.0.saying.kind first edge) in
-      subst (λ m. get_or ranks m 0 < get_or ranks s 0) (sym to.0) (subst (λ m. rank_in ms ranks b.0.worker b.0.number < get_or ranks m 0) (sym from.0) lower)
+      let edge = close-edge (vertex_of ms a.0) (vertex_of ms b.0) ((λ i. is_close (sym a.2 i) (sym b.2 i)) ∙ e.4) in
+      (a.0, b.0, a.1, b.1, lesser-so a.0 b.0 first (edge-shows (crew_of ms) a.0.worker a.0.number b.0.worker b.0.number b.0.saying.kind second a.0.saying.kind first edge))
+
+  -- the event of a number is one alone
+  same-event : (k : ℕ) (a b : Numbered) → slice_get (in_turn 0 ms) k ≡ Some a → slice_get (in_turn 0 ms) k ≡ Some b → rank a.worker a.number ≡ rank b.worker b.number
+  same-event k a b first second = let same : a ≡ b = one a b (sym first ∙ second) in ap (λ e. rank e.worker e.number) same
     where
-      lesser-so : (a b : Numbered) → slice_get (kinds_of ms a.worker) a.number ≡ Some a.saying.kind → ((a.worker ≡ b.worker) × (b.number < a.number)) ⊎ Needs (crew_of ms) a.worker a.number b.worker b.number
-          → rank_in ms ranks b.worker b.number < rank_in ms ranks a.worker a.number
-      lesser-so a b there (inl (same, lt)) =
-          subst (λ w. rank_in ms ranks w b.number < rank_in ms ranks a.worker a.number) same
-          (is.rises a.worker b.number a.number lt (slice_get_within (kinds_of ms a.worker) a.number a.saying.kind there))
-      lesser-so a b there (inr needs) = is.follows a.worker a.number b.worker b.number needs
+      one : (a b : Numbered) → Some a ≡ Some b → a ≡ b
+      one a b e = grind (arith, e)
 
-module _ (ms : Members) (events : List Numbered) (nodes : List Vertex) (next : List (List ℕ)) (ranks : List ℕ) (b : Bool)
-    (turn : events ≡ in_turn 0 ms) (held : nodes ≡ map (vertex_of ms) events) (graph : next ≡ graph_of nodes) (test : b ≡ falls_from ranks 0 next) where
-  laid : next ≡ graph_of (map (vertex_of ms) (in_turn 0 ms))
-  laid = graph ∙ ap graph_of (held ∙ ap (map (vertex_of ms)) turn)
+  way-lowers : (s : ℕ) (ks : List ℕ) (t : ℕ) → IsWay (turned ms) s ks t → Lowers s t
+  way-lowers s [] t f = edge-lowers s t f
+  way-lowers s (k ∷ ks) t (f, rest) =
+      let first = edge-lowers s k f in
+      let more = way-lowers k ks t rest in
+      let lower = first.4 in
+      let least = more.4 in
+      let between = same-event k first.1 more.0 first.3 more.2 in
+      (first.0, more.1, first.2, more.3, omega (arith, lower, least, between))
 
+  pub no-cycle : HasCycle (turned ms) → ⊥
+  no-cycle (i, cycle) =
+      let round = way-lowers i cycle.0 i cycle.1 in
+      let lower = round.4 in
+      let same = same-event i round.0 round.1 round.2 round.3 in
+      absurd (omega (arith, lower, same))
+
+module _ (ms : Members) (ranks : List ℕ) (is : IsNumbering (crew_of ms) (rank_in ms ranks)) where
+  numbering-falls : Falls (turned ms) ranks
+  numbering-falls s t f =
+      let lowers = edge-lowers ms (rank_in ms ranks) is s t f in
+      let from = turn-from ms s lowers.0 lowers.2 in
+      let to = turn-from ms t lowers.1 lowers.3 in
+      subst (λ m. get_or ranks m 0 < get_or ranks s 0) (sym to.0) (subst (λ m. rank_in ms ranks lowers.1.worker lowers.1.number < get_or ranks m 0) (sym from.0) lowers.4)
+
+module _ (ms : Members) (next : List (List ℕ)) (ranks : List ℕ) (b : Bool) (graph : next ≡ turned ms) (test : b ≡ falls_from ranks 0 next) where
   pub rises-if : b ≡ true ↔ IsNumbering (crew_of ms) (rank_in ms ranks)
   rises-if = (
-    λ so. is-numbering ms ranks (subst (λ g. Falls g ranks) laid (falls-if ranks next (sym test ∙ so))),
-    λ numbering. test ∙ if-falls ranks next (subst (λ g. Falls g ranks) (sym laid) (numbering-falls ms ranks numbering)),
+    λ so. is-numbering ms ranks (subst (λ g. Falls g ranks) graph (falls-if ranks next (sym test ∙ so))),
+    λ numbering. test ∙ if-falls ranks next (subst (λ g. Falls g ranks) (sym graph) (numbering-falls ms ranks numbering)),
   )
+
+-- ---- where no order was found there is no numbering
+
+module _ (ms : Members) (next : List (List ℕ)) (graph : next ≡ turned ms) where
+  cyclic-none : HasCycle next → ¬ IsOrderable (crew_of ms)
+  cyclic-none cycle (rank, is) = no-cycle ms rank is (subst HasCycle graph cycle)
+
+  pub none-so : {X Y Z : Type 0} (order : Option X) (r : Result (Option Z) Y) → IfNone order (HasCycle next) → IfOk r (λ found. IfNone found (order ≡ None)) → IfOk r (λ found. IfNone found (¬ IsOrderable (crew_of ms)))
+  none-so order (Ok None) cyclic none = cyclic-none (subst (λ o. IfNone o (HasCycle next)) none cyclic)
+  none-so order (Ok (Some ranks)) cyclic none = tt
+  none-so order (Err e) cyclic none = tt

@@ -1,9 +1,10 @@
 -- Each event of the text, and of workers in turn, is one that its worker says.
-use Rattle.std.proofs.Common.{◌≡◌, ◌∙◌, ◌<◌, ◌⊎◌, ◌+◌, ◌-◌, ◌++◌, ℕ, zero, suc, List, [], ◌∷◌, Some, map, get_or, length, refl, sym, subst, ap, inl, inr, arith}
-use Rattle.std.specs.Prelude.{All, filter, if◌then◌else◌, not, slice_get}
+use Rattle.std.proofs.Common.{◌≡◌, ◌∙◌, ◌⊎◌, ◌+◌, ◌-◌, ◌++◌, ℕ, zero, suc, Bool, true, false, List, [], ◌∷◌, Some, length, refl, sym, subst, ap, inl, inr, arith}
+use Rattle.std.specs.Prelude.{All, Contains, filter, if◌then◌else◌, not, slice_get}
 use Rattle.std.proofs.lemmas.Bool.{ne_eqb}
 use Rattle.std.proofs.lemmas.List.Elements.{All-append, All-filter, All-nil}
 use Rattle.worker_pairing.specs.Faults.{kinds_of, start_of}
+use Rattle.worker_pairing.proofs.Paired.{before-others, behind, filtered, in-front}
 use Rattle.worker_pairing.specs.Marks.{Member, Members, Numbered, Saying, in_text, in_turn, is_initial, numbered_from}
 use Rattle.worker_partners.specs.Partners.{sayings_of}
 use Rattle.worker_partners.proofs.Texts.{kind-there, numbered}
@@ -173,3 +174,36 @@ turn-from ms t e at =
     let worker = stands.1 in
     let same : stands.0 ≡ e.worker = omega (arith, worker) in
     (stands.2 ∙ ap (λ w. start_of ms w + e.number) same, ap (λ w. slice_get (sayings_of ms w) e.number) (sym same) ∙ stands.3)
+
+-- ---- what stands among workers in turn stands in the text
+
+held-at : {X : Type 0} (xs : List X) (i : ℕ) (x : X) → slice_get xs i ≡ Some x → Contains xs x
+held-at [] i x at = absurd (grind (arith, at))
+held-at (y ∷ xs) zero x at = let same : y ≡ x = grind (arith, at) in (0, omega arith, same)
+held-at (y ∷ xs) (suc i) x at = in-front y xs x (held-at xs i x at)
+
+stands-at : {X : Type 0} (xs : List X) (x : X) → Contains xs x → (i : ℕ) × (slice_get xs i ≡ Some x)
+stands-at [] x (k, lt, same) = absurd (omega (arith, lt))
+stands-at (y ∷ xs) x (zero, lt, same) = (0, ap Some same)
+stands-at (y ∷ xs) x (suc k, lt, same) = let more = stands-at xs x (k, omega (arith, lt), same) in (suc more.0, more.1)
+
+module _ (xs ys : List Numbered) (e : Numbered) where
+  abbrev mixed : List Numbered
+  mixed = filter is_initial xs ++ ys ++ filter (λ x. not (is_initial x)) xs
+
+  own-mixed : (b : Bool) → is_initial e ≡ b → Contains xs e → Contains mixed e
+  own-mixed true is there = before-others (filter is_initial xs ++ ys) (filter (λ x. not (is_initial x)) xs) e (before-others (filter is_initial xs) ys e (filtered is_initial xs e there is))
+  own-mixed false is there = behind (filter is_initial xs ++ ys) (filter (λ x. not (is_initial x)) xs) e (filtered (λ x. not (is_initial x)) xs e there (ap not is))
+
+  other-mixed : Contains ys e → Contains mixed e
+  other-mixed there = before-others (filter is_initial xs ++ ys) (filter (λ x. not (is_initial x)) xs) e (behind (filter is_initial xs) ys e there)
+
+  parts-mixed : (t : ℕ) → (slice_get xs t ≡ Some e) ⊎ ((k : ℕ) × (t ≡ length xs + k) × (slice_get ys k ≡ Some e)) → Contains mixed e
+  parts-mixed t (inl at) = own-mixed (is_initial e) refl (held-at xs t e at)
+  parts-mixed t (inr (k, place, at)) = other-mixed (held-at ys k e at)
+
+pub turn-in-text : (ms : Members) (t : ℕ) (e : Numbered) → slice_get (in_turn 0 ms) t ≡ Some e → (n : ℕ) × (slice_get (in_text ms) n ≡ Some e)
+turn-in-text [] t e at = absurd (grind (arith, at))
+turn-in-text (own ∷ named) t e at =
+    stands-at (in_text (own ∷ named)) e
+    (parts-mixed (numbered_from 0 0 own.sayings) (in_turn 1 named) e t (parted-at (numbered_from 0 0 own.sayings) (in_turn 1 named) t e at))

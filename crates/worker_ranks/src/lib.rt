@@ -5,9 +5,10 @@
 //! - [`ring_fault`]: the fault that shows the ring.
 //! - [`ranks_rise`]: whether ranks are such.
 //!
-//! The definitions of needs, numberings and rings stand in `worker_pairing`; `specs/Vertices.antt` has the events as vertices of a graph.
+//! The definitions of needs, numberings and rings stand in `worker_pairing`; `specs/inner` has the events as vertices of a graph.
 #![tactic(auto)]
 
+mod close;
 mod nodes;
 mod order;
 mod rings;

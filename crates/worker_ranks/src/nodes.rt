@@ -6,7 +6,7 @@ ghost use Rattle.operations.specs.Talk.{workers_in};
 ghost use Rattle.worker_pairing.specs.Events.{is_peer as is_peer_of, receives_from as receives_from_of, sends_to as sends_to_of};
 ghost use Rattle.worker_pairing.specs.Faults.{crew_of, kinds_of};
 ghost use Rattle.worker_members.specs.Held.{kind_of, member_held, numbered_held};
-ghost use Rattle.worker_ranks.specs.Vertices.{graph_of, is_among, is_edge as is_edge_of, needs_other, passing, place_in, vertex_held, vertex_of};
+ghost use Rattle.worker_ranks.specs.inner.Vertices.{graph_by, is_among, is_edge_by, needs_other, passing, place_in, vertex_held, vertex_of};
 
 use bal_base::Memory;
 use std::alloc::Global;
@@ -22,6 +22,15 @@ pub(crate) struct Node<'a> {
     pub kind: SaidKind<'a>,
     pub place: usize,
     pub last: bool,
+}
+
+/// Which edges a graph has besides those to what an event needs.
+#[derive(Clone, Copy)]
+pub(crate) enum Edges {
+    /// To each event before it in its worker.
+    Every,
+    /// To the one right before it.
+    Close,
 }
 
 /// How many messages on its way stand before an event in its worker.
@@ -93,7 +102,7 @@ pub(crate) fn nodes<'a>(
 }
 
 /// Whether the name is this worker's.
-fn is_peer(name: Option<u32>, worker: u32) -> bool
+pub(crate) fn is_peer(name: Option<u32>, worker: u32) -> bool
     ensures { result ≡ is_peer_of worker name }
 {
     match name {
@@ -103,7 +112,7 @@ fn is_peer(name: Option<u32>, worker: u32) -> bool
 }
 
 /// Whether one of these names is this worker's.
-fn is_named(names: &[Option<u32>], worker: u32) -> bool
+pub(crate) fn is_named(names: &[Option<u32>], worker: u32) -> bool
     ensures { result ≡ is_among (workers_in names.now) worker }
 {
     for name in names {
@@ -146,7 +155,7 @@ fn is_flushed(a: Node<'_>, b: Node<'_>, to: u32) -> bool
 }
 
 /// Whether the first needs the second.
-fn needs(a: Node<'_>, b: Node<'_>) -> bool
+pub(crate) fn needs(a: Node<'_>, b: Node<'_>) -> bool
     ensures { result ≡ needs_other (kind_of a.entry.kind) (vertex_held a.entry) (vertex_held b.entry) }
 {
     match a.kind {
@@ -166,14 +175,24 @@ fn is_behind(a: Node<'_>, b: Node<'_>) -> bool
     a.worker == b.worker && b.number < a.number
 }
 
-/// Whether the first follows the second in their worker, or needs it.
-fn is_edge(a: Node<'_>, b: Node<'_>) -> bool
-    ensures { result ≡ is_edge_of (vertex_held a.entry) (vertex_held b.entry) }
+/// Whether the first stands right behind the second in their worker.
+fn is_right_behind(a: Node<'_>, b: Node<'_>) -> bool
+    ensures { result ≡ ((a.entry.worker == b.entry.worker) && (b.entry.number + 1 == a.entry.number)) }
 {
-    is_behind(a, b) || needs(a, b)
+    a.worker == b.worker && is_next(b.number as usize, a.number as usize)
 }
 
-fn push_if(next: &mut Vec<usize>, number: usize, there: bool) -> Result<(), Memory>
+/// Whether such an edge goes from the first to the second.
+fn is_edge(edges: Edges, a: Node<'_>, b: Node<'_>) -> bool
+    ensures { result ≡ is_edge_by edges (vertex_held a.entry) (vertex_held b.entry) }
+{
+    match edges {
+        Edges::Every => is_behind(a, b) || needs(a, b),
+        Edges::Close => is_right_behind(a, b) || needs(a, b),
+    }
+}
+
+pub(crate) fn push_if(next: &mut Vec<usize>, number: usize, there: bool) -> Result<(), Memory>
     ensures { OnOk result (next.new.items ≡ next.old.items ++ (if there then number ∷ [] else [])) }
 {
     if there {
@@ -182,27 +201,37 @@ fn push_if(next: &mut Vec<usize>, number: usize, there: bool) -> Result<(), Memo
     Ok(())
 }
 
-/// The numbers of those that one of them follows or needs.
-fn followed(alloc: Global, nodes: &[Node<'_>], a: Node<'_>) -> Result<Vec<usize>, Memory>
-    ensures { IfOk result (λ next. next.items ≡ passing (is_edge_of (vertex_held a.entry)) 0 (map vertex_held nodes.now)) }
+/// The numbers of those to which an edge goes from one of them.
+fn followed(
+    alloc: Global,
+    edges: Edges,
+    nodes: &[Node<'_>],
+    a: Node<'_>,
+) -> Result<Vec<usize>, Memory>
+    ensures { IfOk result (λ next. next.items ≡ passing (is_edge_by edges (vertex_held a.entry)) 0 (map vertex_held nodes.now)) }
 {
     let mut next = Vec::new(alloc);
     let mut number: usize = 0;
     for b in nodes {
-        let there = is_edge(a, *b);
+        let there = is_edge(edges, a, *b);
         push_if(&mut next, number, there)?;
         number += 1;
     }
     Ok(next)
 }
 
-/// Of each vertex the numbers of those that it follows or needs. Takes time that grows with the square of their number.
-pub(crate) fn graph(alloc: Global, nodes: &[Node<'_>]) -> Result<Vec<Vec<usize>>, Memory>
-    ensures { IfOk result (λ graph. map (λ v. v.items) graph.items ≡ graph_of (map vertex_held nodes.now)) }
+/// Of each vertex the numbers of those to which such edges go. Takes time that grows with the square of their number, and memory that
+/// grows with the edges.
+pub(crate) fn graph(
+    alloc: Global,
+    edges: Edges,
+    nodes: &[Node<'_>],
+) -> Result<Vec<Vec<usize>>, Memory>
+    ensures { IfOk result (λ graph. map (λ v. v.items) graph.items ≡ graph_by (is_edge_by edges) (map vertex_held nodes.now)) }
 {
     let mut graph = Vec::new(alloc);
     for a in nodes {
-        let next = followed(alloc, nodes, *a)?;
+        let next = followed(alloc, edges, nodes, *a)?;
         graph.push(next)?;
     }
     Ok(graph)

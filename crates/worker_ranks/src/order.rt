@@ -1,15 +1,15 @@
 //! Ranks from an order of the events.
 #![tactic(auto)]
 
-ghost use Rattle.std.specs.Prelude.{◌≡◌, IfOk, IfSome, IsSomeAnd, length, map};
-ghost use Rattle.worker_pairing.specs.Events.{IsNumbering};
+ghost use Rattle.std.specs.Prelude.{◌≡◌, IfNone, IfOk, IfSome, IsSomeAnd, None as Absent, length, map};
+ghost use Rattle.worker_pairing.specs.Events.{IsNumbering, IsOrderable};
 ghost use Rattle.worker_pairing.specs.Faults.{crew_of, rank_in as rank_in_of};
 ghost use Rattle.worker_pairing.specs.Marks.{in_text};
 ghost use Rattle.worker_members.specs.Held.{member_held};
-ghost use Rattle.worker_ranks.specs.Vertices.{AreRanks, IsFirstPlace};
+ghost use Rattle.worker_ranks.specs.inner.Vertices.{AreRanks, IsFirstPlace};
 
-use crate::nodes::{graph, nodes};
-use crate::turns::in_turn_of;
+use crate::close::close_graph;
+use crate::turns::groups;
 use bal_base::Memory;
 use graphs::parts_first;
 use std::alloc::Global;
@@ -67,7 +67,8 @@ fn ranks_from(
     order: Option<Vec<usize>>,
     count: usize,
 ) -> Result<Option<Vec<u32>>, Memory>
-    ensures { IfOk result (λ found. IfSome found (λ ranks. IsSomeAnd order (λ o. AreRanks o.items ranks.items count))) }
+    ensures some { IfOk result (λ found. IfSome found (λ ranks. IsSomeAnd order (λ o. AreRanks o.items ranks.items count))) }
+    ensures none { IfOk result (λ found. IfNone found (order ≡ Absent)) }
 {
     match order {
         Some(order) => {
@@ -78,15 +79,16 @@ fn ranks_from(
     }
 }
 
-/// A rank for each event, worker by worker, so that they are a numbering; or none where events wait for one another in a ring. Takes
-/// time and memory that grow with the square of the events. Wants memory alone, also where a number is past 2^32.
+/// A rank for each event, worker by worker, so that they are a numbering; or none where there is no numbering, since events wait for one
+/// another in a ring. An event costs a look at those of its worker before it, at those of the workers of which it may need some, and at
+/// the order; the memory grows with the events and their needs. Wants memory alone, also where a number is past 2^32.
 pub fn ranked(alloc: Global, workers: &[HeldMember<'_>]) -> Result<Option<Vec<u32>>, Memory>
     ensures long { IfOk result (λ found. IfSome found (λ ranks. length ranks.items ≡ length (in_text (map member_held workers.now)))) }
+    ensures none { IfOk result (λ found. IfNone found (¬ IsOrderable (crew_of (map member_held workers.now)))) }
     ensures numbering { IfOk result (λ found. IfSome found (λ ranks. IsNumbering (crew_of (map member_held workers.now)) (rank_in_of (map member_held workers.now) ranks.items))) }
 {
-    let events = in_turn_of(alloc, workers)?;
-    let vertices = nodes(alloc, workers, &events)?;
-    let next = graph(alloc, &vertices)?;
+    let groups = groups(alloc, workers)?;
+    let next = close_graph(alloc, &groups)?;
     let order = parts_first(alloc, &next)?;
     ranks_from(alloc, order, next.len())
 }

@@ -1,18 +1,19 @@
 //! The ring of events that allows no ranks.
 #![tactic(auto)]
 
-ghost use Rattle.std.specs.Prelude.{◌≡◌, ◌++◌, ◌∷◌, IfOk, IfSome, IsSomeAnd, OnOk, map};
+ghost use Rattle.std.specs.Prelude.{◌≡◌, ◌++◌, ◌∷◌, IfOk, IfSome, IsSomeAnd, List, OnOk, map, option_map, ℕ};
 ghost use Rattle.std.specs.List.{flat_map};
 ghost use Rattle.bal_base.specs.declared.fault.FaultCode.TheVariants.{WaitCycle};
 ghost use Rattle.bal_base.specs.declared.fault.Kept.TheVariants.{Events as ShowsEvents};
 ghost use Rattle.checks.specs.Questions.{IsFault};
+ghost use Rattle.graphs.specs.Cycles.{IsCycleFound};
 ghost use Rattle.graphs.specs.Distances.{IsReversed};
 ghost use Rattle.worker_pairing.specs.Faults.{IsRingFault, event_of as event_held};
 ghost use Rattle.worker_pairing.specs.Marks.{in_text};
 ghost use Rattle.worker_members.specs.Held.{member_held, numbered_held};
-ghost use Rattle.worker_ranks.specs.Vertices.{IsRing, ShowsRing, place_in_text, shown};
+ghost use Rattle.worker_ranks.specs.inner.Vertices.{IsNoneBefore, IsRingAt, IsRingOf, ShowsRing, close_of, graph_of, place_in_text, shown, vertex_held};
 
-use crate::nodes::{graph, nodes};
+use crate::nodes::{Edges, Node, graph, nodes};
 use bal_base::{Event, Fault, FaultCode, Kept, Memory, Place, Row};
 use graphs::{first_cycle, reversed};
 use std::alloc::Global;
@@ -25,31 +26,93 @@ pub(crate) struct Ring {
     others: Vec<usize>,
 }
 
-/// The ring that begins with the first number that lies on one. Each number in front costs a search of the graph.
-fn first_ring(
+/// The first number that lies on a cycle. Each number in front costs a search of the graph.
+fn first_on_cycle(
     alloc: Global,
     next: &[Vec<usize>],
     back: &[Vec<usize>],
-) -> Result<Option<Ring>, Memory>
+) -> Result<Option<usize>, Memory>
     requires reversed { IsReversed (map (λ v. v.items) next.now) (map (λ v. v.items) back.now) }
-    ensures { IfOk result (λ found. IfSome found (λ ring. IsRing (map (λ v. v.items) next.now) ring.first ring.others.items)) }
+    ensures { IfOk result (λ found. IfSome found (IsNoneBefore (map (λ v. v.items) next.now))) }
 {
     for first in 0..back.len() {
         let found = first_cycle(alloc, next, back, first)?;
         match found {
-            Some(others) => return Ok(Some(Ring { first, others })),
+            Some(_) => return Ok(Some(first)),
             None => {}
         }
     }
     Ok(None)
 }
 
-/// The ring of a graph.
-fn ring_of(alloc: Global, next: &[Vec<usize>]) -> Result<Option<Ring>, Memory>
-    ensures { IfOk result (λ found. IfSome found (λ ring. IsRing (map (λ v. v.items) next.now) ring.first ring.others.items)) }
+/// The same of a graph that isn't turned round yet.
+fn first_in(alloc: Global, next: &[Vec<usize>]) -> Result<Option<usize>, Memory>
+    ensures { IfOk result (λ found. IfSome found (IsNoneBefore (map (λ v. v.items) next.now))) }
 {
     let back = reversed(alloc, next)?;
-    first_ring(alloc, next, &back)
+    first_on_cycle(alloc, next, &back)
+}
+
+/// The first of the events that lies on a ring.
+fn first_of(alloc: Global, vertices: &[Node<'_>]) -> Result<Option<usize>, Memory>
+    ensures { IfOk result (λ found. IfSome found (IsNoneBefore (close_of (map vertex_held vertices.now)))) }
+{
+    let next = graph(alloc, Edges::Close, vertices)?;
+    first_in(alloc, &next)
+}
+
+/// What was found of cycles that begin with a number, as a ring.
+fn ring_with(first: usize, found: Option<Vec<usize>>) -> Option<Ring>
+    ensures { (next : List (List ℕ)) → IsCycleFound next first (option_map (λ v. v.items) found) → IfSome result (λ ring. IsRingAt next first ring.first ring.others.items) }
+{
+    match found {
+        Some(others) => Some(Ring { first, others }),
+        None => None,
+    }
+}
+
+/// The first of the shortest rings that begin with a number.
+fn ring_from(
+    alloc: Global,
+    next: &[Vec<usize>],
+    back: &[Vec<usize>],
+    first: usize,
+) -> Result<Option<Ring>, Memory>
+    requires reversed { IsReversed (map (λ v. v.items) next.now) (map (λ v. v.items) back.now) }
+    ensures { IfOk result (λ found. IfSome found (λ ring. IsRingAt (map (λ v. v.items) next.now) first ring.first ring.others.items)) }
+{
+    if first >= back.len() {
+        return Ok(None);
+    }
+    let found = first_cycle(alloc, next, back, first)?;
+    Ok(ring_with(first, found))
+}
+
+/// The same of a graph that isn't turned round yet.
+fn ring_in(alloc: Global, next: &[Vec<usize>], first: usize) -> Result<Option<Ring>, Memory>
+    ensures { IfOk result (λ found. IfSome found (λ ring. IsRingAt (map (λ v. v.items) next.now) first ring.first ring.others.items)) }
+{
+    let back = reversed(alloc, next)?;
+    ring_from(alloc, next, &back, first)
+}
+
+/// The same of the events.
+fn ring_at(alloc: Global, vertices: &[Node<'_>], first: usize) -> Result<Option<Ring>, Memory>
+    ensures { IfOk result (λ found. IfSome found (λ ring. IsRingAt (graph_of (map vertex_held vertices.now)) first ring.first ring.others.items)) }
+{
+    let next = graph(alloc, Edges::Every, vertices)?;
+    ring_in(alloc, &next, first)
+}
+
+/// The ring of the events. All their edges are held only where there is one.
+fn ring_of(alloc: Global, vertices: &[Node<'_>]) -> Result<Option<Ring>, Memory>
+    ensures { IfOk result (λ found. IfSome found (λ ring. IsRingOf (map vertex_held vertices.now) ring.first ring.others.items)) }
+{
+    let found = first_of(alloc, vertices)?;
+    match found {
+        Some(first) => ring_at(alloc, vertices, first),
+        None => Ok(None),
+    }
 }
 
 /// An event as it is shown.
@@ -133,8 +196,9 @@ fn shown_ring(
 
 /// The ring in which events of the workers wait for one another, as `WaitCycle` at its first event, where there is one: it begins with
 /// the first event in text order that lies on a ring, and is a shortest one, and of those the one whose events come first in text order.
-/// `text` has all events in text order. Takes memory that grows with the square of the events, and for each event in front of the first
-/// one a search of what each follows or needs. Wants memory alone.
+/// `text` has all events in text order. Takes time that grows with the square of the events, for each event in front of the first one a
+/// search of what events need and of those right before them, and, where there is a ring, memory that grows with the square of the
+/// events. Wants memory alone.
 pub fn ring_fault(
     alloc: Global,
     workers: &[HeldMember<'_>],
@@ -144,7 +208,6 @@ pub fn ring_fault(
     ensures { IfOk result (λ found. IfSome found (IsRingFault (map member_held workers.now))) }
 {
     let vertices = nodes(alloc, workers, text)?;
-    let next = graph(alloc, &vertices)?;
-    let found = ring_of(alloc, &next)?;
+    let found = ring_of(alloc, &vertices)?;
     shown_ring(alloc, text, found)
 }

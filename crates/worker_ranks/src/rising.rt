@@ -6,10 +6,10 @@ ghost use Rattle.std.specs.List.{list_all};
 ghost use Rattle.worker_pairing.specs.Events.{IsNumbering};
 ghost use Rattle.worker_pairing.specs.Faults.{crew_of, rank_in};
 ghost use Rattle.worker_members.specs.Held.{member_held};
-ghost use Rattle.worker_ranks.specs.Vertices.{falls_from};
+ghost use Rattle.worker_ranks.specs.inner.Vertices.{falls_from};
 
-use crate::nodes::{graph, nodes};
-use crate::turns::in_turn_of;
+use crate::close::close_graph;
+use crate::turns::groups;
 use bal_base::Memory;
 use std::alloc::Global;
 use worker_members::HeldMember;
@@ -51,13 +51,13 @@ fn all_fall(next: &[Vec<usize>], ranks: &[u32]) -> bool
     true
 }
 
-/// Whether ranks, worker by worker, rise along each worker and from what an event needs to it. Takes time and memory that grow with the
-/// square of the events. Wants memory alone, also where a number is past 2^32.
+/// Whether ranks, worker by worker, rise along each worker and from what an event needs to it. An event costs a look at those of its
+/// worker before it, and at those of the workers of which it may need some; the memory grows with the events and their needs. Wants
+/// memory alone, also where a number is past 2^32.
 pub fn ranks_rise(alloc: Global, workers: &[HeldMember<'_>], ranks: &[u32]) -> Result<bool, Memory>
     ensures { IfOk result (λ b. b ≡ true ↔ IsNumbering (crew_of (map member_held workers.now)) (rank_in (map member_held workers.now) ranks.now)) }
 {
-    let events = in_turn_of(alloc, workers)?;
-    let vertices = nodes(alloc, workers, &events)?;
-    let next = graph(alloc, &vertices)?;
+    let groups = groups(alloc, workers)?;
+    let next = close_graph(alloc, &groups)?;
     Ok(all_fall(&next, ranks))
 }

@@ -1,6 +1,6 @@
 use Rattle.std.proofs.Common.{◌≡◌, drop}
 use Rattle.operations.specs.Talk.{workers_in}
-use Rattle.worker_ranks.specs.Vertices.{is_among}
+use Rattle.worker_ranks.specs.inner.Vertices.{is_among}
 use Rattle.worker_ranks.proofs.nodes.is_named.Given as goal
 
 abbrev pub invariant-loop-name : goal.invariant-loop-name

@@ -1,6 +1,6 @@
 use Rattle.std.proofs.Common.{◌≡◌, ◌++◌, drop, map}
 use Rattle.worker_members.specs.Held.{member_held, numbered_held}
-use Rattle.worker_ranks.specs.Vertices.{vertex_held, vertex_of}
+use Rattle.worker_ranks.specs.inner.Vertices.{vertex_held, vertex_of}
 use Rattle.worker_ranks.proofs.nodes.nodes.Given as goal
 
 abbrev pub invariant-loop-event : goal.invariant-loop-event

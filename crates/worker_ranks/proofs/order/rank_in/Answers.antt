@@ -1,5 +1,3 @@
-use Rattle.std.proofs.Common.{subst, sym}
-use Rattle.worker_ranks.specs.Vertices.{IsFirstPlace}
 use Rattle.worker_ranks.proofs.Placed.{rank-ok}
 use Rattle.worker_ranks.proofs.order.rank_in.Goals as goal
 

@@ -1,5 +1,5 @@
 use Rattle.std.proofs.Common.{◌+◌, ap, arith, length, subst, sym}
-use Rattle.worker_ranks.specs.Vertices.{AreRanks}
+use Rattle.worker_ranks.specs.inner.Vertices.{AreRanks}
 use Rattle.worker_ranks.proofs.Placed.{ranks-more}
 use Rattle.worker_ranks.proofs.order.ranks_of.Goals as goal
 

@@ -1,4 +1,4 @@
-use Rattle.worker_ranks.specs.Vertices.{AreRanks}
+use Rattle.worker_ranks.specs.inner.Vertices.{AreRanks}
 use Rattle.worker_ranks.proofs.order.ranks_of.Given as goal
 
 abbrev pub invariant-loop-number : goal.invariant-loop-number

@@ -1,8 +1,8 @@
-use Rattle.std.proofs.Common.{◌≡◌, ◌∙◌, ap, map, subst, sym}
+use Rattle.std.proofs.Common.{◌∙◌, ap, map, subst, sym}
 use Rattle.std.specs.Prelude.{◌∷◌, IsSomeAnd}
 use Rattle.std.specs.List.{flat_map}
 use Rattle.worker_members.specs.Held.{numbered_held}
-use Rattle.worker_ranks.specs.Vertices.{ShowsRing, shown}
+use Rattle.worker_ranks.specs.inner.Vertices.{ShowsRing, shown}
 use Rattle.worker_ranks.proofs.Ringed.{shows-so}
 use Rattle.worker_ranks.proofs.rings.shown_ring.Goals as goal
 

@@ -1,5 +1,5 @@
 use Rattle.std.proofs.Common.{◌≡◌, drop, map}
-use Rattle.worker_ranks.specs.Vertices.{falls_from}
+use Rattle.worker_ranks.specs.inner.Vertices.{falls_from}
 use Rattle.worker_ranks.proofs.rising.all_fall.Given as goal
 
 abbrev pub invariant-loop-followed : goal.invariant-loop-followed

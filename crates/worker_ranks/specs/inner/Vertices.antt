@@ -1,5 +1,5 @@
 -- Events as the vertices of a graph: of each so much that two of them show whether one follows or needs the other.
-use Rattle.std.specs.Prelude.{◌≡◌, ◌≤◌, ◌<◌, ◌+◌, ◌++◌, ◌&&◌, ◌||◌, ◌==◌, ℕ, suc, Bool, true, false, List, [], ◌∷◌, Option, Some, None, get_or, if◌then◌else◌, length, map, nat_lt, option_map, slice_get}
+use Rattle.std.specs.Prelude.{◌≡◌, ◌≤◌, ◌<◌, ◌+◌, ◌++◌, ◌&&◌, ◌||◌, ◌==◌, ℕ, Bool, true, false, List, [], ◌∷◌, Option, Some, None, get_or, if◌then◌else◌, length, map, nat_lt, option_map, slice_get}
 use Rattle.std.specs.List.{flat_map, list_all, list_any}
 use Rattle.bal_base.specs.declared.fault.Event.{Event}
 use Rattle.bal_base.specs.declared.fault.Fault.{Fault}
@@ -14,6 +14,8 @@ use Rattle.worker_pairing.specs.Events.{Crew, before, events_of, receives_from, 
 use Rattle.worker_pairing.specs.Faults.{crew_of, event_of}
 use Rattle.worker_pairing.specs.Marks.{Members, Numbered}
 use Rattle.worker_members.specs.Held.{kind_of}
+use Rattle.worker_ranks.specs.declared.nodes.Edges.{Edges}
+use Rattle.worker_ranks.specs.declared.nodes.Edges.TheVariants.{Close, Every}
 use Rattle.worker_ranks.specs.declared.nodes.Node.{Node}
 
 -- `place` is how many messages on its way stand before the event in its worker, and `last` whether none stands behind it there
@@ -67,14 +69,30 @@ needs_other End a b = false
 abbrev pub is_edge : Vertex → Vertex → Bool
 is_edge a b = ((a.worker == b.worker) && nat_lt b.number a.number) || needs_other a.kind a b
 
+-- the first stands right behind the second in its worker, or needs it
+abbrev pub is_close : Vertex → Vertex → Bool
+is_close a b = ((a.worker == b.worker) && (b.number + 1 == a.number)) || needs_other a.kind a b
+
+abbrev pub is_edge_by : Edges → Vertex → Vertex → Bool
+is_edge_by Every = is_edge
+is_edge_by Close = is_close
+
 -- the numbers, counted from this one on, of those that pass the test
 abbrev pub passing : (Vertex → Bool) → ℕ → List Vertex → List ℕ
 passing test n [] = []
 passing test n (b ∷ bs) = (if test b then n ∷ [] else []) ++ passing test (n + 1) bs
 
+-- of each vertex the numbers of those to which such an edge goes
+abbrev pub graph_by : (Vertex → Vertex → Bool) → List Vertex → List (List ℕ)
+graph_by edge vs = map (λ a. passing (edge a) 0 vs) vs
+
 -- of each vertex the numbers of those that it follows or needs
 abbrev pub graph_of : List Vertex → List (List ℕ)
-graph_of vs = map (λ a. passing (is_edge a) 0 vs) vs
+graph_of = graph_by is_edge
+
+-- the same with the one right before it alone of those that it follows
+abbrev pub close_of : List Vertex → List (List ℕ)
+close_of = graph_by is_close
 
 -- ---- ranks
 
@@ -91,9 +109,18 @@ pub record AreRanks (order ranks : List ℕ) (count : ℕ) : Type 0 where
 
 -- ---- rings
 
--- no number before the first is on a cycle, and these are the first of the shortest cycles that begin with it
-abbrev pub IsRing : List (List ℕ) → ℕ → List ℕ → Type 0
-IsRing next first others = ((i : ℕ) → i < first → ¬ IsOnCycle next i) × IsFirstCycle next first others
+-- no number before this one is on a cycle
+abbrev pub IsNoneBefore : List (List ℕ) → ℕ → Type 0
+IsNoneBefore next first = (i : ℕ) → i < first → ¬ IsOnCycle next i
+
+-- these are the others of the ring that begins with the number
+abbrev pub IsRingAt : List (List ℕ) → ℕ → ℕ → List ℕ → Type 0
+IsRingAt next number first others = (first ≡ number) × IsFirstCycle next first others
+
+-- of the vertices none before the first is on a cycle by close edges, and these are the first of the shortest cycles by all edges that
+-- begin with it
+abbrev pub IsRingOf : List Vertex → ℕ → List ℕ → Type 0
+IsRingOf vs first others = IsNoneBefore (close_of vs) first × IsFirstCycle (graph_of vs) first others
 
 -- an event as it is shown, where there is one
 abbrev pub one_shown : Option Numbered → List Event

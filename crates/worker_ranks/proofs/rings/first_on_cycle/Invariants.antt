@@ -1,6 +1,6 @@
 use Rattle.std.proofs.Common.{◌<◌, ℕ, map}
 use Rattle.graphs.specs.Cycles.{IsOnCycle}
-use Rattle.worker_ranks.proofs.rings.first_ring.Given as goal
+use Rattle.worker_ranks.proofs.rings.first_on_cycle.Given as goal
 
 abbrev pub invariant-loop-first : goal.invariant-loop-first
 invariant-loop-first l = (i : ℕ) → i < l.first → ¬ IsOnCycle (map (λ v. v.items) l.next) i

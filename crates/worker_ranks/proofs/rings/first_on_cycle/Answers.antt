@@ -2,7 +2,7 @@ use Rattle.std.proofs.Common.{arith, map, subst}
 use Rattle.std.specs.Prelude.{option_map}
 use Rattle.graphs.specs.Cycles.{IsCycleFound}
 use Rattle.worker_ranks.proofs.Ringed.{none-before-next}
-use Rattle.worker_ranks.proofs.rings.first_ring.Goals as goal
+use Rattle.worker_ranks.proofs.rings.first_on_cycle.Goals as goal
 
 pub loop-first-init : goal.loop-first-init
 loop-first-init c i lt = absurd (omega (arith, lt))
