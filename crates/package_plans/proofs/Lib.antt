@@ -1,0 +1,2 @@
+mod Defining
+mod Turns
