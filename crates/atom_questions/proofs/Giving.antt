@@ -78,7 +78,7 @@ module _ (env new : List AtomDef) (keeps : KeepsTypes env new) (f : SemType) (ar
   fails-kept x (h, c, shape, answers, zip, e, o) = (h, c, (shape.0, (keeps.shapes f f_defined h).1 shape.1), answers, (zip-kept (shapes_list c.args) args args_defined).1 zip, e, o)
 
   -- arguments at which a function fails show that one does
-  so-fails : (x : Shape) → FailsAt env f args x → ¬ (NeverFails env f args)
+  pub so-fails : (x : Shape) → FailsAt env f args x → ¬ (NeverFails env f args)
   so-fails x (h, c, shape, answers, zip, e, o) never = never (h, c, shape, answers, zip, e)
 
   module _ (n : ℕ) (def : AtomDef) (there : slice_get new n ≡ Some def) (is : IsArgsDef args def) (r : SemType) (r_defined : IsDefined env r) where

@@ -1,5 +1,6 @@
 mod Arguments
 mod FieldAtoms
+mod FutureAtoms
 mod Giving
-mod Stops
-mod Zipping
+pub mod NeedsKept
+pub mod Stops

@@ -1,5 +1,5 @@
 -- Limits of single steps as limits of a need.
-use Rattle.std.proofs.Common.{◌≡◌, ◌++◌, ◌+◌, ◌<◌, ℕ, List, [], ◌∷◌, Result, Ok, Err, Some, IfOk, arith, inl, inr, length, length-append, refl, slice_get, sym, subst}
+use Rattle.std.proofs.Common.{◌≡◌, ◌++◌, ◌+◌, ◌<◌, ℕ, List, [], ◌∷◌, Result, Ok, Err, Some, IfOk, OnOk, arith, inl, inr, length, length-append, refl, slice_get, sym, subst}
 use Rattle.bal_base.specs.declared.stop.Stop.{Stop}
 use Rattle.bal_base.specs.declared.stop.Stop.TheVariants.{Fault, Memory}
 use Rattle.bal_base.specs.Stops.{IfFault}
@@ -16,6 +16,8 @@ use Rattle.type_model.specs.Inclusion.{AnswersSub}
 use Rattle.atom_questions.specs.declared.limits.QuestionLimit.{QuestionLimit}
 use Rattle.atom_questions.specs.declared.limits.QuestionLimit.TheVariants.{Atoms, Types}
 use Rattle.atom_questions.specs.Added.{HasOneMore, IsFunctionsOf}
+use Rattle.atom_questions.specs.FutureNeeds.{AsksAtom}
+use Rattle.atom_questions.specs.inner.Applying.{IsAnsweredOf}
 use Rattle.atom_questions.specs.inner.Stopping.{ApplyPasses, IsAnsweredIn, IsToldByApplying, IsToldOf, ResultPasses, TooManyAtoms, TypesPass}
 use Rattle.atom_questions.specs.Limits.{OneMoreStops}
 
@@ -89,6 +91,20 @@ module _ (old new : List AtomDef) (def : AtomDef) (atom : ℕ) (first : atom ≡
       types-stop passes old def (λ d. d ≡ def) (λ env asked. asked ≡ Without m (Atom (length old))) refl (Without m (Atom (length old))) refl r
       (subst (λ (env : List AtomDef). IfFault r (TypesPass passes env (Without m (Atom (length old))))) added (subst (λ (n : ℕ). IfFault r (TypesPass passes new (Without m (Atom n)))) first h))
 
+  -- the same of the atom below a type
+  pub answered-of : (r : SemType) → KeepsTypes old new → (res : Result Answer (Stop QuestionLimit)) → IfOk res (AnswersSub new (Atom atom) r) → IfOk res (IsAnsweredOf old def r)
+  answered-of r kept (Ok a) h = (
+    subst (λ (env : List AtomDef). KeepsTypes old env) added kept,
+    subst (λ (env : List AtomDef). AnswersSub env (Atom (length old)) r a) added (subst (λ (n : ℕ). AnswersSub new (Atom n) r a) first h),
+  )
+  answered-of r kept (Err e) h = tt
+
+  pub passes-of : (passes : List AtomDef → Asked → TypeLimit → Type 0) (r : SemType) (res : Result Answer (Stop QuestionLimit)) → IfFault res (TypesPass passes new (Without (Atom atom) r))
+      → IfFault res (OneMoreStops passes old (λ d. d ≡ def) (AsksAtom (length old) r))
+  passes-of passes r res h =
+      types-stop passes old def (λ d. d ≡ def) (AsksAtom (length old) r) refl (Without (Atom (length old)) r) refl res
+      (subst (λ (env : List AtomDef). IfFault res (TypesPass passes env (Without (Atom (length old)) r))) added (subst (λ (n : ℕ). IfFault res (TypesPass passes new (Without (Atom n) r))) first h))
+
 -- the last atom has the definition that was added
 pub last-there : (old : List AtomDef) (def : AtomDef) → slice_get (old ++ def ∷ []) (length old) ≡ Some def
 last-there [] def = refl
@@ -102,3 +118,30 @@ more-on old D E on new (inr (d, is, e)) = inr (d, on d is, e)
 pub there-in : (old new : List AtomDef) (def : AtomDef) (atom : ℕ) → atom ≡ length old → new ≡ old ++ def ∷ [] → slice_get new atom ≡ Some def
 there-in old new def atom first added =
     subst (λ (env : List AtomDef). slice_get env atom ≡ Some def) (sym added) (subst (λ (n : ℕ). slice_get (old ++ def ∷ []) n ≡ Some def) (sym first) (last-there old def))
+
+-- ---- results
+
+module _ {A E : Type 0} where
+  pub ok-on : (P Q : A → Type 0) → ((a : A) → P a → Q a) → (r : Result A E) → IfOk r P → IfOk r Q
+  ok-on P Q on (Ok a) h = on a h
+  ok-on P Q on (Err e) h = tt
+
+  pub where-ok : (P : Type 0) → P → (r : Result A E) → OnOk r P
+  where-ok P h (Ok a) = h
+  where-ok P h (Err e) = tt
+
+  pub where-ok-on : (P Q : Type 0) → (P → Q) → (r : Result A E) → OnOk r P → OnOk r Q
+  where-ok-on P Q on (Ok a) h = on h
+  where-ok-on P Q on (Err e) h = tt
+
+  pub faults-on : (P Q : E → Type 0) → ((e : E) → P e → Q e) → (r : Result A (Stop E)) → IfFault r P → IfFault r Q
+  faults-on P Q on (Ok a) h = tt
+  faults-on P Q on (Err Memory) h = tt
+  faults-on P Q on (Err (Fault e)) h = on e h
+
+-- types that are kept twice
+pub kept-on : (old env new : List AtomDef) → KeepsTypes old env → KeepsTypes env new → KeepsTypes old new
+kept-on old env new one two = record {
+  defined = λ t d. two.defined t (one.defined t d);
+  shapes = λ t d x. ((λ i. (two.shapes t (one.defined t d) x).0 ((one.shapes t d x).0 i)), (λ i. (one.shapes t d x).1 ((two.shapes t (one.defined t d) x).1 i)));
+}

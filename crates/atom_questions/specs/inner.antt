@@ -1,2 +1,3 @@
+pub mod Applying
 pub mod Fields
 pub mod Stopping

@@ -1,11 +1,16 @@
 //! An atom more, and what is asked of it.
 ghost use Rattle.std.specs.Prelude.{◌≡◌, ◌++◌, ◌∷◌, [], All, IfOk, OnErr, OnOk, length};
 ghost use Rattle.bal_base.specs.Stops.{IfFault};
+ghost use Rattle.type_model.specs.declared.basic.SemType.{Atom};
 ghost use Rattle.type_model.specs.Calls.{KeepsTypes, Without};
 ghost use Rattle.type_model.specs.Defined.{DefBelow, IsDefined, IsDefinedGroup};
 ghost use Rattle.type_model.specs.Inclusion.{AnswersSub};
 ghost use Rattle.type_model.specs.Places.{HasDistinctFields};
+ghost use Rattle.atom_questions.specs.Added.{HasOneMore};
+ghost use Rattle.atom_questions.specs.FutureNeeds.{AsksAtom};
+ghost use Rattle.atom_questions.specs.inner.Applying.{IsAnsweredOf};
 ghost use Rattle.atom_questions.specs.inner.Stopping.{TooManyAtoms, TypesPass};
+ghost use Rattle.atom_questions.specs.Limits.{OneMoreStops};
 
 use crate::limits::QuestionLimit;
 use bal_base::{Memory, Stop};
@@ -79,5 +84,26 @@ pub(crate) fn below<T: Types>(
         Ok(answer) => Ok(answer),
         Err(Stop::Fault(limit)) => Err(Stop::Fault(QuestionLimit::Types(limit))),
         Err(Stop::Memory) => Err(Stop::Memory),
+    }
+}
+
+/// Whether all shapes of the atom, which is added, are in the type.
+pub(crate) fn has_atom<T: Types>(
+    alloc: Global,
+    types: &mut T,
+    def: AtomDef,
+    r: &SemType,
+) -> Result<Answer, Stop<QuestionLimit>>
+    requires named { DefBelow (length (T.atoms types.old)) def }
+    requires distinct { HasDistinctFields def }
+    requires right { IsDefined (T.atoms types.old) r.now }
+    ensures kept { KeepsTypes (T.atoms types.old) (T.atoms types.new) }
+    ensures added { HasOneMore (T.atoms types.old) (λ d. d ≡ def) (T.atoms types.new) }
+    ensures answer { IfOk result (IsAnsweredOf (T.atoms types.old) def r.now) }
+    ensures limit { IfFault result (OneMoreStops T.passes (T.atoms types.old) (λ d. d ≡ def) (AsksAtom (length (T.atoms types.old)) r.now)) }
+{
+    match add_one(alloc, types, def) {
+        Ok(atom) => below(alloc, types, &SemType::Atom(atom), r),
+        Err(stop) => Err(stop),
     }
 }

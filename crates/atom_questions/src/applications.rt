@@ -41,7 +41,7 @@ fn plain_types(alloc: Global, types: &[SemType]) -> Result<Vec<Ty>, Memory>
 }
 
 /// Lists of just these arguments.
-fn args_def(alloc: Global, args: &[SemType]) -> Result<AtomDef, Memory>
+pub(crate) fn args_def(alloc: Global, args: &[SemType]) -> Result<AtomDef, Memory>
     ensures { IfOk result (IsArgsDef args.now) }
 {
     Ok(AtomDef::List {
@@ -51,7 +51,7 @@ fn args_def(alloc: Global, args: &[SemType]) -> Result<AtomDef, Memory>
 }
 
 /// The functions of a type.
-fn functions_of(alloc: Global, f: &SemType) -> Result<SemType, Memory>
+pub(crate) fn functions_of(alloc: Global, f: &SemType) -> Result<SemType, Memory>
     ensures { IfOk result (IsFunctionsOf f.now) }
 {
     let own = Box::new(alloc, f.copy(alloc)?)?;
@@ -60,7 +60,7 @@ fn functions_of(alloc: Global, f: &SemType) -> Result<SemType, Memory>
 }
 
 /// What the functions give to the arguments, or arguments at which one fails. `Types` where the question is too large.
-fn apply<T: Types>(
+pub(crate) fn apply<T: Types>(
     alloc: Global,
     types: &mut T,
     g: &SemType,

@@ -4,16 +4,23 @@
 //! - [`QuestionLimit`]: why such a question isn't answered.
 //! - [`has_field`]: whether all shapes of a type are mappings that have a key.
 //! - [`gives`]: whether no function of a type fails at arguments, and all that they give is in a type.
+//! - [`gives_future`]: whether no function of a type fails at arguments, and futures of what they give are in a type.
+//! - [`answers_are_kept`]: needs are met or not as before where atoms are added.
 //!
-//! Each call keeps the atoms that are there and adds one behind them; `specs/Limits.antt` says which limits are passed,
-//! `specs/Added.antt` which atoms are added, and `specs/Both.antt` what an answer tells of two needs.
+//! Each call keeps the atoms that are there and adds one or two behind them; `specs/Limits.antt` says which limits are passed,
+//! `specs/Added.antt` which atoms are added, `specs/FutureNeeds.antt` both of futures, and `specs/Both.antt` what an answer
+//! tells of two needs.
 #![tactic(auto)]
 
 mod adding;
 mod applications;
 mod fields;
+mod futures;
+mod laws;
 mod limits;
 
 pub use applications::gives;
 pub use fields::has_field;
+pub use futures::gives_future;
+pub use laws::answers_are_kept;
 pub use limits::QuestionLimit;

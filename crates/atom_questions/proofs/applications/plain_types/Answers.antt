@@ -1,6 +1,6 @@
 use Rattle.std.proofs.Common.{arith}
 use Rattle.atom_questions.specs.Added.{IsPlainOf}
-use Rattle.atom_questions.proofs.Zipping.{zip-more}
+use Rattle.code_verifier.proofs.Zipping.{zip-more}
 use Rattle.atom_questions.proofs.applications.plain_types.Goals as goal
 
 pub loop-t-preserved : goal.loop-t-preserved
