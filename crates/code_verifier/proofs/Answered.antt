@@ -1,5 +1,5 @@
 -- What answers of questions say of needs.
-use Rattle.std.proofs.Common.{◌≡◌, ◌⊎◌, ◌↔◌, List, Some, inl, inr, Result, Ok, Err, IfOk}
+use Rattle.std.proofs.Common.{◌↔◌, List, Some, Result, Ok, Err, IfOk}
 use Rattle.bal_base.specs.declared.shape.Shape.{Shape}
 use Rattle.bal_base.specs.declared.stop.Stop.{Stop}
 use Rattle.operations.specs.Rows.{IsWithin, ResultHas}

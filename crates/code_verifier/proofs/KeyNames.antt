@@ -16,15 +16,14 @@ use Rattle.type_model.specs.declared.atoms.AtomDef.{AtomDef}
 use Rattle.type_model.specs.declared.basic.BasicSet.TheVariants.{Never, StringOne}
 use Rattle.type_model.specs.declared.basic.SemType.{SemType, Basic}
 use Rattle.type_model.specs.Basic.{InBasic}
-use Rattle.type_model.specs.Calls.{Asked, Without}
+use Rattle.type_model.specs.Calls.{Without}
 use Rattle.type_model.specs.Inclusion.{AnswersSub, IsEmpty, IsShapeOf, Sub}
 use Rattle.type_model.specs.Membership.{In}
 use Rattle.type_model.specs.Parts.{StandsAt, StandsIn}
-use Rattle.code_needs.specs.Needs.{MemberHas, MemberIn, PartHas, PartIn}
-use Rattle.code_verifier.specs.Asked.{Answers, IsLeftOut, IsOutside}
+use Rattle.code_needs.specs.Needs.{MemberHas}
+use Rattle.code_verifier.specs.Asked.{Answers}
 use Rattle.code_verifier.specs.Keyed.{AreKeysOf, HasString, IsKeyBy}
-use Rattle.code_verifier.specs.LedTo.{AsksOfPart, AsksPart, IsTypeOf}
-use Rattle.code_verifier.proofs.Answered.{told-of-same}
+use Rattle.code_verifier.specs.LedTo.{AsksOfPart}
 use Rattle.code_verifier.proofs.KindShapes.{constant-back}
 
 texts-same : (t u : Text) → Str t ≡ Str u → t ≡ u
@@ -110,16 +109,6 @@ module _ (env : List AtomDef) (k : SemType) where
 
   -- ---- needs of members
 
-  pub member_in-told : (m t : SemType) (keys : Keys) → At keys → (r : Result Answer (Stop TypeLimit)) → IfOk r (Answers env (PartIn m keys t)) → IfOk r (Answers env (MemberIn m k t))
-  member_in-told m t keys at =
-      told-of-same (IsLeftOut env t (StandsAt env m keys)) (IsLeftOut env t (StandsAtKey env m k)) ((λ h x v s. h x v ((at m x).0 s)), (λ h x v s. h x v ((at m x).1 s)))
-      (λ x p. (p.0, (at m x).1 p.1, p.2))
-
-  pub member_has-told : (m v : SemType) (keys : Keys) → At keys → (r : Result Answer (Stop TypeLimit)) → IfOk r (Answers env (PartHas m keys v)) → IfOk r (Answers env (MemberHas m k v))
-  member_has-told m v keys at =
-      told-of-same (IsOutside env (StandsAt env m keys) v) (IsOutside env (StandsAtKey env m k) v) ((λ h x i. (at m x).1 (h x i)), (λ h x i. (at m x).0 (h x i)))
-      (λ x p. (p.0, (λ s. p.1 ((at m x).0 s))))
-
   never-in : (x : Shape) → InBasic x Never → ⊥
   never-in Nil h = h
   never-in x h = h
@@ -130,17 +119,6 @@ module _ (env : List AtomDef) (k : SemType) where
   none-has-told m v none (Err e) h = tt
 
   -- ---- questions about what stands there
-
-  so-type : (m : SemType) (keys : Keys) → At keys → (want : SemType) → IsTypeOf env (StandsAt env m keys) want → IsTypeOf env (StandsAtKey env m k) want
-  so-type m keys at want (defined, exact) = (defined, (λ x v. ((λ i. (at m x).1 ((exact x v).0 i)), (λ s. (exact x v).1 ((at m x).0 s)))))
-
-  pub part-leads : (m t : SemType) (keys : Keys) → At keys → (asked : Asked) → AsksPart env m (StandsAt env m keys) t asked → AsksPart env m (StandsAtKey env m k) t asked
-  part-leads m t keys at asked (inl e) = inl e
-  part-leads m t keys at asked (inr (want, is, e)) = inr (want, so-type m keys at want is, e)
-
-  pub of-part-leads : (m v : SemType) (keys : Keys) → At keys → (asked : Asked) → AsksOfPart env m (StandsAt env m keys) v asked → AsksOfPart env m (StandsAtKey env m k) v asked
-  of-part-leads m v keys at asked (inl e) = inl e
-  of-part-leads m v keys at asked (inr (want, is, e)) = inr (want, so-type m keys at want is, e)
 
   -- where nothing stands, no shape is the type
   pub never-leads : (m v : SemType) → ((m : SemType) (x : Shape) → ¬ (StandsAtKey env m k x)) → AsksOfPart env m (StandsAtKey env m k) v (Without v (Basic Never))

@@ -192,14 +192,14 @@ as-known known k e t is = absurd (let q : ⊥ = cc in q)
 
 -- ---- constants
 
+pub constant-own : (c : Constant) → InBasic (shape_of c) (constant_set c)
+constant-own constant.Nil = tt
+constant-own (constant.Bool b) = refl
+constant-own (constant.Int i) = (omega (arith, ints), omega (arith, ints))
+constant-own (constant.Str t) = refl
+
 pub constant-exactly : (env : List AtomDef) (c : Constant) → HasExactly env (Basic (constant_set c)) (λ x. x ≡ shape_of c)
-constant-exactly env c x v = (constant-back c x, (λ e. subst (λ y. InBasic y (constant_set c)) (sym e) (own c)))
-  where
-    own : (k : Constant) → InBasic (shape_of k) (constant_set k)
-    own constant.Nil = tt
-    own (constant.Bool b) = refl
-    own (constant.Int i) = (omega (arith, ints), omega (arith, ints))
-    own (constant.Str t) = refl
+constant-exactly env c x v = (constant-back c x, (λ e. subst (λ y. InBasic y (constant_set c)) (sym e) (constant-own c)))
 
 -- ints
 pub ints-exactly : (env : List AtomDef) → HasExactly env (Basic all_ints) IsInteger

@@ -1,5 +1,5 @@
 -- Limits that are passed by questions to which a need leads.
-use Rattle.std.proofs.Common.{◌≡◌, List, Result, Ok, Err}
+use Rattle.std.proofs.Common.{List, Result, Ok, Err}
 use Rattle.bal_base.specs.declared.stop.Stop.{Stop}
 use Rattle.bal_base.specs.declared.stop.Stop.TheVariants.{Fault, Memory}
 use Rattle.bal_base.specs.Stops.{IfFault}

@@ -1,5 +1,5 @@
 -- Which shapes the types have that are put together of atoms and of other types.
-use Rattle.std.proofs.Common.{◌≡◌, ◌<◌, ◌↔◌, ℕ, Bool, true, false, List, Result, Ok, Err, IfOk, refl, sym, subst, length}
+use Rattle.std.proofs.Common.{◌≡◌, ◌<◌, ◌↔◌, ℕ, Bool, true, false, List, Result, IfOk, refl, sym, subst, length}
 use Rattle.bal_base.specs.declared.shape.Shape.{Shape}
 use Rattle.bal_base.specs.declared.stop.Memory.{Memory as NoMemory}
 use Rattle.operations.specs.Structures.{IsMade}

@@ -1,5 +1,5 @@
 -- What two answers tell of two types.
-use Rattle.std.proofs.Common.{◌≡◌, ◌⊎◌, ◌↔◌, List, inl, inr, sym, subst, true, false, Result, Ok, Err, IfOk}
+use Rattle.std.proofs.Common.{◌≡◌, ◌↔◌, List, inl, inr, true, false, Result, Ok, Err, IfOk}
 use Rattle.bal_base.specs.declared.shape.Shape.{Shape}
 use Rattle.bal_base.specs.declared.stop.Stop.{Stop}
 use Rattle.operations.specs.Kinds.{IsInteger, IsString}

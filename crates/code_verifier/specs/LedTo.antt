@@ -1,6 +1,6 @@
 -- Which questions about types a need leads to, and a limit that one of them passes.
-use Rattle.std.specs.Prelude.{◌≡◌, ◌⊎◌, ℕ, Bool, true, false, List}
-use Rattle.bal_base.specs.declared.shape.Shape.{Shape}
+use Rattle.std.specs.Prelude.{◌≡◌, ◌⊎◌, ℕ, ℤ, Bool, true, false, List}
+use Rattle.bal_base.specs.declared.shape.Shape.{Shape, Int}
 use Rattle.bal_base.specs.declared.text.Text.{Text}
 use Rattle.type_model.specs.declared.answers.TypeLimit.{TypeLimit}
 use Rattle.type_model.specs.declared.atoms.AtomDef.{AtomDef}
@@ -8,8 +8,8 @@ use Rattle.type_model.specs.declared.basic.BasicSet.TheVariants as set
 use Rattle.type_model.specs.declared.basic.SemType.{SemType, Basic, Atom}
 use Rattle.type_model.specs.Calls.{Alone, Asked, Without}
 use Rattle.type_model.specs.Defined.{IsDefined}
-use Rattle.type_model.specs.Inclusion.{HasExactly}
-use Rattle.operations.specs.Rows.{StandsAtKey}
+use Rattle.type_model.specs.Inclusion.{HasExactly, IsShapeOf}
+use Rattle.operations.specs.Rows.{StandsAtIndex, StandsAtKey}
 use Rattle.code_verifier.specs.Keyed.{HasString}
 use Rattle.code_verifier.specs.KindSets.{IsBoth, all_ints}
 
@@ -59,3 +59,13 @@ module _ (env : List AtomDef) where
 
   abbrev pub AsksOfMember : SemType → SemType → SemType → Asked → Type 0
   AsksOfMember m k v asked = AsksKey k asked ⊎ AsksOfPart m (StandsAtKey env m k) v asked
+
+  -- for the indexes that an int of this type is, and then for what stands there in the lists of l
+  abbrev pub AsksIndex : SemType → Asked → Type 0
+  AsksIndex i asked = (asked ≡ Alone i) ⊎ ((n : ℤ) × IsShapeOf env i (Int n) × (asked ≡ Without i (Basic (set.IntRange n n))))
+
+  abbrev pub AsksItem : SemType → SemType → SemType → Asked → Type 0
+  AsksItem l i t asked = AsksIndex i asked ⊎ AsksPart l (StandsAtIndex env l i) t asked
+
+  abbrev pub AsksOfItem : SemType → SemType → SemType → Asked → Type 0
+  AsksOfItem l i v asked = AsksIndex i asked ⊎ AsksOfPart l (StandsAtIndex env l i) v asked

@@ -1,4 +1,6 @@
 pub mod Asked
+pub mod Deciding
+pub mod Indexed
 pub mod inner
 pub mod Keyed
 pub mod KindSets

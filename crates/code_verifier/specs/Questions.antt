@@ -8,10 +8,12 @@ use Rattle.type_model.specs.Calls.{Asked, Without}
 use Rattle.type_model.specs.Defined.{IsDefined}
 use Rattle.type_model.specs.Parts.{StandsAt}
 use Rattle.type_model.specs.SameType.{IsSameType}
-use Rattle.code_needs.specs.Needs.{IsMet, Need, Below, Has, HasBoth, HasConstant, HasMade, MemberHas, MemberIn, Ordered, PartHas, PartIn, Within}
+use Rattle.code_needs.specs.Needs.{IsMet, Need, Below, Has, HasBoth, HasConstant, HasMade, ItemHas, ItemIn, MemberHas, MemberIn, Ordered, PartHas, PartIn, Within}
 use Rattle.code_verifier.specs.declared.kind_types.KnownTypes.{KnownTypes}
 use Rattle.code_verifier.specs.declared.questions.OfKinds.{OfKinds}
 use Rattle.code_verifier.specs.declared.questions.OfKinds.TheVariants as kinds
+use Rattle.code_verifier.specs.declared.questions.OfMembers.{OfMembers}
+use Rattle.code_verifier.specs.declared.questions.OfMembers.TheVariants as members
 use Rattle.code_verifier.specs.declared.questions.OfParts.{OfParts}
 use Rattle.code_verifier.specs.declared.questions.OfParts.TheVariants as parts
 use Rattle.code_verifier.specs.declared.questions.OfTypes.{OfTypes}
@@ -20,7 +22,7 @@ use Rattle.code_verifier.specs.declared.questions.Question.{Question}
 use Rattle.code_verifier.specs.declared.questions.Question.TheVariants as ask
 use Rattle.code_verifier.specs.Asked.{IsAgainst}
 use Rattle.code_verifier.specs.KindSets.{IsBoth, IsKindType, constant_set}
-use Rattle.code_verifier.specs.LedTo.{AsksAbove, AsksBelow, AsksMember, AsksOfMember, AsksOfPart, AsksOrder, AsksPart, IsMadeType, SomePasses}
+use Rattle.code_verifier.specs.LedTo.{AsksAbove, AsksBelow, AsksItem, AsksMember, AsksOfItem, AsksOfMember, AsksOfPart, AsksOrder, AsksPart, IsMadeType, SomePasses}
 
 -- ---- the need that a question asks of
 
@@ -38,13 +40,18 @@ need_of_kinds (kinds.Ordered a b) = Ordered a.now b.now
 abbrev pub need_of_parts : OfParts → Need
 need_of_parts (parts.PartIn whole keys t) = PartIn whole.now keys.now t.now
 need_of_parts (parts.PartHas whole keys v) = PartHas whole.now keys.now v.now
-need_of_parts (parts.MemberIn m k t) = MemberIn m.now k.now t.now
-need_of_parts (parts.MemberHas m k v) = MemberHas m.now k.now v.now
+
+abbrev pub need_of_members : OfMembers → Need
+need_of_members (members.ItemIn l i t) = ItemIn l.now i.now t.now
+need_of_members (members.ItemHas l i v) = ItemHas l.now i.now v.now
+need_of_members (members.MemberIn m k t) = MemberIn m.now k.now t.now
+need_of_members (members.MemberHas m k v) = MemberHas m.now k.now v.now
 
 abbrev pub need_of : Question → Need
 need_of (ask.Types q) = need_of_types q
 need_of (ask.Kinds q) = need_of_kinds q
 need_of (ask.Parts q) = need_of_parts q
+need_of (ask.Members q) = need_of_members q
 
 -- ---- its types are defined
 
@@ -63,13 +70,18 @@ module _ (env : List AtomDef) where
   abbrev pub AreAskableParts : OfParts → Type 0
   AreAskableParts (parts.PartIn whole keys t) = IsDefined env whole.now × IsDefined env t.now
   AreAskableParts (parts.PartHas whole keys v) = IsDefined env whole.now × IsDefined env v.now
-  AreAskableParts (parts.MemberIn m k t) = IsDefined env m.now × IsDefined env k.now × IsDefined env t.now
-  AreAskableParts (parts.MemberHas m k v) = IsDefined env m.now × IsDefined env k.now × IsDefined env v.now
+
+  abbrev pub AreAskableMembers : OfMembers → Type 0
+  AreAskableMembers (members.ItemIn l i t) = IsDefined env l.now × IsDefined env i.now × IsDefined env t.now
+  AreAskableMembers (members.ItemHas l i v) = IsDefined env l.now × IsDefined env i.now × IsDefined env v.now
+  AreAskableMembers (members.MemberIn m k t) = IsDefined env m.now × IsDefined env k.now × IsDefined env t.now
+  AreAskableMembers (members.MemberHas m k v) = IsDefined env m.now × IsDefined env k.now × IsDefined env v.now
 
   abbrev pub IsAskable : Question → Type 0
   IsAskable (ask.Types q) = AreAskableTypes q
   IsAskable (ask.Kinds q) = AreAskableKinds q
   IsAskable (ask.Parts q) = AreAskableParts q
+  IsAskable (ask.Members q) = AreAskableMembers q
 
 -- ---- the questions about types that it leads to
 
@@ -87,13 +99,18 @@ KindsLeadTo known (kinds.Ordered a b) asked = AsksOrder a.now b.now asked
 abbrev pub PartsLeadTo : List AtomDef → OfParts → Asked → Type 0
 PartsLeadTo env (parts.PartIn whole keys t) asked = AsksPart env whole.now (StandsAt env whole.now keys.now) t.now asked
 PartsLeadTo env (parts.PartHas whole keys v) asked = AsksOfPart env whole.now (StandsAt env whole.now keys.now) v.now asked
-PartsLeadTo env (parts.MemberIn m k t) asked = AsksMember env m.now k.now t.now asked
-PartsLeadTo env (parts.MemberHas m k v) asked = AsksOfMember env m.now k.now v.now asked
+
+abbrev pub MembersLeadTo : List AtomDef → OfMembers → Asked → Type 0
+MembersLeadTo env (members.ItemIn l i t) asked = AsksItem env l.now i.now t.now asked
+MembersLeadTo env (members.ItemHas l i v) asked = AsksOfItem env l.now i.now v.now asked
+MembersLeadTo env (members.MemberIn m k t) asked = AsksMember env m.now k.now t.now asked
+MembersLeadTo env (members.MemberHas m k v) asked = AsksOfMember env m.now k.now v.now asked
 
 abbrev pub LeadsTo : List AtomDef → KnownTypes → Question → Asked → Type 0
 LeadsTo env known (ask.Types q) asked = TypesLeadTo q asked
 LeadsTo env known (ask.Kinds q) asked = KindsLeadTo known q asked
 LeadsTo env known (ask.Parts q) asked = PartsLeadTo env q asked
+LeadsTo env known (ask.Members q) asked = MembersLeadTo env q asked
 
 -- ---- one after another
 

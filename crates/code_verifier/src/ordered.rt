@@ -8,10 +8,11 @@ ghost use Rattle.type_model.specs.Defined.{IsDefined};
 ghost use Rattle.type_model.specs.Inclusion.{AnswersSub};
 ghost use Rattle.code_needs.specs.Needs.{Ordered};
 ghost use Rattle.code_verifier.specs.Asked.{Answers};
-ghost use Rattle.code_verifier.specs.inner.Pairs.{TellsBelow, is_yes as is_yes_of};
+ghost use Rattle.code_verifier.specs.inner.Pairs.{TellsBelow};
 ghost use Rattle.code_verifier.specs.KindSets.{all_ints};
 ghost use Rattle.code_verifier.specs.LedTo.{AsksEach, AsksOrder, SomePasses};
 
+use crate::deciding::is_yes;
 use crate::sets::ints;
 use bal_base::Stop;
 use std::alloc::Global;
@@ -73,16 +74,6 @@ fn are_ints<T: Types>(
 {
     let all = SemType::Basic(ints());
     are_below(alloc, types, a, b, &all)
-}
-
-/// Whether the answer is yes; lets go of it.
-fn is_yes(answer: Answer) -> bool
-    ensures { result ≡ is_yes_of answer }
-{
-    match answer {
-        Answer::Yes => true,
-        Answer::No(_) => false,
-    }
 }
 
 /// Whether both are below ints, as was answered, or else below strings.

@@ -4,10 +4,11 @@ ghost use Rattle.bal_base.specs.Stops.{IfFault};
 ghost use Rattle.code_verifier.specs.Asked.{Answers};
 ghost use Rattle.code_verifier.specs.KindSets.{AreKnown};
 ghost use Rattle.code_verifier.specs.LedTo.{SomePasses};
-ghost use Rattle.code_verifier.specs.Questions.{Answered, AreAskableKinds, AreAskableParts, AreAskableTypes, FirstPasses, IsAskable, KindsLeadTo, LeadsTo, PartsLeadTo, TypesLeadTo, need_of, need_of_kinds, need_of_parts, need_of_types};
+ghost use Rattle.code_verifier.specs.Questions.{Answered, AreAskableKinds, AreAskableMembers, AreAskableParts, AreAskableTypes, FirstPasses, IsAskable, KindsLeadTo, LeadsTo, MembersLeadTo, PartsLeadTo, TypesLeadTo, need_of, need_of_kinds, need_of_members, need_of_parts, need_of_types};
 
 use crate::asking::{has_constant, has_kind, is_below, is_within, part_has, part_is_in};
 use crate::combined::has_both;
+use crate::indexed::{item_has, item_is_in};
 use crate::keyed::{member_has, member_is_in};
 use crate::kind_types::KnownTypes;
 use crate::made::has_made;
@@ -42,13 +43,22 @@ pub enum OfKinds<'c> {
     Ordered(&'c SemType, &'c SemType),
 }
 
-/// A need of what stands in lists, mappings and futures.
+/// A need of what stands in lists, mappings and futures at such keys.
 #[derive(Clone, Copy)]
 pub enum OfParts<'c> {
     /// All that stands at such a key of the first type is in the second.
     PartIn(&'c SemType, &'c Keys, &'c SemType),
     /// Each shape of the second type stands at such a key of the first.
     PartHas(&'c SemType, &'c Keys, &'c SemType),
+}
+
+/// A need of what stands in lists and mappings where a type says.
+#[derive(Clone, Copy)]
+pub enum OfMembers<'c> {
+    /// All that stands in the first type at an index that the second names is in the third.
+    ItemIn(&'c SemType, &'c SemType, &'c SemType),
+    /// Each shape of the third type stands in the first at an index that the second names.
+    ItemHas(&'c SemType, &'c SemType, &'c SemType),
     /// All that stands in the first type at a key that the second names is in the third.
     MemberIn(&'c SemType, &'c SemType, &'c SemType),
     /// Each shape of the third type stands in the first at a key that the second names.
@@ -62,8 +72,10 @@ pub enum Question<'c> {
     Types(OfTypes<'c>),
     /// Of kinds of shapes.
     Kinds(OfKinds<'c>),
-    /// Of what stands in lists, mappings and futures.
+    /// Of what stands in lists, mappings and futures at such keys.
     Parts(OfParts<'c>),
+    /// Of what stands in lists and mappings where a type says.
+    Members(OfMembers<'c>),
 }
 
 /// Whether a need of types is met.
@@ -119,8 +131,25 @@ fn ask_parts<T: Types>(
     match question {
         OfParts::PartIn(whole, keys, t) => part_is_in(alloc, types, whole, keys, t),
         OfParts::PartHas(whole, keys, v) => part_has(alloc, types, whole, keys, v),
-        OfParts::MemberIn(m, k, t) => member_is_in(alloc, types, m, k, t),
-        OfParts::MemberHas(m, k, v) => member_has(alloc, types, m, k, v),
+    }
+}
+
+/// Whether a need of members is met.
+fn ask_members<T: Types>(
+    alloc: Global,
+    types: &mut T,
+    question: OfMembers<'_>,
+) -> Result<Answer, Stop<TypeLimit>>
+    requires { AreAskableMembers (T.atoms types.old) question }
+    ensures atoms { T.atoms types.new ≡ T.atoms types.old }
+    ensures answers { IfOk result (Answers (T.atoms types.old) (need_of_members question.entry)) }
+    ensures limit { IfFault result (SomePasses T.passes (T.atoms types.old) (MembersLeadTo (T.atoms types.old) question.entry)) }
+{
+    match question {
+        OfMembers::ItemIn(l, i, t) => item_is_in(alloc, types, l, i, t),
+        OfMembers::ItemHas(l, i, v) => item_has(alloc, types, l, i, v),
+        OfMembers::MemberIn(m, k, t) => member_is_in(alloc, types, m, k, t),
+        OfMembers::MemberHas(m, k, v) => member_has(alloc, types, m, k, v),
     }
 }
 
@@ -141,6 +170,7 @@ pub fn ask<T: Types>(
         Question::Types(question) => ask_types(alloc, types, question),
         Question::Kinds(question) => ask_kinds(alloc, types, known, question),
         Question::Parts(question) => ask_parts(alloc, types, question),
+        Question::Members(question) => ask_members(alloc, types, question),
     }
 }
 

@@ -1,6 +1,5 @@
 -- What is said of two types at once.
-use Rattle.std.specs.Prelude.{◌≡◌, ◌⊎◌, Bool, true, false, List}
-use Rattle.bal_base.specs.declared.shape.Shape.{Shape}
+use Rattle.std.specs.Prelude.{◌⊎◌, Bool, true, false, List}
 use Rattle.type_model.specs.declared.answers.Answer.{Answer}
 use Rattle.type_model.specs.declared.answers.Answer.TheVariants.{Yes, No}
 use Rattle.type_model.specs.declared.atoms.AtomDef.{AtomDef}

@@ -1,4 +1,4 @@
-use Rattle.std.proofs.Common.{inl, inr, refl, subst, sym}
+use Rattle.std.proofs.Common.{inr, refl, subst}
 use Rattle.bal_base.specs.declared.shape.Shape.{Shape}
 use Rattle.type_model.specs.declared.basic.BasicSet.TheVariants.{StringOne}
 use Rattle.type_model.specs.declared.basic.SemType.{Basic}

@@ -1,4 +1,4 @@
-use Rattle.std.proofs.Common.{false, true}
+use Rattle.std.proofs.Common.{true}
 use Rattle.code_verifier.proofs.MadeShapes.{made-so}
 use Rattle.code_verifier.proofs.made.made_type.Goals as goal
 

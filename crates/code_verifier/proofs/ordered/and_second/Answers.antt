@@ -1,4 +1,4 @@
-use Rattle.std.proofs.Common.{subst, sym}
+use Rattle.std.proofs.Common.{subst}
 use Rattle.type_model.specs.declared.answers.Answer.{Answer}
 use Rattle.type_model.specs.Inclusion.{AnswersSub}
 use Rattle.code_verifier.proofs.Ordering.{first-fails, then-second}

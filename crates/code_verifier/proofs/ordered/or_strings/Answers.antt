@@ -1,4 +1,4 @@
-use Rattle.std.proofs.Common.{◌∙◌, sym}
+use Rattle.std.proofs.Common.{sym}
 use Rattle.code_verifier.proofs.Ordering.{ints-told, strings-told}
 use Rattle.code_verifier.proofs.ordered.or_strings.Goals as goal
 

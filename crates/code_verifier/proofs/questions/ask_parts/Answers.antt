@@ -21,19 +21,3 @@ pub returns-in-PartHas-clause-limit : goal.returns-in-PartHas-clause-limit
 returns-in-PartHas-clause-limit g c =
     let env = g.T.Types.atoms c.args.types.now in
     subst (λ (q : OfParts). IfFault c.part_has.result (SomePasses g.T.Types.passes env (PartsLeadTo env q))) (sym c.in-PartHas.is) c.part_has.ensures.limit
-
-pub returns-in-MemberIn-clause-answers : goal.returns-in-MemberIn-clause-answers
-returns-in-MemberIn-clause-answers g c = subst (λ (q : OfParts). IfOk c.member_is_in.result (Answers (g.T.Types.atoms c.args.types.now) (need_of_parts q))) (sym c.in-MemberIn.is) c.member_is_in.ensures.answers
-
-pub returns-in-MemberIn-clause-limit : goal.returns-in-MemberIn-clause-limit
-returns-in-MemberIn-clause-limit g c =
-    let env = g.T.Types.atoms c.args.types.now in
-    subst (λ (q : OfParts). IfFault c.member_is_in.result (SomePasses g.T.Types.passes env (PartsLeadTo env q))) (sym c.in-MemberIn.is) c.member_is_in.ensures.limit
-
-pub returns-in-MemberHas-clause-answers : goal.returns-in-MemberHas-clause-answers
-returns-in-MemberHas-clause-answers g c = subst (λ (q : OfParts). IfOk c.member_has.result (Answers (g.T.Types.atoms c.args.types.now) (need_of_parts q))) (sym c.in-MemberHas.is) c.member_has.ensures.answers
-
-pub returns-in-MemberHas-clause-limit : goal.returns-in-MemberHas-clause-limit
-returns-in-MemberHas-clause-limit g c =
-    let env = g.T.Types.atoms c.args.types.now in
-    subst (λ (q : OfParts). IfFault c.member_has.result (SomePasses g.T.Types.passes env (PartsLeadTo env q))) (sym c.in-MemberHas.is) c.member_has.ensures.limit
