@@ -1,0 +1,2 @@
+mod NeedsAnswered
+mod NeedsKeptOn
