@@ -21,7 +21,7 @@ pub come-next : (s t u : Stock) (labels : List (Option ℕ)) (steps : List Step)
     → Grows s t × AllCome t labels (map step_of (take k steps)) is → Grows t u → Comes u labels (step_of x) i
     → Grows s u × AllCome u labels (map step_of (take (k + 1) steps)) news
 come-next s t u labels steps k x is news i lt at pushed before grows comes = (
-  record { has = λ code h. before.0.has code (grows.has code h); params = grows.params ∙ before.0.params },
+  record { has = λ code h. before.0.has code (grows.has code h); tested = grows.tested ∙ before.0.tested; params = grows.params ∙ before.0.params },
   subst2 (λ cs js. AllCome u labels cs js)
       (sym (ap (map step_of) (take_more steps k x lt ∙ ap (λ y. take k steps ++ y ∷ []) (sym at)) ∙ map-append step_of (take k steps) (x ∷ []))) (sym pushed)
       (record { are = λ code h. zip-more (IsInstr code (places_of labels)) (map step_of (take k steps)) is (step_of x) i (before.1.are code (grows.has code h)) (comes.is code h) }),

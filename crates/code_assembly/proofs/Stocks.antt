@@ -1,6 +1,6 @@
 -- Tables that grow, and which instruction stands for an operation or a command.
-use Rattle.std.proofs.Common.{◌≡◌, ◌∙◌, ℕ, List, [], ◌∷◌, ◌++◌, Option, Some, None, true, false, refl, sym, ap, length, arith}
-use Rattle.std.specs.Prelude.{◌==◌, if◌then◌else◌, IfOk, OnOk, Result, Ok, Err, option_map, slice_get}
+use Rattle.std.proofs.Common.{◌≡◌, ◌∙◌, ℕ, List, [], ◌∷◌, ◌++◌, Option, Some, None, true, false, refl, sym, ap, subst, length, arith}
+use Rattle.std.specs.Prelude.{◌==◌, if◌then◌else◌, IfOk, IsSomeAnd, OnOk, Result, Ok, Err, option_map, slice_get}
 use Rattle.bal_base.specs.declared.stop.Memory.{Memory}
 use Rattle.type_model.specs.declared.basic.SemType.{SemType}
 use Rattle.type_model.specs.SameType.{IsSameType}
@@ -29,18 +29,20 @@ get-last [] x = refl
 get-last (y ∷ xs) x = get-last xs x
 
 pub grows-same : (s : Stock) → Grows s s
-grows-same s = record { has = λ code h. h; params = refl }
+grows-same s = record { has = λ code h. h; tested = refl; params = refl }
 
 pub with-constant : (s : Stock) (c : Constant) → Grows s (record { constants = s.constants ++ c ∷ []; tested = s.tested; params = s.params })
 with-constant s c =
-    record { has = λ code h. record { constants = λ n d e. h.constants n d (get-front s.constants (c ∷ []) n d e); tested = h.tested; params = h.params }; params = refl }
+    record { has = λ code h. record { constants = λ n d e. h.constants n d (get-front s.constants (c ∷ []) n d e); tested = h.tested; params = h.params }; tested = refl; params = refl }
 
-pub with-tested : (s : Stock) (t : SemType) → Grows s (record { constants = s.constants; tested = s.tested ++ t ∷ []; params = s.params })
-with-tested s t =
-    record { has = λ code h. record { constants = h.constants; tested = λ n d e. h.tested n d (get-front s.tested (t ∷ []) n d e); params = h.params }; params = refl }
-
-pub tested-last : (s : Stock) (type kept : SemType) → IsSameType type kept → HasSame (record { constants = s.constants; tested = s.tested ++ kept ∷ []; params = s.params }) type (length s.tested)
-tested-last s type kept e = record { kept = kept; there = get-last s.tested kept; same = e }
+-- a type that stands there has its number
+pub there-if : (s : Stock) (type : SemType) (place : ℕ) (r : Result ℕ Memory) → IfOk r (λ n. n ≡ place) → IsSomeAnd (slice_get s.tested place) (IsSameType type) → IfOk r (HasSame s type)
+there-if s type place (Err e) is at = tt
+there-if s type place (Ok n) e at = subst (HasSame s type) (sym e) (there (slice_get s.tested place) refl at)
+  where
+    there : (o : Option SemType) → slice_get s.tested place ≡ o → IsSomeAnd o (IsSameType type) → HasSame s type place
+    there (Some kept) is alike = record { kept = kept; there = is; same = alike }
+    there None is alike = absurd alike
 
 -- ---- operations
 
@@ -122,4 +124,4 @@ comes-if s labels o (Ok i) d = comes-do s labels o i d
 comes-if s labels o (Err m) d = tt
 
 pub ruleset stocks =
-    (grows-same, with-constant, with-tested, tested-last, get-last, does-const, does-field, does-optional, does-test, does-cast, does-call, does-start, does-everywhere, library-list, library-other, comes-do, comes-jump, comes-jump-if-not, comes-trap, comes-untrap, everywhere, grows-anyway, does-if, comes-if)
+    (grows-same, with-constant, get-last, does-const, does-field, does-optional, does-test, does-cast, does-call, does-start, does-everywhere, library-list, library-other, comes-do, comes-jump, comes-jump-if-not, comes-trap, comes-untrap, everywhere, grows-anyway, does-if, comes-if)

@@ -23,9 +23,10 @@ pub record HasStock (s : Stock) (code : Code) : Type 0 where
   pub tested : (n : ℕ) (t : SemType) → slice_get s.tested n ≡ Some t → slice_get code.tested n ≡ Some t
   pub params : (n k : ℕ) → slice_get s.params n ≡ Some k → option_map (λ u. length u.params) (slice_get code.units n) ≡ Some k
 
--- what has the second has the first, and units have as many parameters
+-- what has the second has the first, the same types are tested, and units have as many parameters
 pub record Grows (s t : Stock) : Type 0 where
   pub has : (code : Code) → HasStock t code → HasStock s code
+  pub tested : t.tested ≡ s.tested
   pub params : t.params ≡ s.params
 
 -- a type that is the same but for where it lies has this number

@@ -72,8 +72,14 @@ fn take_over(alloc: Global, package: &TypedPackage, atoms: &[AtomDef]) -> Result
     })
 }
 
-fn make(alloc: Global, draft: &Draft<'_>, laid: &[LaidUnit<'_>]) -> Result<Made, Memory>
-    ensures { IfOk result (IsMadeOf (making_of draft.now) laid.now) }
+fn make(
+    alloc: Global,
+    draft: &Draft<'_>,
+    laid: &[LaidUnit<'_>],
+    types: Vec<SemType>,
+) -> Result<Made, Memory>
+    ensures made { IfOk result (IsMadeOf (making_of draft.now) laid.now) }
+    ensures tested { IfOk result (λ x. x.tables.tested.items ≡ types.items) }
 {
     if !draft.sound {
         return Err(Memory);
@@ -81,7 +87,7 @@ fn make(alloc: Global, draft: &Draft<'_>, laid: &[LaidUnit<'_>]) -> Result<Made,
     let params = param_counts(alloc, laid)?;
     let mut tables = Tables {
         constants: Vec::new(alloc),
-        tested: Vec::new(alloc),
+        tested: types,
         params,
     };
     let instrs = instrs(&mut tables, alloc, &draft.labels, &draft.steps)?;
@@ -135,26 +141,29 @@ fn joined(alloc: Global, taken: Taken, made: Made, package: &TypedPackage) -> Co
     }
 }
 
-/// The code of what was made for the units of a package, over these definitions of atoms, in time that grows with the steps and the
-/// types of slots and atoms. Its instructions are those of the steps, one by one. It answers want of memory also where the draft is spoilt, where a label has no place, where a
-/// number does not fit 32 bits, where a call has not as many operands as the unit has parameters, and where a call of the library
-/// has an atom and makes no list or makes one without; checked packages have none of these.
+/// The code of what was made for the units of a package, over these definitions of atoms and with these tested types, in time that
+/// grows with the steps and the types of slots and atoms, and for each test and cast with the tested types. Its instructions are those
+/// of the steps, one by one. It answers want of memory also where the draft is spoilt, where a label has no place, where a number does
+/// not fit 32 bits, where a type is tested that isn't among these, where a call has not as many operands as the unit has parameters, and
+/// where a call of the library has an atom and makes no list or makes one without; checked packages have none of these.
 pub fn assemble(
     alloc: Global,
     draft: &Draft<'_>,
     laid: &[LaidUnit<'_>],
     package: &TypedPackage,
     atoms: &[AtomDef],
+    types: Vec<SemType>,
 ) -> Result<Code, Memory>
     ensures made { IfOk result (λ code. Agrees code (place_of (making_of draft.now)) (making_of draft.now)) }
     ensures units { IfOk result (λ code. AllZip IsUnitOf laid.now code.units) }
     ensures atoms { IfOk result (λ code. AllZip IsSameDef atoms.now code.atoms) }
+    ensures tested { IfOk result (λ code. code.tested ≡ types.items) }
     ensures variables { IfOk result (λ code. length code.variables ≡ length «package».now.variables.items) }
     ensures initialisers { IfOk result (λ code. code.initialisers ≡ map (λ (i : InitialiserOf). i.unit.number) «package».now.initialisers.items) }
     ensures start { IfOk result (λ code. code.start ≡ «package».now.start) }
     ensures words { IfOk result (λ code. code.words ≡ «package».now.words) }
 {
     let taken = take_over(alloc, package, atoms)?;
-    let made = make(alloc, draft, laid)?;
+    let made = make(alloc, draft, laid, types)?;
     Ok(joined(alloc, taken, made, package))
 }

@@ -44,19 +44,17 @@ impl Tables {
     }
 
     /// A test of a type.
-    fn test(&mut self, alloc: Global, t: TestedType<'_>) -> Result<Instr, Memory>
-        ensures grows { OnOk result (Grows (stock_of self.old) (stock_of self.new)) }
-        ensures does { IfOk result (DoesSo (stock_of self.new) (TestOf (type_of t.entry))) }
+    fn test(&self, t: TestedType<'_>) -> Result<Instr, Memory>
+        ensures { IfOk result (DoesSo (stock_of self.now) (TestOf (type_of t.entry))) }
     {
-        Ok(Instr::Test(self.tested(alloc, t)?))
+        Ok(Instr::Test(self.tested(t)?))
     }
 
     /// A cast to a type.
-    fn cast(&mut self, alloc: Global, t: TestedType<'_>) -> Result<Instr, Memory>
-        ensures grows { OnOk result (Grows (stock_of self.old) (stock_of self.new)) }
-        ensures does { IfOk result (DoesSo (stock_of self.new) (CastOf (type_of t.entry))) }
+    fn cast(&self, t: TestedType<'_>) -> Result<Instr, Memory>
+        ensures { IfOk result (DoesSo (stock_of self.now) (CastOf (type_of t.entry))) }
     {
-        Ok(Instr::Cast(self.tested(alloc, t)?))
+        Ok(Instr::Cast(self.tested(t)?))
     }
 
     /// The instruction of an operation.
@@ -71,8 +69,8 @@ impl Tables {
             Op::Int(i) => self.pushes(Constant::Int(i)),
             Op::GetField(name) => self.field(name),
             Op::GetOptional(name) => self.optional(name),
-            Op::Test(t) => self.test(alloc, t),
-            Op::Cast(t) => self.cast(alloc, TestedType::Tree(t)),
+            Op::Test(t) => self.test(t),
+            Op::Cast(t) => self.cast(TestedType::Tree(t)),
             Op::Call { unit, count } => self.call(unit, count),
             Op::Start { unit, count } => self.start(unit, count),
             Op::Library { call, atom, count } => library(call, atom, count),
@@ -94,7 +92,7 @@ impl Tables {
     {
         match step {
             Step::Do(op) => self.operation(alloc, op),
-            Step::Cast(t) => self.cast(alloc, t),
+            Step::Cast(t) => self.cast(t),
             Step::GoTo(l) => Ok(Instr::Jump(place(labels, l)?)),
             Step::GoToIfNot(l) => Ok(Instr::JumpIfNot(place(labels, l)?)),
             Step::OpenTrap(l) => Ok(Instr::Trap(place(labels, l)?)),

@@ -2,10 +2,9 @@
 #![tactic(auto, using(crate::proofs::Stocks::stocks))]
 
 ghost use Rattle.std.specs.Prelude.{◌≡◌, IfOk, OnOk, Some, slice_get};
-ghost use Rattle.type_model.specs.SameType.{IsSameType};
 ghost use Rattle.operations.specs.declared.operation.Constant.TheVariants.{Str};
 ghost use Rattle.operations.specs.declared.operation.Operation.TheVariants.{Call as CallOf, Start as StartOf};
-ghost use Rattle.held_operations.specs.Operation.{singleton, type_of};
+ghost use Rattle.held_operations.specs.Operation.{type_of};
 ghost use Rattle.code_assembly.specs.Known.{stock_of};
 ghost use Rattle.code_assembly.specs.Standing.{DoesSo, Grows, HasSame};
 
@@ -15,7 +14,8 @@ use held_operations::TestedType;
 use operations::Constant;
 use stack_code::Instr;
 use std::alloc::Global;
-use type_model::{BasicSet, SemType};
+use tested_types::place_of;
+use type_model::SemType;
 
 /// What instructions name by numbers.
 #[derive(Drop)]
@@ -39,30 +39,6 @@ pub fn copy(c: &Constant) -> Constant
     }
 }
 
-/// The type of the constant alone.
-fn single(c: &Constant) -> SemType
-    ensures { IsSameType (singleton c.now) result }
-{
-    match c {
-        Constant::Nil => SemType::Basic(BasicSet::Nil),
-        Constant::Bool(b) => SemType::Basic(BasicSet::Bool(*b)),
-        Constant::Int(i) => SemType::Basic(BasicSet::IntRange(*i, *i)),
-        Constant::Str(text) => SemType::Basic(BasicSet::StringOne(text.share())),
-    }
-}
-
-/// A copy of the type.
-fn type_copy(alloc: Global, t: TestedType<'_>) -> Result<SemType, Memory>
-    ensures { IfOk result (IsSameType (type_of t.entry)) }
-{
-    match t {
-        TestedType::Tree(t) => t.sem.copy(alloc),
-        TestedType::Nil => Ok(SemType::Basic(BasicSet::Nil)),
-        TestedType::Error => Ok(SemType::Basic(BasicSet::ErrorAll)),
-        TestedType::Single(c) => Ok(single(c)),
-    }
-}
-
 impl Tables {
     /// The number of a constant.
     pub fn constant(&mut self, c: Constant) -> Result<u32, Memory>
@@ -82,15 +58,14 @@ impl Tables {
         self.constant(Constant::Str(name.share()))
     }
 
-    /// The number of a tested type.
-    pub fn tested(&mut self, alloc: Global, t: TestedType<'_>) -> Result<u32, Memory>
-        ensures grows { OnOk result (Grows (stock_of self.old) (stock_of self.new)) }
-        ensures there { IfOk result (HasSame (stock_of self.new) (type_of t.entry)) }
+    /// The number of a tested type. It answers want of memory also where the type isn't there.
+    pub fn tested(&self, t: TestedType<'_>) -> Result<u32, Memory>
+        ensures { IfOk result (HasSame (stock_of self.now) (type_of t.entry)) }
     {
-        let number = narrow_length(self.tested.len())?;
-        let kept = type_copy(alloc, t)?;
-        self.tested.push(kept)?;
-        Ok(number)
+        match place_of(&self.tested, t) {
+            Some(place) => narrow_length(place),
+            None => Err(Memory),
+        }
     }
 
     /// The unit has so many parameters.

@@ -11,7 +11,7 @@ use Rattle.code_assembly.specs.Copies.{AreSameRests, IsSameDef, IsSameTy}
 
 -- ---- lists, one by one
 
-there : {X Y : Type 0} (R : X → Y → Type 0) (xs : List X) (ys : List Y) (k : ℕ) (x : X) → AllZip R xs ys → slice_get xs k ≡ Some x → (y : Y) × (slice_get ys k ≡ Some y) × R x y
+pub there : {X Y : Type 0} (R : X → Y → Type 0) (xs : List X) (ys : List Y) (k : ℕ) (x : X) → AllZip R xs ys → slice_get xs k ≡ Some x → (y : Y) × (slice_get ys k ≡ Some y) × R x y
 there R [] ys k x all at = absurd (let bad : ⊥ = cc in bad)
 there R (z ∷ xs) [] k x all at = absurd all
 there R (z ∷ xs) (y ∷ ys) zero x all at = (y, refl, subst (λ w. R w y) (same at) all.0)
@@ -20,7 +20,7 @@ there R (z ∷ xs) (y ∷ ys) zero x all at = (y, refl, subst (λ w. R w y) (sam
     same e = cc
 there R (z ∷ xs) (y ∷ ys) (suc k) x all at = there R xs ys k x all.1 at
 
-back : {X Y : Type 0} (R : X → Y → Type 0) (xs : List X) (ys : List Y) (k : ℕ) (y : Y) → AllZip R xs ys → slice_get ys k ≡ Some y → (x : X) × (slice_get xs k ≡ Some x) × R x y
+pub back : {X Y : Type 0} (R : X → Y → Type 0) (xs : List X) (ys : List Y) (k : ℕ) (y : Y) → AllZip R xs ys → slice_get ys k ≡ Some y → (x : X) × (slice_get xs k ≡ Some x) × R x y
 back R xs [] k y all at = absurd (let bad : ⊥ = cc in bad)
 back R [] (z ∷ ys) k y all at = absurd all
 back R (x ∷ xs) (z ∷ ys) zero y all at = (x, refl, subst (λ w. R x w) (same at) all.0)
@@ -29,7 +29,7 @@ back R (x ∷ xs) (z ∷ ys) zero y all at = (x, refl, subst (λ w. R x w) (same
     same e = cc
 back R (x ∷ xs) (z ∷ ys) (suc k) y all at = back R xs ys k y all.1 at
 
-zip-append : {X Y : Type 0} (R : X → Y → Type 0) (xs : List X) (ys : List Y) (vs : List X) (ws : List Y) → AllZip R xs ys → AllZip R vs ws → AllZip R (xs ++ vs) (ys ++ ws)
+pub zip-append : {X Y : Type 0} (R : X → Y → Type 0) (xs : List X) (ys : List Y) (vs : List X) (ws : List Y) → AllZip R xs ys → AllZip R vs ws → AllZip R (xs ++ vs) (ys ++ ws)
 zip-append R [] [] vs ws all more = more
 zip-append R [] (y ∷ ys) vs ws all more = absurd all
 zip-append R (x ∷ xs) [] vs ws all more = absurd all
@@ -43,13 +43,13 @@ contains-at ts t k at = (k, slice_get_within ts k t at, get_or_from_slice_get ts
 
 -- ---- members of lists
 
-rests : (rest rest' : Option Ty) → AreSameRests rest rest' → AllZip IsSameTy (option_to_list rest) (option_to_list rest')
+pub rests : (rest rest' : Option Ty) → AreSameRests rest rest' → AllZip IsSameTy (option_to_list rest) (option_to_list rest')
 rests (Some s) (Some t) same = (same, tt)
 rests (Some s) None same = absurd same
 rests None (Some t) same = absurd same
 rests None None same = tt
 
-members : (fixed fixed' : List Ty) (rest rest' : Option Ty) → AllZip IsSameTy fixed fixed' × AreSameRests rest rest' → AllZip IsSameTy (fixed ++ option_to_list rest) (fixed' ++ option_to_list rest')
+pub members : (fixed fixed' : List Ty) (rest rest' : Option Ty) → AllZip IsSameTy fixed fixed' × AreSameRests rest rest' → AllZip IsSameTy (fixed ++ option_to_list rest) (fixed' ++ option_to_list rest')
 members fixed fixed' rest rest' same = zip-append IsSameTy fixed fixed' (option_to_list rest) (option_to_list rest') same.0 (rests rest rest' same.1)
 
 choice-there : (s t : Ty) (b : ℕ) → IsSameTy s t → IsOneChoice s b → IsOneChoice t b

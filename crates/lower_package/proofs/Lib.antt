@@ -1,3 +1,4 @@
 mod Copied
 mod Naming
+mod Testing
 mod UnitsTurning

@@ -1,7 +1,7 @@
 //! The lowering of packages.
 #![tactic(auto, using(lower_expr::proofs::Drafting::drafting))]
 
-ghost use Rattle.std.specs.Prelude.{◌≡◌, ◌≢◌, [], AllPairs, IfOk, OnOk, length, map};
+ghost use Rattle.std.specs.Prelude.{◌≡◌, ◌≢◌, [], All, AllPairs, IfOk, IsSomeAnd, OnOk, length, map, slice_get};
 ghost use Rattle.std.specs.List.{AllZip};
 ghost use Rattle.bal_base.specs.Stops.{IfFault};
 ghost use Rattle.lower_model.specs.Assembled.{bodies_of, made_of};
@@ -12,6 +12,8 @@ ghost use Rattle.package_units.specs.Held.{tree_of};
 ghost use Rattle.code_assembly.specs.declared.units.LaidUnit.{LaidUnit as Laid};
 ghost use Rattle.code_assembly.specs.Copies.{IsSameDef};
 ghost use Rattle.code_assembly.specs.Unit.{tree_in};
+ghost use Rattle.stack_code.specs.Tables.{HasTestedMembers};
+ghost use Rattle.tested_types.specs.Asked.{TestsWhatItAsks};
 ghost use Rattle.lower_package.specs.Inherent.{with_inherent as with_inherent_atoms};
 ghost use Rattle.lower_package.specs.Limits.{IsCodeLimit, IsRefused, PassesNodes};
 
@@ -23,6 +25,7 @@ use lower_stmt::unit;
 use package_units::{HeldUnit, units};
 use stack_code::Code;
 use std::alloc::Global;
+use tested_types::tested;
 use type_model::{AtomDef, TypeEnv};
 use typed_tree::{Plan, TypedPackage, nodes};
 
@@ -94,6 +97,8 @@ fn code_of(alloc: Global, atoms: &[AtomDef], package: &TypedPackage) -> Result<C
     ensures atoms { IfOk result (λ code. AllZip IsSameDef atoms.now code.atoms) }
     ensures inherent { IfOk result (HasInherentOf «package».now) }
     ensures distinct { IfOk result (λ code. AllPairs ◌≢◌ code.inherent) }
+    ensures tested { IfOk result TestsWhatItAsks }
+    ensures members { IfOk result (λ code. All (λ a. IsSomeAnd (slice_get code.atoms a) (HasTestedMembers code)) code.inherent) }
 {
     let us = units(alloc, package)?;
     let mut draft = fresh(alloc);
@@ -106,17 +111,20 @@ fn code_of(alloc: Global, atoms: &[AtomDef], package: &TypedPackage) -> Result<C
         package.start,
         package.words,
     )?;
-    let code = assemble(alloc, &draft, &laid, package, atoms)?;
+    let types = tested(alloc, &draft.steps, atoms, &found)?;
+    let code = assemble(alloc, &draft, &laid, package, atoms, types)?;
     Ok(with_inherent(code, found))
 }
 
 /// The code of a package, over the definitions of its atoms, which have the same numbers there. What may come of the code is what
 /// may come of the package, by the laws of `lower_model`. Its inherent atoms are those with which the package makes structures,
-/// functions and futures, each once. The package's functions have accepted plans; nothing in instructions depends on these. It is
+/// functions and futures, each once. Its tested types are those of its tests and casts and of members of structures with inherent
+/// atoms, each once, as they are written. The package's functions have accepted plans; nothing in instructions depends on these. It is
 /// refused with 501 exactly where it has more than [`MOST_NODES`] nodes, and the fault shows how many. It answers want of memory
 /// also for trees that no checker gives: where units don't have the numbers from 0 on, where a statement leaves a loop and there
 /// is none, where a call has not as many operands as its unit has parameters, and where an atom that is named has no definition.
-/// The time grows with the nodes of the tree and with the types of its slots and atoms.
+/// The time grows with the nodes of the tree, with the types of its slots and atoms, and for each test, cast and member with the tested
+/// types.
 pub fn lower(
     alloc: Global,
     env: &TypeEnv,
@@ -127,6 +135,8 @@ pub fn lower(
     ensures atoms { IfOk result (λ code. AllZip IsSameDef env.now code.atoms) }
     ensures inherent { IfOk result (HasInherentOf «package».now) }
     ensures distinct { IfOk result (λ code. AllPairs ◌≢◌ code.inherent) }
+    ensures tested { IfOk result TestsWhatItAsks }
+    ensures members { IfOk result (λ code. All (λ a. IsSomeAnd (slice_get code.atoms a) (HasTestedMembers code)) code.inherent) }
     ensures limit { IfFault result (λ fault. PassesNodes «package».now × IsCodeLimit «package».now fault) }
     ensures passes { PassesNodes «package».now → IsRefused result }
 {

@@ -20,50 +20,50 @@ get-last [] x = refl
 get-last (y ∷ xs) x = get-last xs x
 
 -- what stood there stands there
-same-front : {X : Type 0} (xs ys : List X) (l : ℕ) → l < length xs → slice_get (xs ++ ys) l ≡ slice_get xs l
+pub same-front : {X : Type 0} (xs ys : List X) (l : ℕ) → l < length xs → slice_get (xs ++ ys) l ≡ slice_get xs l
 same-front [] ys l lt = absurd (omega (arith, lt))
 same-front (x ∷ xs) ys zero lt = refl
 same-front (x ∷ xs) ys (suc l) lt = same-front xs ys l (omega (arith, lt))
 
 -- a label that was added has no place yet
-no-place : (xs : List (Option ℕ)) (l to : ℕ) → length xs ≤ l → slice_get (xs ++ None ∷ []) l ≡ Some (Some to) → ⊥
+pub no-place : (xs : List (Option ℕ)) (l to : ℕ) → length xs ≤ l → slice_get (xs ++ None ∷ []) l ≡ Some (Some to) → ⊥
 no-place [] zero to le e = let bad : ⊥ = cc in bad
 no-place [] (suc l) to le e = let bad : ⊥ = cc in bad
 no-place (x ∷ xs) zero to le e = omega (arith, le)
 no-place (x ∷ xs) (suc l) to le e = no-place xs l to (omega (arith, le)) e
 
-no-label : (xs : List (Option ℕ)) (l to : ℕ) → length xs ≤ l → slice_get xs l ≡ Some (Some to) → ⊥
+pub no-label : (xs : List (Option ℕ)) (l to : ℕ) → length xs ≤ l → slice_get xs l ≡ Some (Some to) → ⊥
 no-label xs l to le e = let lt = slice_get_within xs l (Some to) e in omega (arith, lt, le)
 
-set-other : (xs : List (Option ℕ)) (i l : ℕ) (x : Option ℕ) → i ≢ l → slice_get (slice_set xs l x) i ≡ slice_get xs i
+pub set-other : (xs : List (Option ℕ)) (i l : ℕ) (x : Option ℕ) → i ≢ l → slice_get (slice_set xs l x) i ≡ slice_get xs i
 set-other [] i l x ne = refl
 set-other (y ∷ xs) zero zero x ne = absurd (ne refl)
 set-other (y ∷ xs) (suc i) zero x ne = refl
 set-other (y ∷ xs) zero (suc l) x ne = refl
 set-other (y ∷ xs) (suc i) (suc l) x ne = set-other xs i l x (λ e. ne (ap suc e))
 
-set-long : (xs : List (Option ℕ)) (l : ℕ) (x : Option ℕ) → length (slice_set xs l x) ≡ length xs
+pub set-long : (xs : List (Option ℕ)) (l : ℕ) (x : Option ℕ) → length (slice_set xs l x) ≡ length xs
 set-long [] l x = refl
 set-long (y ∷ xs) zero x = refl
 set-long (y ∷ xs) (suc l) x = ap suc (set-long xs l x)
 
-set-there : (xs : List (Option ℕ)) (l p to : ℕ) → slice_get (slice_set xs l (Some p)) l ≡ Some (Some to) → p ≡ to
+pub set-there : (xs : List (Option ℕ)) (l p to : ℕ) → slice_get (slice_set xs l (Some p)) l ≡ Some (Some to) → p ≡ to
 set-there [] l p to e = absurd (let bad : ⊥ = cc in bad)
 set-there (y ∷ xs) zero p to e = let is : p ≡ to = cc in is
 set-there (y ∷ xs) (suc l) p to e = set-there xs l p to e
 
-same-or-not : (i l : ℕ) → (i ≡ l) ⊎ (i ≢ l)
+pub same-or-not : (i l : ℕ) → (i ≡ l) ⊎ (i ≢ l)
 same-or-not zero zero = inl refl
 same-or-not zero (suc l) = inr (λ e. omega (arith, e))
 same-or-not (suc i) zero = inr (λ e. omega (arith, e))
 same-or-not (suc i) (suc l) = elim (same-or-not i l) [ inl e ↦ inl (ap suc e) | inr ne ↦ inr (λ e. ne (omega (arith, e))) ]
 
 -- the types behind some places are those at the first of the next ones
-at-behind : (ss ts : List Stack) (end : Stack) (k : ℕ) → at_or (ss ++ ts) end (length ss + k) ≡ at_or ts end k
+pub at-behind : (ss ts : List Stack) (end : Stack) (k : ℕ) → at_or (ss ++ ts) end (length ss + k) ≡ at_or ts end k
 at-behind [] ts end k = ap (at_or ts end) (let q : 0 + k ≡ k = omega arith in q)
 at-behind (s ∷ ss) ts end k = ap (at_or (s ∷ (ss ++ ts)) end) (let q : length (s ∷ ss) + k ≡ suc (length ss + k) = omega arith in q) ∙ at-behind ss ts end k
 
-at-end : (ss : List Stack) (end : Stack) → at_or ss end (length ss) ≡ end
+pub at-end : (ss : List Stack) (end : Stack) → at_or ss end (length ss) ≡ end
 at-end [] end = refl
 at-end (s ∷ ss) end = at-end ss end
 
@@ -92,7 +92,7 @@ module _ (env : List AtomDef) (place : Surroundings) where
   typed-more wants more (OpenTrap l) at next k (n, (want, e, h)) = (n, (want, k l want e, h))
   typed-more wants more CloseTrap at next k h = h
 
-  all-more : (wants more : List Stack) (cs : List Command) (ss : List Stack) (end : Stack) → More wants more → AreTyped env place wants cs ss end → AreTyped env place more cs ss end
+  pub all-more : (wants more : List Stack) (cs : List Command) (ss : List Stack) (end : Stack) → More wants more → AreTyped env place wants cs ss end → AreTyped env place more cs ss end
   all-more wants more [] [] end k h = tt
   all-more wants more [] (s ∷ ss) end k h = absurd h
   all-more wants more (c ∷ cs) [] end k h = absurd h
@@ -106,7 +106,7 @@ module _ (env : List AtomDef) (place : Surroundings) where
   typed-wider wants (OpenTrap l) at next end b (n, w) = (below-then at next end n b, w)
   typed-wider wants CloseTrap at next end b h = below-then at next end h b
 
-  all-append : (wants : List Stack) (cs ds : List Command) (ss ts : List Stack) (mid end : Stack) → AreTyped env place wants cs ss mid → AreBelow env mid (at_or ts end 0) → AreTyped env place wants ds ts end → AreTyped env place wants (cs ++ ds) (ss ++ ts) end
+  pub all-append : (wants : List Stack) (cs ds : List Command) (ss ts : List Stack) (mid end : Stack) → AreTyped env place wants cs ss mid → AreBelow env mid (at_or ts end 0) → AreTyped env place wants ds ts end → AreTyped env place wants (cs ++ ds) (ss ++ ts) end
   all-append wants [] ds [] ts mid end h b k = k
   all-append wants [] ds (s ∷ ss) ts mid end h b k = absurd h
   all-append wants (c ∷ cs) ds [] ts mid end h b k = absurd h
@@ -116,14 +116,14 @@ module _ (env : List AtomDef) (place : Surroundings) where
       first [] x = typed-wider wants c s mid (at_or ts end 0) b x
       first (r ∷ ss) x = x
 
-  all-long : (wants : List Stack) (cs : List Command) (ss : List Stack) (end : Stack) → AreTyped env place wants cs ss end → length cs ≡ length ss
+  pub all-long : (wants : List Stack) (cs : List Command) (ss : List Stack) (end : Stack) → AreTyped env place wants cs ss end → length cs ≡ length ss
   all-long wants [] [] end h = refl
   all-long wants [] (s ∷ ss) end h = absurd h
   all-long wants (c ∷ cs) [] end h = absurd h
   all-long wants (c ∷ cs) (s ∷ ss) end h = ap suc (all-long wants cs ss end h.1)
 
   -- what is below the types at a place is so where more places follow
-  at-append : (ss ts : List Stack) (w mid end : Stack) (k : ℕ) → k ≤ length ss → AreBelow env w (at_or ss mid k) → AreBelow env mid (at_or ts end 0) → AreBelow env w (at_or (ss ++ ts) end k)
+  pub at-append : (ss ts : List Stack) (w mid end : Stack) (k : ℕ) → k ≤ length ss → AreBelow env w (at_or ss mid k) → AreBelow env mid (at_or ts end 0) → AreBelow env w (at_or (ss ++ ts) end k)
   at-append [] ts w mid end zero le h b = below-then w mid (at_or ts end 0) h b
   at-append [] ts w mid end (suc k) le h b = absurd (omega (arith, le))
   at-append (s ∷ ss) ts w mid end zero le h b = h
@@ -132,7 +132,7 @@ module _ (env : List AtomDef) (place : Surroundings) where
   -- ---- pieces
 
   -- nothing is added
-  pub comes : (m : Making) (old : List Stack) (p q : Stack) → length m.labels ≡ length old → AreBelow env p q → Mapped env place m m old old p q
+  abbrev pub comes : (m : Making) (old : List Stack) (p q : Stack) → length m.labels ≡ length old → AreBelow env p q → Mapped env place m m old old p q
   comes m old p q many b =
       record {
         news = [];
@@ -148,7 +148,7 @@ module _ (env : List AtomDef) (place : Surroundings) where
       }
 
   -- a command
-  added : (c : Command) (m : Making) (old : List Stack) (p q : Stack) → length m.labels ≡ length old → IsTyped env place old c p q → Mapped env place m (add c m) old old p q
+  abbrev pub added : (c : Command) (m : Making) (old : List Stack) (p q : Stack) → length m.labels ≡ length old → IsTyped env place old c p q → Mapped env place m (add c m) old old p q
   added c m old p q many typed =
       record {
         news = c ∷ [];
@@ -164,7 +164,7 @@ module _ (env : List AtomDef) (place : Surroundings) where
       }
 
   -- a label
-  labelled : (want : Stack) (m : Making) (old : List Stack) (p : Stack) → length m.labels ≡ length old → Mapped env place m (fresh m) old (old ++ want ∷ []) p p
+  abbrev pub labelled : (want : Stack) (m : Making) (old : List Stack) (p : Stack) → length m.labels ≡ length old → Mapped env place m (fresh m) old (old ++ want ∷ []) p p
   labelled want m old p many =
       record {
         news = [];
@@ -184,7 +184,7 @@ module _ (env : List AtomDef) (place : Surroundings) where
   Lands m wants stacks r l to = (k : ℕ) × (to ≡ length m.steps + k) × (k ≤ length stacks) × Wants env place wants l (λ want. AreBelow env want (at_or stacks r k))
 
   -- one piece behind another
-  pub mapped-then : {m n o : Making} {old wants more : List Stack} {p q r : Stack} → Mapped env place m n old wants p q → Mapped env place n o wants more q r → Mapped env place m o old more p r
+  abbrev pub mapped-then : {m n o : Making} {old wants more : List Stack} {p q r : Stack} → Mapped env place m n old wants p q → Mapped env place n o wants more q r → Mapped env place m o old more p r
   mapped-then {m} {n} {o} {old} {wants} {more} {p} {q} {r} a b =
       record {
         news = a.news ++ b.news;
@@ -214,13 +214,13 @@ module _ (env : List AtomDef) (place : Surroundings) where
 
   -- ---- one step more
 
-  pub then-comes : {m n : Making} {old wants : List Stack} {p q : Stack} → Mapped env place m n old wants p q → (r : Stack) → AreBelow env q r → Mapped env place m n old wants p r
+  abbrev pub then-comes : {m n : Making} {old wants : List Stack} {p q : Stack} → Mapped env place m n old wants p q → (r : Stack) → AreBelow env q r → Mapped env place m n old wants p r
   then-comes {n = n} {wants = wants} {q = q} a r b = mapped-then a (comes n wants q r a.many b)
 
-  pub then-add : {m n : Making} {old wants : List Stack} {p q : Stack} → Mapped env place m n old wants p q → (c : Command) (r : Stack) → IsTyped env place wants c q r → Mapped env place m (add c n) old wants p r
+  abbrev pub then-add : {m n : Making} {old wants : List Stack} {p q : Stack} → Mapped env place m n old wants p q → (c : Command) (r : Stack) → IsTyped env place wants c q r → Mapped env place m (add c n) old wants p r
   then-add {n = n} {wants = wants} {q = q} a c r typed = mapped-then a (added c n wants q r a.many typed)
 
-  pub then-fresh : {m n : Making} {old wants : List Stack} {p q : Stack} → Mapped env place m n old wants p q → (want : Stack) → Mapped env place m (fresh n) old (wants ++ want ∷ []) p q
+  abbrev pub then-fresh : {m n : Making} {old wants : List Stack} {p q : Stack} → Mapped env place m n old wants p q → (want : Stack) → Mapped env place m (fresh n) old (wants ++ want ∷ []) p q
   then-fresh {n = n} {wants = wants} {q = q} a want = mapped-then a (labelled want n wants q a.many)
 
   -- behind a piece what was wanted is wanted
@@ -243,7 +243,7 @@ module _ (env : List AtomDef) (place : Surroundings) where
   wanted {wants = wants} a want = subst (λ l. slice_get (wants ++ want ∷ []) l ≡ Some want) (sym a.many) (get-last wants want)
 
   -- a label that was added gets its place behind the last command
-  bound : {m n : Making} {old wants : List Stack} {p want : Stack} → Mapped env place m n old wants p want → (l : ℕ) → length m.labels ≤ l → slice_get wants l ≡ Some want → Mapped env place m (bind l n) old wants p want
+  abbrev pub bound : {m n : Making} {old wants : List Stack} {p want : Stack} → Mapped env place m n old wants p want → (l : ℕ) → length m.labels ≤ l → slice_get wants l ≡ Some want → Mapped env place m (bind l n) old wants p want
   bound {m} {n} {old} {wants} {p} {want} x l ge w =
       record {
         news = x.news;
@@ -269,5 +269,5 @@ module _ (env : List AtomDef) (place : Surroundings) where
           )
       by i to le e (inr other) = x.lands i to le (sym (set-other n.labels i l (Some (length n.steps)) other) ∙ e)
 
-  pub then-bind : {m n : Making} {old wants : List Stack} {p q : Stack} → Mapped env place m n old wants p q → (l : ℕ) (want : Stack) → length m.labels ≤ l → slice_get wants l ≡ Some want → AreBelow env q want → Mapped env place m (bind l n) old wants p want
+  abbrev pub then-bind : {m n : Making} {old wants : List Stack} {p q : Stack} → Mapped env place m n old wants p q → (l : ℕ) (want : Stack) → length m.labels ≤ l → slice_get wants l ≡ Some want → AreBelow env q want → Mapped env place m (bind l n) old wants p want
   then-bind a l want ge w b = bound (then-comes a want b) l ge w

@@ -1,5 +1,7 @@
 use Rattle.std.proofs.Common.{◌∙◌, ap, map, subst, sym}
 use Rattle.std.specs.List.{AllZip}
+use Rattle.std.specs.Prelude.{All, IsSomeAnd, slice_get}
+use Rattle.stack_code.specs.Tables.{HasTestedMembers}
 use Rattle.lower_expr.specs.Drafts.{making_of}
 use Rattle.lower_model.specs.Assembled.{HasUnits, bodies_of}
 use Rattle.lower_model.specs.Making.{firsts_made, place_of, units_made}
@@ -8,7 +10,9 @@ use Rattle.package_units.specs.Held.{tree_of}
 use Rattle.package_units.specs.Noted.{AreAll}
 use Rattle.code_assembly.specs.Unit.{IsUnitOf}
 use Rattle.lower_package.specs.Inherent.{with_inherent}
+use Rattle.tested_types.specs.Asked.{TestsWhatItAsks}
 use Rattle.lower_package.proofs.Naming.{has-inherent, named-by, still-agrees}
+use Rattle.lower_package.proofs.Testing.{members-tested, tests}
 use Rattle.lower_package.proofs.UnitsTurning.{is-lowered}
 use Rattle.lower_package.proofs.packages.code_of.Goals as goal
 
@@ -21,7 +25,7 @@ returns-clause-lowered c =
     (c.in_ok-laid.ensures.made ∙ ap (units_made (bodies_of (map tree_of c.deref.result.now))) c.fresh-draft.ensures) _ c.in_ok-laid.ensures.trees
     (c.in_ok-laid.ensures.firsts ∙ ap (firsts_made (bodies_of (map tree_of c.deref.result.now))) c.fresh-draft.ensures) code
     (still-agrees c.in_ok-code.code c.in_ok-found.found.items (place_of m) m c.in_ok-code.ensures.made)
-    (subst (λ ls. AllZip IsUnitOf ls code.units) c.deref-4.ensures.value c.in_ok-code.ensures.units)
+    (subst (λ ls. AllZip IsUnitOf ls code.units) c.deref-6.ensures.value c.in_ok-code.ensures.units)
     c.in_ok-code.ensures.variables c.in_ok-code.ensures.initialisers c.in_ok-code.ensures.start c.in_ok-code.ensures.words)
 
 pub returns-clause-inherent : goal.returns-clause-inherent
@@ -32,3 +36,15 @@ returns-clause-inherent c =
     (subst (λ us. AreAll c.args.package.now (map tree_of us)) (sym c.deref.ensures.value) c.in_ok-us.ensures.all) (making_of c.lay_all.new.draft)
     (c.in_ok-laid.ensures.made ∙ ap (units_made (bodies_of us)) c.fresh-draft.ensures) c.args.atoms.now c.in_ok-code.code c.in_ok-found.found.items c.in_ok-code.ensures.atoms
     (named-by c.args.package.now c.deref.result.now c.deref-2.result.now c.lay_all.new.draft c.deref-3.result.now c.args.atoms.now c.in_ok-found.found.items (c.deref-2.ensures.value ∙ sym c.deref.ensures.value) c.deref-3.ensures.value c.in_ok-found.ensures.inherent))
+
+pub returns-clause-tested : goal.returns-clause-tested
+returns-clause-tested c =
+    subst TestsWhatItAsks (sym c.with_inherent.ensures)
+    (tests c.lay_all.new.draft c.deref-4.result.now c.args.atoms.now c.in_ok-code.code c.in_ok-found.found.items c.deref-5.result.now c.in_ok-types.types.items c.deref-4.ensures.value c.deref-5.ensures.value c.in_ok-code.ensures.made c.in_ok-code.ensures.atoms c.in_ok-code.ensures.tested
+    c.in_ok-types.ensures.once c.in_ok-types.ensures.are c.in_ok-types.ensures.defined)
+
+pub returns-clause-members : goal.returns-clause-members
+returns-clause-members c =
+    subst (λ code. All (λ a. IsSomeAnd (slice_get code.atoms a) (HasTestedMembers code)) code.inherent) (sym c.with_inherent.ensures)
+    (members-tested c.lay_all.new.draft c.deref-4.result.now c.args.atoms.now c.in_ok-code.code c.in_ok-found.found.items c.deref-5.result.now c.in_ok-types.types.items c.deref-4.ensures.value c.deref-5.ensures.value c.in_ok-code.ensures.made c.in_ok-code.ensures.atoms c.in_ok-code.ensures.tested
+    c.in_ok-types.ensures.once c.in_ok-types.ensures.are c.in_ok-types.ensures.defined)

@@ -1,0 +1,4 @@
+pub mod Listed
+pub mod Noting
+pub mod Retold
+pub mod Written
