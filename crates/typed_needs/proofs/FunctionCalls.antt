@@ -216,12 +216,12 @@ module _ (passes : List AtomDef → Asked → TypeLimit → Type 0) where
         subst (λ (y : Ty). IsSameType t.sem y.sem) (sym value) copy.sem,
       )
 
-  expected-opened : (at : Place) (old new : State) → expects_argument passes at old (Gives tt) new → (c : CallAtWork) × IsLast old.calls c × expects_by passes c.callee c.args at old (Gives tt) new
+  pub expected-opened : (at : Place) (old new : State) → expects_argument passes at old (Gives tt) new → (c : CallAtWork) × IsLast old.calls c × expects_by passes c.callee c.args at old (Gives tt) new
   unfolding ◌▷◌ gives_some
   expected-opened at old new (c, mid, (last, same), met) = (c, last, subst (λ (s : State). expects_by passes c.callee c.args at s (Gives tt) new) same met)
 
   -- an argument, step by step
-  record ArgumentOpened (at : Place) (old new : State) : Type 0 where
+  pub record ArgumentOpened (at : Place) (old new : State) : Type 0 where
     pub c : CallAtWork
     pub w : Option Shared
     pub e : TypedExpr
@@ -232,7 +232,7 @@ module _ (passes : List AtomDef → Asked → TypeLimit → Type 0) where
     pub is_below : below_if passes w e at old (Gives tt) below
     pub all : new ≡ record old { calls = replaced old.calls (one_more c); wants = all_but 1 old.wants }
 
-  argument-opened : (at : Place) (old new : State) → is_argument passes at old (Gives tt) new → ArgumentOpened at old new
+  pub argument-opened : (at : Place) (old new : State) → is_argument passes at old (Gives tt) new → ArgumentOpened at old new
   unfolding ◌▷◌ gives_some does
   argument-opened at old new (c, s1, (l1, e1), (w, s2, (l2, e2), (e, s3, (l3, e3), (u, s4, below, (v, s5, e5, e6))))) =
       let two : s2 ≡ old = e2 ∙ e1 in

@@ -44,7 +44,7 @@ types-same [] (v ∷ vs) h = absurd h
 types-same (u ∷ us) [] h = absurd h
 
 -- by other handles, with further slots
-unit-by-handles : (u v w : UnitAtWork) → IsSameUnit u v → SameUnit v w → IsSameUnit u w
+pub unit-by-handles : (u v w : UnitAtWork) → IsSameUnit u v → SameUnit v w → IsSameUnit u w
 unit-by-handles u v w f h =
     record {
       number = h.number ∙ f.number;
@@ -91,7 +91,7 @@ cut (u ∷ us) vs (w ∷ ws) h =
     let c = cut us vs ws h.1 in record { front = w ∷ c.front; back = c.back; is = ap (λ l. w ∷ l) c.is; fronts = (h.0, c.fronts) }
 cut (u ∷ us) vs [] h = absurd h
 
-each-last : (us : List UnitAtWork) (u v : UnitAtWork) → IsSameUnit u v → AllZip IsSameUnit (us ++ u ∷ []) (us ++ v ∷ [])
+pub each-last : (us : List UnitAtWork) (u v : UnitAtWork) → IsSameUnit u v → AllZip IsSameUnit (us ++ u ∷ []) (us ++ v ∷ [])
 each-last [] u v h = (h, tt)
 each-last (w ∷ us) u v h = (unit-itself w, each-last us u v h)
 
@@ -201,7 +201,7 @@ unit-goes was next u old new last same (v, mid, (handles, first), is) =
       each = subst (λ us. AllZip IsSameUnit us (last.kept ++ v ∷ [])) (sym last.is) (each-last last.kept was v (unit-by-handles was next v same handles));
     }
 
-with-flow : (w : UnitAtWork) (f : Flow) → IsSameUnit w (record w { flow = f })
+pub with-flow : (w : UnitAtWork) (f : Flow) → IsSameUnit w (record w { flow = f })
 with-flow w f =
     record { number = refl; worker = refl; params = refl; rest = refl; arrow = refl; future = refl; result = refl; more = []; slots = sym (append-nil (map sem_of w.slots)) }
 
@@ -212,7 +212,7 @@ goes-sets-flow f old new u (v, mid, (w, a, (last, first), set), is) =
     goes-on old mid new (goes-on old a mid (goes-same old a first) (unit-goes w (record w { flow = f }) v a mid hand (with-flow w f) set))
     (goes-beside mid new (ap (λ (s : State). s.atoms) is) (ap (λ (s : State). s.units) is))
 
-with-slot : (w : UnitAtWork) (t : Shared) → IsSameUnit w (record w { slots = w.slots ++ t ∷ [] })
+pub with-slot : (w : UnitAtWork) (t : Shared) → IsSameUnit w (record w { slots = w.slots ++ t ∷ [] })
 with-slot w t =
     record { number = refl; worker = refl; params = refl; rest = refl; arrow = refl; future = refl; result = refl; more = sem_of t ∷ []; slots = slots-more w.slots }
   where

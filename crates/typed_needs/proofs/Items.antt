@@ -98,7 +98,7 @@ pub want-put : (w : Option Shared) (u : Unit {0}) (old new : State) → wants w 
 unfolding ◌▷◌ by_handles does
 want-put w u old new (x, mid, (same, first), is) = (x, same, is ∙ ap (λ (s : State). record s { wants = s.wants ++ x ∷ [] }) first)
 
-same-none : (w x : Option Shared) → AreSame w x → w ≡ None → x ≡ None
+pub same-none : (w x : Option Shared) → AreSame w x → w ≡ None → x ≡ None
 same-none None None same e = refl
 same-none None (Some t) same e = absurd same
 same-none (Some t) x same e = absurd (let q : ⊥ = cc in q)
@@ -161,7 +161,7 @@ module _ (passes : List AtomDef → Asked → TypeLimit → Type 0) where
 
   -- ---- members
 
-  frozen-leaves : (e : TypedExpr) (at : Place) → LeavesAll (is_frozen passes e at)
+  pub frozen-leaves : (e : TypedExpr) (at : Place) → LeavesAll (is_frozen passes e at)
   frozen-leaves e at = all-then _ _ (whether-leaves passes IsFrozenType (sem e) at) (λ b. unless-leaves b ReadOnlyHolds at)
 
   one-of : {A : Type 0} (b : Bool) (m n : Check State A) → LeavesAll m → LeavesAll n → LeavesAll (either b m n)
@@ -247,7 +247,7 @@ module _ (passes : List AtomDef → Asked → TypeLimit → Type 0) where
         all = drop ∙ ap (λ (s : State). record s { wants = all_but 1 s.wants }) (set ∙ ap (λ (s : State). record s { constructors = replaced s.constructors (with_member y c) }) eight);
       }
 
-  frozen-opened : (e : TypedExpr) (at : Place) (old new : State) → is_frozen passes e at old (Gives tt) new → (t : Ty) × IsFrozenType old.atoms t × Sub old.atoms (sem e) t.sem
+  pub frozen-opened : (e : TypedExpr) (at : Place) (old new : State) → is_frozen passes e at old (Gives tt) new → (t : Ty) × IsFrozenType old.atoms t × Sub old.atoms (sem e) t.sem
   unfolding ◌▷◌
   frozen-opened e at old new (true, mid, asked, rest) = whether-opened passes IsFrozenType (sem e) at old mid asked
   frozen-opened e at old new (false, mid, asked, rest) = absurd (never ReadOnlyHolds at mid new rest)

@@ -1,24 +1,24 @@
-mod Anonymous
-mod Asking
-mod AtomKinds
-mod Choices
-mod Conditions
-mod EachGoes
-mod FunctionCalls
-mod Going
-mod GoingBelow
-mod GoingNeeds
-mod GoingStmts
-mod Items
-mod Leaving
-mod MemberReads
-mod Messages
-mod Naming
-mod OnTheWay
-mod Opened
-mod Placed
-mod Questions
-mod Strict
-mod ValueCalls
-mod Waits
-mod WholeRuns
+pub mod Anonymous
+pub mod Asking
+pub mod AtomKinds
+pub mod Choices
+pub mod Conditions
+pub mod EachGoes
+pub mod FunctionCalls
+pub mod Going
+pub mod GoingBelow
+pub mod GoingNeeds
+pub mod GoingStmts
+pub mod Items
+pub mod Leaving
+pub mod MemberReads
+pub mod Messages
+pub mod Naming
+pub mod OnTheWay
+pub mod Opened
+pub mod Placed
+pub mod Questions
+pub mod Strict
+pub mod ValueCalls
+pub mod Waits
+pub mod WholeRuns

@@ -187,7 +187,7 @@ receive-made expected.Wanted p at old new (w, mid, (last, same), met) =
 
 module _ (passes : List AtomDef → Asked → TypeLimit → Type 0) (names : Names) (env : List AtomDef) (place : Surroundings) where
   -- a tick is spent first
-  ticked : (ops : List Operation) (operands : Stack) (t : SemType) → LeadsTo env place ops operands t → LeadsTo env place (Tick ∷ ops) operands t
+  pub ticked : (ops : List Operation) (operands : Stack) (t : SemType) → LeadsTo env place ops operands t → LeadsTo env place (Tick ∷ ops) operands t
   ticked ops operands t leads below = (
     below ++ operands,
     record {
@@ -201,7 +201,7 @@ module _ (passes : List AtomDef → Asked → TypeLimit → Type 0) (names : Nam
     leads below,
   )
 
-  one-op : (op : Operation) (operands : Stack) (t : SemType) → OpTyped env place op operands (Some t) → LeadsTo env place (op ∷ []) operands t
+  pub one-op : (op : Operation) (operands : Stack) (t : SemType) → OpTyped env place op operands (Some t) → LeadsTo env place (op ∷ []) operands t
   one-op op operands t row = let pieces : MadeIsTyped env place t = made-is-typed env place t in pieces.one_row op operands t row
 
   -- one that gives nothing, and then one that takes nothing

@@ -70,7 +70,7 @@ found-has P (v ∷ vs) name h = by (is_same_text v.name name) (All-head P v vs h
     by false here later = later
 
 module _ (names : Names) (site : Site) (place : Surroundings) (q : QualifiedName) where
-  abbrev StandsFor : Seen → Type 0
+  abbrev pub StandsFor : Seen → Type 0
   StandsFor (SeenVariable v) = IsStored place v
   StandsFor (SeenWorker w) = ⊤
   StandsFor (SeenConstant c) = ⊤

@@ -83,7 +83,7 @@ module _ (env mid : List AtomDef) (keeps : KeepsTypes mid env) where
   as-many passes (e ∷ es) (t ∷ ts) [] copies shapes = absurd shapes
 
   -- what may be answered is a result
-  answered : (passes : List AtomDef → Asked → TypeLimit → Type 0) (f r : SemType) (atom : ℕ) (es : List TypedExpr) (ts : List Ty) (answer : Option Shape) → IsDefined mid f
+  pub answered : (passes : List AtomDef → Asked → TypeLimit → Type 0) (f r : SemType) (atom : ℕ) (es : List TypedExpr) (ts : List Ty) (answer : Option Shape) → IsDefined mid f
       → All (λ e. IsDefined mid (sem e)) es → AreTypesOf passes es ts → slice_get mid atom ≡ Some (ListAtom ts None) → IsLeastResult mid f (Atom atom) r
       → MayAnswer env f (map sem es) answer → IsSomeAnd answer (λ x. In mid x r)
   answered passes f r atom es ts answer there parts copies is least (x, c, shape, answers, shapes, same) =
@@ -109,14 +109,14 @@ module _ (passes : List AtomDef → Asked → TypeLimit → Type 0) where
   CallMade r at = StrictMade (form.Call callee.Value) (λ env t. t ≡ plain r) at
 
   -- the atom of the arguments, and the least result
-  record Applied (f : TypedExpr) (args : List TypedExpr) (r : SemType) (old new : State) : Type 0 where
+  pub record Applied (f : TypedExpr) (args : List TypedExpr) (r : SemType) (old new : State) : Type 0 where
     pub types : List Ty
     pub copies : AreTypesOf passes args types
     pub grown : new ≡ record old { atoms = old.atoms ++ ListAtom types None ∷ [] }
     pub defined : IsDefined new.atoms r
     pub least : IsLeastResult new.atoms (sem f) (Atom (length old.atoms)) r
 
-  applied-so : (f : TypedExpr) (args : List TypedExpr) (at : Place) (r : SemType) (old new : State) → applies_to passes (f ∷ args) at old (Gives r) new → Applied f args r old new
+  pub applied-so : (f : TypedExpr) (args : List TypedExpr) (at : Place) (r : SemType) (old new : State) → applies_to passes (f ∷ args) at old (Gives r) new → Applied f args r old new
   unfolding ◌▷◌ asks adds applied
   applied-so f args at r old new (atom, mid, ((defs, (ts, copies, is), number, atoms), over), ((defined, least, same), again)) =
       let grown : mid ≡ record old { atoms = old.atoms ++ ListAtom ts None ∷ [] } = over ∙ ap (λ (xs : Atoms). record old { atoms = xs }) (atoms ∙ ap (λ ds. old.atoms ++ ds) is) in

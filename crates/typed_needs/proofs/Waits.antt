@@ -42,7 +42,7 @@ use Rattle.typed_needs.proofs.Naming.{name-is-typed}
 use Rattle.typed_needs.proofs.Opened.{last-defined}
 use Rattle.typed_needs.proofs.Placed.{last-same}
 
-none-off : {A : Type 0} (xs : List A) → all_but 0 xs ≡ xs
+pub none-off : {A : Type 0} (xs : List A) → all_but 0 xs ≡ xs
 none-off xs = kept-is 0 xs xs [] (sym (append-nil xs)) refl
 
 -- ---- workers
