@@ -1,0 +1,7 @@
+mod Callees
+mod Errors
+mod LibraryCalls
+mod LibraryOperands
+mod LibraryWants
+mod ValueStarts
+mod WholeWaits
