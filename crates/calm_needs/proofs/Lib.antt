@@ -1,0 +1,5 @@
+pub mod CalmLaw
+mod CalmWords
+mod Calming
+pub mod PlacedParts
+mod Ways
