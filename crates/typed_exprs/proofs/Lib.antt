@@ -1,0 +1,8 @@
+mod Elements
+mod Law
+mod Operands
+mod Operators
+mod Plain
+mod Prefixes
+mod Single
+mod Steps
