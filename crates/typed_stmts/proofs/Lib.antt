@@ -1,0 +1,14 @@
+mod Assigning
+mod Branches
+mod Branching
+mod Ends
+mod FlowPieces
+mod Items
+mod Keeping
+mod Looping
+mod Matching
+mod NameUpdates
+mod Seeing
+mod Storing
+mod Updating
+mod Words
