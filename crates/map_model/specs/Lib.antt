@@ -1,0 +1,7 @@
+pub mod Kept
+pub mod Laws
+pub mod Maps
+pub mod Marked
+pub mod Points
+pub mod Whole
+pub mod Written
