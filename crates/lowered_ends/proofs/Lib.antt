@@ -1,0 +1,9 @@
+mod Ending
+mod Frames
+mod Futures
+mod Roles
+mod Running
+mod Spawning
+mod Starting
+mod Stopping
+mod Worked
