@@ -1,0 +1,4 @@
+pub mod Effects
+pub mod Library
+pub mod Rows
+pub mod Steps
