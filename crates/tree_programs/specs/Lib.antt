@@ -1,0 +1,4 @@
+pub mod Fillers
+pub mod Laws
+pub mod SameMachines
+pub mod Units
