@@ -6,13 +6,15 @@ use Rattle.bal_base.specs.declared.stop.Stop.{Stop}
 use Rattle.bal_tree.specs.declared.package.Package.{Package}
 use Rattle.checks.specs.Checks.{Check, Comes, gives}
 use Rattle.checks.proofs.Steps.{goes_on, ran_out, some_is, stops}
-use Rattle.compile_front.specs.Front.{checked_over, front_of, isolated_over}
+use Rattle.compile_front.specs.Front.{checked_over, front_of, isolated_over, planned_over}
 use Rattle.compile_front.specs.Told.{IsTold}
 use Rattle.compile_front.specs.declared.accepting.Accepted.{Accepted}
 use Rattle.descriptors.specs.Described.{Atoms}
 use Rattle.descriptors.specs.declared.names.Names.{Names}
 use Rattle.isolation_check.specs.Walk.{isolated}
 use Rattle.package_checks.specs.Checked.{checked_package}
+use Rattle.package_plans.specs.Planned.{package_plans}
+use Rattle.package_plans.specs.declared.planning.PackagePlans.{PackagePlans}
 use Rattle.type_builder.specs.MainInPlace.{built}
 use Rattle.type_model.specs.declared.answers.TypeLimit.{TypeLimit}
 use Rattle.type_model.specs.declared.atoms.AtomDef.{AtomDef}
@@ -24,22 +26,34 @@ came-as : {S A : Type 0} (m : Check S A) (old new : S) (r q : Result A (Stop Fau
 came-as m old new r q e h = subst (λ x. Comes m old x new) e h
 
 module _ (passes : List AtomDef → Asked → TypeLimit → Type 0) where
+  -- ---- messages
+
+  module _ (names : Names) (t : TypedPackage) (old new : Atoms) (r : Result PackagePlans (Stop Fault)) (came : Comes (package_plans passes t) old r new) where
+    abbrev whole : PackagePlans → Accepted
+    whole plans = record { names = names; «package» = t; plans = plans }
+
+    abbrev last : PackagePlans → Check Atoms Accepted
+    last plans = gives (whole plans)
+
+    pub planned-stops : (stop : Stop Fault) → r ≡ Err stop → Comes (planned_over passes names t) old (Err stop) new
+    planned-stops stop e = stops (package_plans passes t) last old new stop (came-as (package_plans passes t) old new r (Err stop) e came)
+
+    pub planned-gives : (plans : PackagePlans) → r ≡ Ok plans → Comes (planned_over passes names t) old (Ok (whole plans)) new
+    planned-gives plans e =
+        goes_on (package_plans passes t) last old new new plans (Ok (whole plans)) (came-as (package_plans passes t) old new r (Ok plans) e came)
+        (some_is (λ env a. a ≡ whole plans) new new (whole plans) refl refl)
+
   -- ---- isolation
 
-  module _ (names : Names) (t : TypedPackage) (old new : Atoms) (r : Result (Unit {0}) (Stop Fault)) (came : Comes (isolated passes names.own t) old r new) where
-    abbrev whole : Accepted
-    whole = record { names = names; «package» = t }
+  module _ (names : Names) (t : TypedPackage) (old mid : Atoms) (r : Result (Unit {0}) (Stop Fault)) (came : Comes (isolated passes names.own t) old r mid) where
+    abbrev then-plans : Unit {0} → Check Atoms Accepted
+    then-plans u = planned_over passes names t
 
-    abbrev last : Unit {0} → Check Atoms Accepted
-    last u = gives whole
+    pub isolated-stops : (stop : Stop Fault) → r ≡ Err stop → Comes (isolated_over passes names t) old (Err stop) mid
+    isolated-stops stop e = stops (isolated passes names.own t) then-plans old mid stop (came-as (isolated passes names.own t) old mid r (Err stop) e came)
 
-    pub isolated-stops : (stop : Stop Fault) → r ≡ Err stop → Comes (isolated_over passes names t) old (Err stop) new
-    isolated-stops stop e = stops (isolated passes names.own t) last old new stop (came-as (isolated passes names.own t) old new r (Err stop) e came)
-
-    pub isolated-gives : r ≡ Ok tt → Comes (isolated_over passes names t) old (Ok whole) new
-    isolated-gives e =
-        goes_on (isolated passes names.own t) last old new new tt (Ok whole) (came-as (isolated passes names.own t) old new r (Ok tt) e came)
-        (some_is (λ env a. a ≡ whole) new new whole refl refl)
+    pub isolated-goes : (q : Result Accepted (Stop Fault)) (new : Atoms) → r ≡ Ok tt → Comes (planned_over passes names t) mid q new → Comes (isolated_over passes names t) old q new
+    isolated-goes q new e h = goes_on (isolated passes names.own t) then-plans old mid new tt q (came-as (isolated passes names.own t) old mid r (Ok tt) e came) h
 
   module _ (p : Package) where
     -- ---- the bodies

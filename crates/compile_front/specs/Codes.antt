@@ -1,4 +1,4 @@
--- Which codes faults of the front have: those of names, of the checks of bodies, and of isolation.
+-- Which codes faults of the front have: those of names, of the checks of bodies, of isolation, and of messages.
 use Rattle.std.specs.Prelude.{⊤}
 use Rattle.bal_base.specs.declared.fault.FaultCode.{FaultCode}
 use Rattle.bal_base.specs.declared.fault.FaultCode.TheVariants.{NotUtf8, BadToken, Syntax, Depth, LeftOut, NotBuilt, NoModule, ImportCycle, Duplicate, Unknown, NotPublic, IllFounded, TypeLimit, AtomLimit, NoMain, FileTooLong, BadManifest, TooLarge, NotSubtype, Arity, NoField, AssignFinal, Captured, MissingReturn, BadBreak, Ignored, BadMain, NotIsolated, ReadOnlyHolds, NoChoice, NeedsType, Conditional, Unpaired, SuccessBefore, WaitCycle, NameAsValue, NoPeer, BadMessage, WorkerLimit, CodeLimit, TestLimit}
@@ -35,13 +35,13 @@ IsFrontCode NotIsolated = ⊤
 IsFrontCode ReadOnlyHolds = ⊤
 IsFrontCode NoChoice = ⊤
 IsFrontCode NeedsType = ⊤
-IsFrontCode Conditional = ⊥
-IsFrontCode Unpaired = ⊥
-IsFrontCode SuccessBefore = ⊥
-IsFrontCode WaitCycle = ⊥
+IsFrontCode Conditional = ⊤
+IsFrontCode Unpaired = ⊤
+IsFrontCode SuccessBefore = ⊤
+IsFrontCode WaitCycle = ⊤
 IsFrontCode NameAsValue = ⊤
-IsFrontCode NoPeer = ⊥
-IsFrontCode BadMessage = ⊥
-IsFrontCode WorkerLimit = ⊥
+IsFrontCode NoPeer = ⊤
+IsFrontCode BadMessage = ⊤
+IsFrontCode WorkerLimit = ⊤
 IsFrontCode CodeLimit = ⊥
 IsFrontCode TestLimit = ⊥

@@ -5,7 +5,7 @@ ghost use Rattle.std.specs.Prelude.{IfOk, length};
 ghost use Rattle.bal_base.specs.Stops.{IfFault};
 ghost use Rattle.checks.specs.Checks.{Comes};
 ghost use Rattle.compile_front.specs.Codes.{IsFrontCode};
-ghost use Rattle.compile_front.specs.Front.{checked_over, front_of, isolated_over};
+ghost use Rattle.compile_front.specs.Front.{checked_over, front_of, isolated_over, planned_over};
 ghost use Rattle.compile_front.specs.Told.{IsTold};
 ghost use Rattle.descriptors.specs.Steps.{AreNames};
 ghost use Rattle.isolation_check.specs.Isolated.{IsIsolated};
@@ -16,17 +16,19 @@ use bal_base::{Fault, Stop};
 use bal_tree::Package;
 use descriptors::Names;
 use isolation_check::check_isolated;
+use package_plans::{PackagePlans, plan_package};
 use std::alloc::Global;
 use stmt_checker::{Checked, check_package};
 use type_builder::build;
 use type_model::Types;
 use typed_tree::TypedPackage;
 
-/// A package without fault: what its names stand for, and its bodies, typed.
+/// A package without fault: what its names stand for, its bodies, typed, and the plans of its functions.
 #[derive(Drop)]
 pub struct Accepted {
     pub names: Names,
     pub package: TypedPackage,
+    pub plans: PackagePlans,
 }
 
 /// What came of a package: the types, which are given back, and what was accepted or why not.
@@ -35,9 +37,9 @@ pub struct Answered<T> {
     pub answer: Result<Accepted, Stop<Fault>>,
 }
 
-/// Whether a package is one of the language, as far as a compiler sees it before it looks at messages (Ballerina specification,
-/// sections 5 to 8): what its names stand for, its typed package, and that its isolated functions keep their promises. It takes the types,
-/// to which atoms are added, and gives them back.
+/// Whether a package is one of the language (Ballerina specification, sections 5 to 8): what its names stand for, its typed package, that
+/// its isolated functions keep their promises, and the plans of its functions, by which no workers wait for one another. It takes the
+/// types, to which atoms are added, and gives them back.
 ///
 /// The first fault is refused, in this order:
 ///
@@ -47,8 +49,10 @@ pub struct Answered<T> {
 ///   `MissingReturn`, `BadBreak`, `Ignored`, `ReadOnlyHolds`, `NoChoice`, `NeedsType`, `NameAsValue`, and `Duplicate`, `Unknown`,
 ///   `NotPublic`, `TypeLimit` and `AtomLimit` in bodies.
 /// - of isolation: `NotIsolated`, or `TypeLimit` of a question of it, as `check_isolated` gives them.
+/// - of messages, of the first function in text order that has one, as `plan_package` gives them: `WorkerLimit`, `NoPeer`, `Conditional`,
+///   `Unpaired`, `SuccessBefore`, `BadMessage`, `TypeLimit` of its questions, and `WaitCycle`.
 ///
-/// It costs what the three cost, one after another. A fault with another code would be want of memory: none of them gives one.
+/// It costs what the four cost, one after another. A fault with another code would be want of memory: none of them gives one.
 pub fn accept<T: Types>(alloc: Global, types: T, package: &Package) -> Answered<T>
     ensures comes { Comes (front_of T.passes «package».now) (T.atoms types) result.answer (T.atoms result.types) }
     ensures codes { IfFault result.answer (λ f. IsFrontCode f.code) }
@@ -127,9 +131,33 @@ fn isolated<T: Types>(alloc: Global, types: T, names: Names, package: TypedPacka
 {
     let mut types = types;
     match check_isolated(alloc, &mut types, &names.own, &package) {
-        Ok(()) => Answered {
+        Ok(()) => planned(alloc, types, names, package),
+        Err(stop) => Answered {
             types,
-            answer: Ok(Accepted { names, package }),
+            answer: Err(stop),
+        },
+    }
+}
+
+/// The same of a package that keeps its promises of isolation.
+fn planned<T: Types>(alloc: Global, types: T, names: Names, package: TypedPackage) -> Answered<T>
+    requires names { AreNames (T.atoms types) names }
+    requires typed { AreTyped (length (T.atoms types)) «package» }
+    requires isolated { IsIsolated «package» names.own (T.atoms types) }
+    ensures comes { Comes (planned_over T.passes names «package») (T.atoms types) result.answer (T.atoms result.types) }
+    ensures names { IfOk result.answer (λ a. AreNames (T.atoms result.types) a.names) }
+    ensures typed { IfOk result.answer (λ a. AreTyped (length (T.atoms result.types)) a.«package») }
+    ensures isolated { IfOk result.answer (λ a. IsIsolated a.«package» a.names.own (T.atoms result.types)) }
+{
+    let mut types = types;
+    match plan_package(alloc, &mut types, &package) {
+        Ok(plans) => Answered {
+            types,
+            answer: Ok(Accepted {
+                names,
+                package,
+                plans,
+            }),
         },
         Err(stop) => Answered {
             types,

@@ -6,7 +6,7 @@ ghost use Rattle.compile_front.specs.Codes.{IsFrontCode};
 
 use bal_base::FaultCode;
 
-/// Whether faults of names, of the checks of bodies or of isolation have the code.
+/// Whether faults of names, of the checks of bodies, of isolation or of messages have the code.
 pub fn is_front_code(code: FaultCode) -> bool
     ensures { IsTrue result ↔ IsFrontCode code }
 {
@@ -31,6 +31,13 @@ pub fn is_front_code(code: FaultCode) -> bool
         | FaultCode::NoChoice
         | FaultCode::NeedsType
         | FaultCode::NameAsValue => true,
+        FaultCode::Conditional
+        | FaultCode::Unpaired
+        | FaultCode::SuccessBefore
+        | FaultCode::WaitCycle
+        | FaultCode::NoPeer
+        | FaultCode::BadMessage
+        | FaultCode::WorkerLimit => true,
         FaultCode::NotUtf8
         | FaultCode::BadToken
         | FaultCode::Syntax
@@ -43,14 +50,6 @@ pub fn is_front_code(code: FaultCode) -> bool
         | FaultCode::FileTooLong
         | FaultCode::BadManifest
         | FaultCode::TooLarge => false,
-        FaultCode::Conditional
-        | FaultCode::Unpaired
-        | FaultCode::SuccessBefore
-        | FaultCode::WaitCycle
-        | FaultCode::NoPeer
-        | FaultCode::BadMessage
-        | FaultCode::WorkerLimit
-        | FaultCode::CodeLimit
-        | FaultCode::TestLimit => false,
+        FaultCode::CodeLimit | FaultCode::TestLimit => false,
     }
 }
