@@ -5,7 +5,7 @@ use bal_base::{Fault, Memory, Name, Numbers, Row, Stop, Text};
 use bal_lexer::lex;
 use bal_tree::{FileTree, Files, Module, Modules, Package, SourceFile};
 use compile_front::{Accepted, Answered, accept};
-use package_plans::{PackagePlans, plan_package};
+use package_plans::PackagePlans;
 use parse_stmt::parse_file;
 use std::alloc::Global;
 use subtype_decider::Decider;
@@ -45,8 +45,13 @@ pub fn tried(alloc: Global, body: &str, order: &str) -> Result<Outcome, Stop<Fau
     let tree = parse_file(alloc, 0, &tokens)?;
     let package = package_with(alloc, text.as_str(), tree)?;
     let Answered { types, answer } = accept(alloc, Decider::new(alloc), &package);
-    let Accepted { names: _, package } = answer?;
-    planned(alloc, types, &package, order)
+    let _decider = types;
+    let Accepted {
+        names: _,
+        package,
+        plans,
+    } = answer?;
+    planned(alloc, &package, plans, order)
 }
 
 /// The package whose one file this is.
@@ -74,12 +79,11 @@ fn package_with(alloc: Global, text: &str, tree: FileTree) -> Result<Package, Me
 /// The plans of all functions.
 fn planned(
     alloc: Global,
-    types: Decider,
     package: &TypedPackage,
+    plans: PackagePlans,
     order: &str,
 ) -> Result<Outcome, Stop<Fault>> {
-    let mut types = types;
-    let PackagePlans { functions } = plan_package(alloc, &mut types, package)?;
+    let PackagePlans { functions } = plans;
     let mut tried = Outcome {
         pairs: String::new(alloc),
         is_checked: true,
