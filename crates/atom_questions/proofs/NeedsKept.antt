@@ -141,12 +141,12 @@ module _ (env new : List AtomDef) (keeps : KeepsTypes env new) where
   keys-alike k d keys = (so, back)
     where
       so : NamesKey env k keys → NamesKey new k keys
-      so (inl (key, single, e)) = inl (key, (single-alike k d (Str key)).0 single, e)
-      so (inr (none, e)) = inr ((λ key single. none key ((single-alike k d (Str key)).1 single)), e)
+      so (inl (key, (text, single), e)) = inl (key, (text, (single-alike k d (Str key)).0 single), e)
+      so (inr (none, e)) = inr ((λ key single. none key (single.0, (single-alike k d (Str key)).1 single.1)), e)
 
       back : NamesKey new k keys → NamesKey env k keys
-      back (inl (key, single, e)) = inl (key, (single-alike k d (Str key)).1 single, e)
-      back (inr (none, e)) = inr ((λ key single. none key ((single-alike k d (Str key)).0 single)), e)
+      back (inl (key, (text, single), e)) = inl (key, (text, (single-alike k d (Str key)).1 single), e)
+      back (inr (none, e)) = inr ((λ key single. none key (single.0, (single-alike k d (Str key)).0 single.1)), e)
 
   at-key-alike : (m k : SemType) → IsDefined env m → IsDefined env k → (x : Shape) → StandsAtKey env m k x ↔ StandsAtKey new m k x
   at-key-alike m k d e x = (so, back)
@@ -188,30 +188,26 @@ module _ (env new : List AtomDef) (keeps : KeepsTypes env new) where
   some-defined P Q same (Some t) d = same t d
 
   module _ (fields : List FieldDef) (rest : Option Ty) (k v : SemType) (dk : IsDefined env k) (dv : IsDefined env v) (dr : IfSome rest (λ t. IsDefined env t.sem)) (df : All (λ f. IsDefined env f.ty.sem) fields) where
-    value-alike : (key : Text) → IsSomeAnd (key_type fields rest key) (λ t. IsWithin env (λ x. In env x t.sem) v) ↔ IsSomeAnd (key_type fields rest key) (λ t. IsWithin new (λ x. In new x t.sem) v)
-    value-alike key =
-        some-defined (λ t. IsWithin env (λ x. In env x t.sem) v) (λ t. IsWithin new (λ x. In new x t.sem) v) (λ t d. within-alike (λ x. In env x t.sem) (λ x. In new x t.sem) (in-alike t.sem d) v dv)
-        (key_type fields rest key) (key-defined fields rest key df dr)
+    abbrev Placed : List AtomDef → Text → Shape → Type 0
+    Placed at key x = IsSomeAnd (key_type fields rest key) (λ t. In at x t.sem)
+
+    value-alike : (key : Text) (x : Shape) → Placed env key x ↔ Placed new key x
+    value-alike key x = some-defined (λ t. In env x t.sem) (λ t. In new x t.sem) (λ t d. in-alike t.sem d x) (key_type fields rest key) (key-defined fields rest key df dr)
 
     fits-alike : MemberFits env fields rest (k, v) ↔ MemberFits new fields rest (k, v)
     fits-alike = (
-      (λ h key i. (value-alike key).0 (h key ((in-alike k dk (Str key)).1 i))),
-      (λ h key i. (value-alike key).1 (h key ((in-alike k dk (Str key)).0 i))),
+      (λ h key i. (within-alike (Placed env key) (Placed new key) (value-alike key) v dv).0 (h key ((shape-alike k dk (Str key)).1 i))),
+      (λ h key i. (within-alike (Placed env key) (Placed new key) (value-alike key) v dv).1 (h key ((shape-alike k dk (Str key)).0 i))),
     )
-
-    defined-at : (key : Text) (t : Ty) → key_type fields rest key ≡ Some t → IsDefined env t.sem
-    defined-at key t e = subst (λ (o : Option Ty). IfSome o (λ u. IsDefined env u.sem)) e (key-defined fields rest key df dr)
 
     unfit-alike : (x : Shape) → IsUnfit env fields rest (k, v) x ↔ IsUnfit new fields rest (k, v) x
     unfit-alike x = (so, back)
       where
         so : IsUnfit env fields rest (k, v) x → IsUnfit new fields rest (k, v) x
-        so (key, i, inl h) = (key, (in-alike k dk (Str key)).0 i, inl h)
-        so (key, i, inr (t, e, h)) = (key, (in-alike k dk (Str key)).0 i, inr (t, e, (outside-alike (λ y. In env y t.sem) (λ y. In new y t.sem) (in-alike t.sem (defined-at key t e)) v dv x).0 h))
+        so (key, i, h) = (key, (shape-alike k dk (Str key)).0 i, (outside-alike (Placed env key) (Placed new key) (value-alike key) v dv x).0 h)
 
         back : IsUnfit new fields rest (k, v) x → IsUnfit env fields rest (k, v) x
-        back (key, i, inl h) = (key, (in-alike k dk (Str key)).1 i, inl h)
-        back (key, i, inr (t, e, h)) = (key, (in-alike k dk (Str key)).1 i, inr (t, e, (outside-alike (λ y. In env y t.sem) (λ y. In new y t.sem) (in-alike t.sem (defined-at key t e)) v dv x).1 h))
+        back (key, i, h) = (key, (shape-alike k dk (Str key)).1 i, (outside-alike (Placed env key) (Placed new key) (value-alike key) v dv x).1 h)
 
   -- ---- indexes
 

@@ -139,11 +139,11 @@ module _ (atoms : List AtomDef) where
   plain-shape : (t : SemType) (f : Filler) (x : Shape) → IsSimpleFiller atoms t f → IsShapeOf atoms t x → (y : Shape) × IsShapeOf atoms t y × IsPlain y
   plain-shape t Nothing x h s = absurd h
   plain-shape t NilFiller x h s = (NilShape, (tt, h), tt)
-  plain-shape t (BoolFiller b) x (inl only) s = (x, s, subst IsPlain (sym ((only x s.0).0 s.1)) tt)
+  plain-shape t (BoolFiller b) x (inl (there, only)) s = (x, s, subst IsPlain (sym ((only x s.0).0 s.1)) tt)
   plain-shape t (BoolFiller b) x (inr (is, (kind, inside))) s = let (c, e) = kind x s in (x, s, subst IsPlain (sym e) tt)
-  plain-shape t (IntFiller i) x (inl only) s = (x, s, subst IsPlain (sym ((only x s.0).0 s.1)) tt)
+  plain-shape t (IntFiller i) x (inl (there, only)) s = (x, s, subst IsPlain (sym ((only x s.0).0 s.1)) tt)
   plain-shape t (IntFiller i) x (inr (is, (kind, inside))) s = let (c, e) = kind x s in (x, s, subst IsPlain (sym e) tt)
-  plain-shape t (StrFiller u) x (inl only) s = (x, s, subst IsPlain (sym ((only x s.0).0 s.1)) tt)
+  plain-shape t (StrFiller u) x (inl (there, only)) s = (x, s, subst IsPlain (sym ((only x s.0).0 s.1)) tt)
   plain-shape t (StrFiller u) x (inr (is, (kind, inside))) s = let (c, e) = kind x s in (x, s, subst IsPlain (sym e) tt)
   plain-shape t (NewList a) x h s = absurd h
   plain-shape t (NewMapping a) x h s = absurd h

@@ -94,7 +94,7 @@ module _ (code : Code) (d : Common) where
   IsIn v u = IsMade code d v × Belongs (code_types code) d.world.heap v u.sem
 
   int-in : (u : Ty) (i : _) → HasOne code.atoms u → IsSimpleFiller code.atoms u.sem (IntFiller i) → IsIn (Int i) u
-  int-in u i (x, s) (inl only) =
+  int-in u i (x, s) (inl (there, only)) =
       let e = (only x s.0).0 s.1 in
       let int : IsInt i = subst IsValid e s.0 in
       ((tt, int, tt), (λ y valid stands. subst (λ z. In code.atoms z u.sem) (sym (its-shape code d (IntConstant i) y stands)) ((only (IntShape i) int).1 refl)))
@@ -103,7 +103,7 @@ module _ (code : Code) (d : Common) where
       ((tt, int, tt), (λ y valid stands. subst (λ z. In code.atoms z u.sem) (sym (its-shape code d (IntConstant i) y stands)) (subst (λ j. In code.atoms (IntShape j) u.sem) (sym is) inside)))
 
   text-in : (u : Ty) (s : _) → HasOne code.atoms u → IsSimpleFiller code.atoms u.sem (StrFiller s) → IsIn (Str s) u
-  text-in u s (x, h) (inl only) =
+  text-in u s (x, h) (inl (there, only)) =
       let e = (only x h.0).0 h.1 in
       let text : IsText s = subst IsValid e h.0 in
       ((tt, text, tt), (λ y valid stands. subst (λ z. In code.atoms z u.sem) (sym (its-shape code d (StrConstant s) y stands)) ((only (StrShape s) text).1 refl)))
@@ -112,7 +112,7 @@ module _ (code : Code) (d : Common) where
       ((tt, text, tt), (λ y valid stands. subst (λ z. In code.atoms z u.sem) (sym (its-shape code d (StrConstant s) y stands)) (subst (λ j. In code.atoms (StrShape j) u.sem) (sym is) inside)))
 
   truth-in : (u : Ty) (b : _) → IsSimpleFiller code.atoms u.sem (BoolFiller b) → IsIn (Truth b) u
-  truth-in u b (inl only) = ((tt, tt, tt), (λ y valid stands. subst (λ z. In code.atoms z u.sem) (sym (its-shape code d (BoolConstant b) y stands)) ((only (BoolShape b) tt).1 refl)))
+  truth-in u b (inl (there, only)) = ((tt, tt, tt), (λ y valid stands. subst (λ z. In code.atoms z u.sem) (sym (its-shape code d (BoolConstant b) y stands)) ((only (BoolShape b) tt).1 refl)))
   truth-in u b (inr (is, (kind, inside))) = ((tt, tt, tt), (λ y valid stands. subst (λ z. In code.atoms z u.sem) (sym (its-shape code d (BoolConstant b) y stands)) (subst (λ j. In code.atoms (BoolShape j) u.sem) (sym is) inside)))
 
   -- a new structure stands for shapes of its atom

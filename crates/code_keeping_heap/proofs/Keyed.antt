@@ -12,7 +12,7 @@ use Rattle.type_model.proofs.Decided.{In-decided}
 use Rattle.operations.specs.declared.operation.Constant.TheVariants.{Nil as NilConstant}
 use Rattle.operations.specs.declared.operation.Operation.TheVariants as op
 use Rattle.operations.specs.Kinds.{HasMember as HasKeyIn, IsMapping, IsNil}
-use Rattle.operations.specs.Rows.{IsSingle, IsWithin, ResultHas, StandsAtKey, Surroundings}
+use Rattle.operations.specs.Rows.{IsSingleKey, IsWithin, ResultHas, StandsAtKey, Surroundings}
 use Rattle.value_model.specs.declared.filler.Filler.{Filler}
 use Rattle.value_model.specs.declared.value.Value.{Value}
 use Rattle.value_model.specs.declared.value.Value.TheVariants.{Nil, Bool as Truth, Int, Str, Struct, Error, Function, Future}
@@ -67,8 +67,8 @@ module _ (code : Code) (t : WellTyped code) (c : Common) (good : GoodCommon code
         (x : Shape) → IsValid x → Stands (code_types code) c.world.heap v x → In code.atoms x r
     key-in b key v ev at r has x valid stands = by (In-decided code.atoms x r) (whole key v ev x valid stands)
       where
-        same-key : (other : Text) → IsSingle code.atoms b (StrShape other) → key ≡ other
-        same-key other single = let q : StrShape key ≡ StrShape other = (single (StrShape key) at.1.1).0 (at.2 (StrShape key) at.1.1 refl) in let z : key ≡ other = cc in z
+        same-key : (other : Text) → IsSingleKey code.atoms b other → key ≡ other
+        same-key other single = let q : StrShape key ≡ StrShape other = (single.1 (StrShape key) at.1.1).0 (at.2 (StrShape key) at.1.1 refl) in let z : key ≡ other = cc in z
 
         by : In code.atoms x r ⊎ (¬ (In code.atoms x r)) → In-a key x → In code.atoms x r
         by (inl is-in) w = is-in

@@ -36,7 +36,7 @@ use Rattle.stack_code.specs.declared.code.Unit.{Unit as CodeUnit}
 use Rattle.stack_code.specs.Good.{GoodCommon}
 use Rattle.stack_code.specs.Places.{Station, surroundings}
 use Rattle.stack_code.specs.Tables.{IsInherent}
-use Rattle.stack_code.specs.Values.{ComeOnce, GoodHeap, IsMade, code_types}
+use Rattle.stack_code.specs.Values.{ComeOnce, Fits, GoodHeap, IsMade, code_types}
 use Rattle.stack_code.specs.WellTyped.{WellTyped}
 use Rattle.code_keeping.specs.Rows.{EffectTyped, NamesWell}
 use Rattle.code_keeping.proofs.Coming.{Does, RowHolds, does-else, on-world}
@@ -227,11 +227,17 @@ make-mapping fillers natives code t c u station atom count immutable names opera
         let texts-of : All (λ p. IsText p.0) ps = pairs-all (PairFits code c) (λ m. ⊤) (λ p. IsText p.0) (λ p m r q. r.0.1.1) ps ms zip (λ k d l. tt) in
         let each : All (λ p. BelongsIf (code_types code) c.world.heap p.1 (key_type fields rest p.0)) ps =
         pairs-all (PairFits code c) (MemberFits code.atoms fields rest) (λ p. BelongsIf (code_types code) c.world.heap p.1 (key_type fields rest p.0))
-        (λ p m r q. some-to (λ u. IsWithin code.atoms (λ x. In code.atoms x u.sem) m.1) (λ u. Belongs (code_types code) c.world.heap p.1 u.sem) (key_type fields rest p.0) (λ u within x valid stands. within x (valid, r.1.2 x valid stands)) (q p.0 (r.0.2 (StrShape p.0) r.0.1.1 refl))) ps ms zip both.0 in
+        (λ p m r q. placed p.1 m.1 r.1 (key_type fields rest p.0) (q p.0 (r.0.1.1, r.0.2 (StrShape p.0) r.0.1.1 refl))) ps ms zip both.0 in
         mapping-typed code t c good atom immutable es (names.atoms 0 0 (omega arith)) fields rest ea (from-pairs (λ p. IsMade code c p.1) made-of) (from-pairs (λ p. IsText p.0) texts-of) (entries-apart [] ps tt)
         (all-to (λ f. IsTrue f.optional ⊎ Any (λ m. IsSingle code.atoms m.0 (StrShape f.name)) ms) (λ f. IsTrue f.optional ⊎ IsSomeAnd (entry_at es f.name) (λ _. ⊤)) (λ f k. required ps ms zip f k) fields both.1, from-pairs (λ p. BelongsIf (code_types code) c.world.heap p.1 (key_type fields rest p.0)) each)
         (λ is. from-pairs (HasFrozen code c) (pairs-all (PairFits code c) (λ m. MayStandIn code.atoms immutable m.1) (HasFrozen code c) (λ p m r q. pair-frozen code c t good.nearly.heap p m r (q is)) ps ms zip may)) result has
       where
+        -- a value, which has a shape, belongs to a type that each of its shapes has
+        placed : (v : Value) (s : SemType) → Fits code c v s → (o : Option Ty) → IsWithin code.atoms (λ x. IsSomeAnd o (λ u. In code.atoms x u.sem)) s → BelongsIf (code_types code) c.world.heap v o
+        placed v s (closed, made, belongs) (Some u) within = λ x valid stands. within x (valid, belongs x valid stands)
+        placed v s (closed, made, belongs) None within =
+            let (x, valid, stands) = has-shape code t c good.nearly.heap v made in absurd (within x (valid, belongs x valid stands))
+
         required : (ps : List (Text × Value)) (ms : List (SemType × SemType)) → AllZip (PairFits code c) ps ms → (f : FieldDef) → IsTrue f.optional ⊎ Any (λ m. IsSingle code.atoms m.0 (StrShape f.name)) ms → IsTrue f.optional ⊎ IsSomeAnd (entry_at (entries_from [] ps) f.name) (λ _. ⊤)
         required ps ms zip f (inl o) = inl o
         required ps ms zip f (inr any) =

@@ -1,12 +1,10 @@
 -- Which keys a type of strings names.
-use Rattle.std.proofs.Common.{◌≡◌, ◌↔◌, true, false, List, [], ◌∷◌, Option, Some, Result, Ok, Err, IfOk, get_or, inl, inr, refl, sym, ap, subst, ◌∙◌}
-use Rattle.std.specs.Str.{all_scalars}
-use Rattle.bal_base.specs.declared.shape.Shape.{Shape, Nil, Bool as BoolShape, Int, Str, List', Mapping', Error', Function, Future', items-the_row-Fields-items-2 as fields_in}
+use Rattle.std.proofs.Common.{◌≡◌, ◌↔◌, List, Option, Some, Result, Ok, Err, IfOk, inl, inr, refl, sym, ap, subst, ◌∙◌}
+use Rattle.bal_base.specs.declared.shape.Shape.{Shape, Nil, Str}
 use Rattle.bal_base.specs.declared.stop.Stop.{Stop}
 use Rattle.bal_base.specs.declared.text.Text.{Text}
-use Rattle.bal_base.specs.Valid.{IsText, IsValid}
 use Rattle.operations.specs.declared.operation.Constant.TheVariants as constant
-use Rattle.operations.specs.Rows.{IsSingle, NamesKey, StandsAtKey}
+use Rattle.operations.specs.Rows.{IsSingleKey, NamesKey, StandsAtKey}
 use Rattle.type_model.specs.declared.answers.Answer.{Answer}
 use Rattle.type_model.specs.declared.answers.Answer.TheVariants.{Yes, No}
 use Rattle.type_model.specs.declared.answers.Keys.{Keys}
@@ -19,7 +17,7 @@ use Rattle.type_model.specs.Basic.{InBasic}
 use Rattle.type_model.specs.Calls.{Without}
 use Rattle.type_model.specs.Inclusion.{AnswersSub, IsEmpty, IsShapeOf, Sub}
 use Rattle.type_model.specs.Membership.{In}
-use Rattle.type_model.specs.Parts.{StandsAt, StandsIn}
+use Rattle.type_model.specs.Parts.{StandsAt}
 use Rattle.code_needs.specs.Needs.{MemberHas}
 use Rattle.code_verifier.specs.Asked.{Answers}
 use Rattle.code_verifier.specs.Keyed.{AreKeysOf, HasString, IsKeyBy}
@@ -34,7 +32,7 @@ module _ (env : List AtomDef) (k : SemType) where
   At keys = (m : SemType) (x : Shape) → StandsAtKey env m k x ↔ StandsAt env m keys x
 
   -- no string is its single one
-  any-key : ((key : Text) → ¬ (IsSingle env k (Str key))) → At AnyField
+  any-key : ((key : Text) → ¬ (IsSingleKey env k key)) → At AnyField
   any-key none m x = (so, (λ h. (AnyField, inr (none, refl), h)))
     where
       by : (keys : Keys) → NamesKey env k keys → StandsAt env m keys x → StandsAt env m AnyField x
@@ -48,12 +46,12 @@ module _ (env : List AtomDef) (k : SemType) where
     one-key : Sub env k (Basic (StringOne t)) → At (Field t)
     one-key sub m x = (so, (λ h. (Field t, inl (t, single, refl), h)))
       where
-        single : IsSingle env k (Str t)
-        single y v = ((λ i. constant-back (constant.Str t) y (sub y v i)), (λ e. subst (λ (w : Shape). In env w k) (sym e) found.1))
+        single : IsSingleKey env k t
+        single = (found.0, (λ y v. ((λ i. constant-back (constant.Str t) y (sub y v i)), (λ e. subst (λ (w : Shape). In env w k) (sym e) found.1))))
 
         by : (keys : Keys) → NamesKey env k keys → StandsAt env m keys x → StandsAt env m (Field t) x
         by keys (inl (key, alone, e)) h =
-            subst (λ (w : Keys). StandsAt env m w x) (e ∙ ap (λ (w : Text). Field w) (sym (texts-same t key ((alone (Str t) found.0).0 found.1)))) h
+            subst (λ (w : Keys). StandsAt env m w x) (e ∙ ap (λ (w : Text). Field w) (sym (texts-same t key ((alone.1 (Str t) found.0).0 found.1)))) h
         by keys (inr (none, e)) h = absurd (none t single)
 
         so : StandsAtKey env m k x → StandsAt env m (Field t) x
@@ -61,42 +59,15 @@ module _ (env : List AtomDef) (k : SemType) where
 
     more-keys : (y : Shape) → IsShapeOf env k y → ¬ (In env y (Basic (StringOne t))) → At AnyField
     more-keys y other apart = any-key (λ key single.
-        apart (subst (λ (w : Shape). InBasic w (StringOne t)) (sym ((single y other.0).0 other.1)) (sym (texts-same t key ((single (Str t) found.0).0 found.1)))))
+        apart (subst (λ (w : Shape). InBasic w (StringOne t)) (sym ((single.1 y other.0).0 other.1)) (sym (texts-same t key ((single.1 (Str t) found.0).0 found.1)))))
 
   -- a shape that is no string
   not-text : (y : Shape) → IsShapeOf env k y → ((key : Text) → ¬ (y ≡ Str key)) → At AnyField
-  not-text y other apart = any-key (λ key single. apart key ((single y other.0).0 other.1))
+  not-text y other apart = any-key (λ key single. apart key ((single.1 y other.0).0 other.1))
 
-  abbrev bad : Text
-  bad = 1114112 ∷ []
-
-  -- nothing stands at a key of a type without shapes
-  pub no-key : IsEmpty env k → (m : SemType) (x : Shape) → ¬ (StandsAtKey env m k x)
-  no-key empty m x (keys, named, h) = by keys named h
-    where
-      in-fields : (name : Text) (whole : Shape) → IsValid whole → StandsIn (Field name) whole x → IsText name
-      in-fields name (Mapping' mark _ fields) v (i, l, e) = ap-text name (get_or (fields_in _ fields) i (name, x)) e (v.0 i (name, x) l)
-        where
-          ap-text : (n : Text) (f : Text × Shape) → f ≡ (n, x) → IsText f.0 → IsText n
-          ap-text n f same text = subst (λ (w : Text × Shape). IsText w.0) same text
-      in-fields name Nil v s = absurd s
-      in-fields name (BoolShape b) v s = absurd s
-      in-fields name (Int i) v s = absurd s
-      in-fields name (Str t) v s = absurd s
-      in-fields name (List' mark _ items) v s = absurd s
-      in-fields name (Error' _ detail) v s = absurd s
-      in-fields name (Function isolated graph) v s = absurd s
-      in-fields name (Future' _ results) v s = absurd s
-
-      at-field : (name : Text) → StandsAt env m (Field name) x → IsText name
-      at-field name (whole, shape, s) = in-fields name whole shape.0 s
-
-      by : (keys : Keys) → NamesKey env k keys → StandsAt env m keys x → ⊥
-      by keys (inl (key, single, e)) s =
-          let text : IsText key = at-field key (subst (λ (w : Keys). StandsAt env m w x) e s) in
-          empty (Str key) text ((single (Str key) text).1 refl)
-      by keys (inr (none, e)) s =
-          none bad (λ y v. ((λ i. absurd (empty y v i)), (λ same. absurd (let w : all_scalars bad ≡ true = subst IsValid same v in let q : false ≡ true = w in let z : ⊥ = cc in z))))
+  -- no shape
+  pub none-told : IsEmpty env k → At AnyField
+  none-told empty = any-key (λ key single. empty (Str key) single.0 ((single.1 (Str key) single.0).1 refl))
 
   -- ---- as calls tell
 

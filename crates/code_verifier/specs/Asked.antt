@@ -1,5 +1,5 @@
 -- What the answer of a question says of a need.
-use Rattle.std.specs.Prelude.{◌≡◌, ◌⊎◌, List, Option, Some, None}
+use Rattle.std.specs.Prelude.{◌≡◌, ◌⊎◌, List, Option, None, IsSomeAnd}
 use Rattle.std.specs.List.{AllZip}
 use Rattle.bal_base.specs.declared.shape.Case.{Case}
 use Rattle.bal_base.specs.declared.shape.Shape.{Shape, Str}
@@ -46,11 +46,10 @@ module _ (env : List AtomDef) where
       (g : Shape) × (c : Case) × IsShapeOf env f g × AnswersIn g c
       × AllZip (λ y t. IsShapeOf env t y) (shapes_list c.args) args × (c.result ≡ None) × (x ≡ arguments_of c)
 
-  -- a key of the pair that has no type, or a value of it that isn't in the type of a key
+  -- a value of the pair that isn't in the type of some key of it, or of a key that has no type
   abbrev pub IsUnfit : List FieldDef → Option Ty → SemType × SemType → Shape → Type 0
   IsUnfit fields rest pair x =
-      (key : Text) × In env (Str key) pair.0
-      × (((key_type fields rest key ≡ None) × (x ≡ Str key)) ⊎ ((t : Ty) × (key_type fields rest key ≡ Some t) × IsOutside (λ y. In env y t.sem) pair.1 x))
+      (key : Text) × IsShapeOf env pair.0 (Str key) × IsOutside (λ y. IsSomeAnd (key_type fields rest key) (λ t. In env y t.sem)) pair.1 x
 
   -- the shape shows that the need isn't met
   abbrev pub IsAgainst : Need → Shape → Type 0

@@ -81,7 +81,7 @@ fn keys_of_shape<T: Types>(
     }
 }
 
-/// The same, or none where no shape was found.
+/// The same, or all where no shape was found.
 fn keys_of_found<T: Types>(
     alloc: Global,
     types: &mut T,
@@ -96,12 +96,11 @@ fn keys_of_found<T: Types>(
 {
     match found {
         Some(shape) => keys_of_shape(alloc, types, k, &shape),
-        None => Ok(None),
+        None => Ok(Some(Keys::AnyField)),
     }
 }
 
-/// The keys that a type names: one where it has a single string, and none where it has no shape. It costs up to two
-/// questions. `TypeLimit` where one of them is too large.
+/// The keys that a type names: one where it has a single string, and else all. It costs up to two questions. `TypeLimit` where one of them is too large.
 fn named_keys<T: Types>(
     alloc: Global,
     types: &mut T,

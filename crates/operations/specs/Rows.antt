@@ -5,7 +5,7 @@ use Rattle.bal_base.specs.declared.text.Text.{Text}
 use Rattle.bal_base.specs.declared.shape.Shape.{Shape, Nil, Bool as BoolShape, Int, Str}
 use Rattle.bal_base.specs.declared.shape.Case.{Case}
 use Rattle.bal_base.specs.Shapes.{shapes_list}
-use Rattle.bal_base.specs.Valid.{IsInt, IsValid}
+use Rattle.bal_base.specs.Valid.{IsInt, IsText, IsValid}
 use Rattle.type_model.specs.declared.basic.SemType.{SemType}
 use Rattle.type_model.specs.declared.atoms.AtomDef.{AtomDef}
 use Rattle.type_model.specs.declared.answers.Keys.{Keys}
@@ -99,10 +99,13 @@ module _ (env : List AtomDef) where
   abbrev pub NamesIndex : SemType → Keys → Type 0
   NamesIndex t keys = ((n : ℕ) × IsSingleIndex t n × (keys ≡ Index n)) ⊎ (((n : ℕ) → ¬ IsSingleIndex t n) × (keys ≡ AnyIndex))
 
+  -- the type has the string of this text alone, which strings can have
+  abbrev pub IsSingleKey : SemType → Text → Type 0
+  IsSingleKey t key = IsText key × IsSingle t (Str key)
+
   -- which keys a type of strings names: one where it has a single string, and else all
   abbrev pub NamesKey : SemType → Keys → Type 0
-  NamesKey t keys =
-      ((key : Text) × IsSingle t (Str key) × (keys ≡ Field key)) ⊎ (((key : Text) → ¬ IsSingle t (Str key)) × (keys ≡ AnyField))
+  NamesKey t keys = ((key : Text) × IsSingleKey t key × (keys ≡ Field key)) ⊎ (((key : Text) → ¬ IsSingleKey t key) × (keys ≡ AnyField))
 
   -- such a shape stands in some shape of the type at an index that i names
   abbrev pub StandsAtIndex : SemType → SemType → Shape → Type 0

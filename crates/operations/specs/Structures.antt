@@ -8,6 +8,7 @@ use Rattle.type_model.specs.declared.answers.Keys.TheVariants.{Results}
 use Rattle.type_model.specs.declared.atoms.FieldDef.{FieldDef}
 use Rattle.type_model.specs.declared.atoms.AtomDef.{AtomDef}
 use Rattle.type_model.specs.declared.atoms.AtomDef.TheVariants.{List as ListAtom, Mapping as MappingAtom, Arrow, Error as ErrorAtom, Future as FutureAtom}
+use Rattle.type_model.specs.Inclusion.{IsShapeOf}
 use Rattle.type_model.specs.Membership.{In}
 use Rattle.type_model.specs.Parts.{StandsAt}
 use Rattle.type_model.specs.Places.{item_type, key_type}
@@ -44,10 +45,10 @@ module _ (env : List AtomDef) where
   ItemsFit (s ∷ more) k fixed rest =
       IsSomeAnd (item_type fixed rest k) (λ t. IsWithin env (λ x. In env x t.sem) s) × ItemsFit more (k + 1) fixed rest
 
-  -- the value is below the type of each key that its key may be
+  -- each value is in the type of each key that its key may be
   abbrev pub MemberFits : List FieldDef → Option Ty → SemType × SemType → Type 0
   MemberFits fields rest m =
-      (key : Text) → In env (Str key) m.0 → IsSomeAnd (key_type fields rest key) (λ t. IsWithin env (λ x. In env x t.sem) m.1)
+      (key : Text) → IsShapeOf env m.0 (Str key) → IsWithin env (λ x. IsSomeAnd (key_type fields rest key) (λ t. In env x t.sem)) m.1
 
   -- each required field is there: some key has its name as its single string
   abbrev pub NamesRequired : List FieldDef → List (SemType × SemType) → Type 0

@@ -133,11 +133,11 @@ module _ (old env : List AtomDef) (t : SemType) (same : (x : Shape) → In old x
   item-named keys others whole part (inr (none, is)) (inr (never, are)) at = subst (λ k. StandsIn k whole part) (are ∙ sym is) at
 
   key-named : (keys others : Keys) (whole part : Shape) → NamesFields old t keys → NamesKey env t others → StandsIn others whole part → StandsIn keys whole part
-  key-named keys others whole part (inl (n, (valid, only), is)) (inl (m, single, are)) at =
+  key-named keys others whole part (inl (n, (valid, only), is)) (inl (m, (text, single), are)) at =
       let one : Str n ≡ Str m = only-one (Str n) (Str m) valid only single in
       let name : n ≡ m = cc in
       subst (λ k. StandsIn k whole part) (are ∙ ap Field (sym name) ∙ sym is) at
-  key-named keys others whole part (inl (n, (valid, only), is)) (inr (none, are)) at = absurd (none n (single-later (Str n) only))
+  key-named keys others whole part (inl (n, (valid, only), is)) (inr (none, are)) at = absurd (none n (valid, single-later (Str n) only))
   key-named keys others whole part (inr (none, is)) (inl (m, single, are)) at =
       subst (λ k. StandsIn k whole part) (sym is) (field-any m whole part (subst (λ k. StandsIn k whole part) are at))
   key-named keys others whole part (inr (none, is)) (inr (never, are)) at = subst (λ k. StandsIn k whole part) (are ∙ sym is) at

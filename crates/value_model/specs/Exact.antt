@@ -29,7 +29,7 @@ module _ (atoms : List AtomDef) where
 
   -- the type has the shape and no other
   abbrev pub IsOnly : SemType → Shape → Type 0
-  IsOnly t s = HasExactly atoms t (λ x. x ≡ s)
+  IsOnly t s = IsShapeOf atoms t s × HasExactly atoms t (λ x. x ≡ s)
 
   -- all shapes of the type are of one kind, and this is one of them
   abbrev pub HasAmong : (Shape → Type 0) → SemType → Shape → Type 0

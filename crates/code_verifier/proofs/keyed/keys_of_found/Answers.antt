@@ -1,7 +1,7 @@
 use Rattle.std.proofs.Common.{Option, subst}
 use Rattle.bal_base.specs.declared.shape.Shape.{Shape}
 use Rattle.type_model.specs.Inclusion.{FindsShape}
-use Rattle.code_verifier.proofs.KeyNames.{no-key}
+use Rattle.code_verifier.proofs.KeyNames.{none-told}
 use Rattle.code_verifier.proofs.keyed.keys_of_found.Goals as goal
 
 pub keys_of_shape-requires-clause-there : goal.keys_of_shape-requires-clause-there
@@ -10,4 +10,4 @@ keys_of_shape-requires-clause-there g c = subst (λ (o : Option Shape). FindsSha
 pub returns-in-None-clause-keys : goal.returns-in-None-clause-keys
 returns-in-None-clause-keys g c =
     let env = g.T.Types.atoms c.args.types.now in
-    no-key env c.args.k.now (subst (λ (o : Option Shape). FindsShape env c.args.k.now o) c.in-None.is c.requires.found)
+    none-told env c.args.k.now (subst (λ (o : Option Shape). FindsShape env c.args.k.now o) c.in-None.is c.requires.found)
