@@ -23,7 +23,7 @@ use Rattle.descriptors.specs.declared.names.Names.{Names}
 use Rattle.flow_narrowing.specs.Flows.{IfShared}
 use Rattle.needs.specs.Needs.{asks, does}
 use Rattle.operations.specs.Kinds.{IsString}
-use Rattle.operations.specs.Rows.{IsSingle, NamesIndex, NamesKey, Surroundings}
+use Rattle.operations.specs.Rows.{NamesIndex, NamesKey, Surroundings}
 use Rattle.operations.specs.declared.operation.Constant.TheVariants as constant
 use Rattle.operations.specs.declared.operation.Constant.{Constant}
 use Rattle.operations.specs.declared.operation.Operation.TheVariants.{SetItem, SetKey}
@@ -51,7 +51,7 @@ use Rattle.typed_stmts.proofs.Branching.{two-same}
 use Rattle.typed_stmts.proofs.Ends.{performed-typed}
 use Rattle.typed_stmts.proofs.Words.{parts-taken, put-from, stmt-put, want-some-put, wants-dropped}
 use Rattle.typed_stmts.specs.Adding.{AddsStmt, AddsTyped}
-use Rattle.typed_stmts.specs.Stored.{AllMayStand, FieldIsNamed, HasValidKey, MayStandThere, StoreIsTyped, StoredIsExpected, StoresAreTyped}
+use Rattle.typed_stmts.specs.Stored.{AllMayStand, FieldIsNamed, MayStandThere, StoreIsTyped, StoredIsExpected, StoresAreTyped}
 use Rattle.typed_tree.proofs.ExprLayers.{expr_layers}
 use Rattle.typed_tree.specs.Exprs.{type_of}
 use Rattle.typed_tree.specs.SharedTypes.{Shared, sem_of}
@@ -100,9 +100,9 @@ module _ (old env : List AtomDef) (t : SemType) (same : (x : Shape) → In old x
   items-named keys (inl (n, (valid, only), is)) = inl (n, (valid, single-later (Int (pos n)) only), is)
   items-named keys (inr (none, is)) = inr ((λ n (int, single). none n (int, single-before (Int (pos n)) single)), is)
 
-  pub fields-named : (keys : Keys) → ((key : Text) → IsSingle env t (Str key) → IsValid (Str key)) → NamesFields old t keys → NamesKey env t keys
-  fields-named keys valid (inl (k, (here, only), is)) = inl (k, single-later (Str k) only, is)
-  fields-named keys valid (inr (none, is)) = inr ((λ k single. none k (valid k single, single-before (Str k) single)), is)
+  pub fields-named : (keys : Keys) → NamesFields old t keys → NamesKey env t keys
+  fields-named keys (inl (k, (text, only), is)) = inl (k, (text, single-later (Str k) only), is)
+  fields-named keys (inr (none, is)) = inr ((λ k (text, single). none k (text, single-before (Str k) single)), is)
 
 module _ (passes : List AtomDef → Asked → TypeLimit → Type 0) where
   pub names-asked : (a : Access) (t : SemType) (at : Place) (old new : State) (keys : Keys) → asking (names_members passes a t at) old (Gives keys) new
@@ -172,15 +172,15 @@ module _ (passes : List AtomDef → Asked → TypeLimit → Type 0) where
     stands-later old a keys x keeps defined (whole, shape, stands) = (whole, (shape.0, (keeps.shapes a defined whole).0 shape.1), stands)
 
     may-stand : (access : Access) (old : List AtomDef) (a i : TypedExpr) (keys : Keys) (x : Shape) → KeepsTypes old env → IsDefined old (sem a) → IsDefined old (sem i)
-        → HasValidKey passes names env access i → NamesMembers access old (sem i) keys → StandsAt old (sem a) keys x → MayStandThere passes names env access a i x
-    may-stand Char old a i keys x keeps da di valid named stands = tt
-    may-stand Item old a i keys x keeps da di valid named stands =
+        → NamesMembers access old (sem i) keys → StandsAt old (sem a) keys x → MayStandThere passes names env access a i x
+    may-stand Char old a i keys x keeps da di named stands = tt
+    may-stand Item old a i keys x keeps da di named stands =
         (keys, items-named old env (sem i) (keeps.shapes (sem i) di) keys named, stands-later old (sem a) keys x keeps da stands)
-    may-stand Key old a i keys x keeps da di valid named stands =
-        (keys, fields-named old env (sem i) (keeps.shapes (sem i) di) keys valid named, stands-later old (sem a) keys x keeps da stands)
+    may-stand Key old a i keys x keeps da di named stands =
+        (keys, fields-named old env (sem i) (keeps.shapes (sem i) di) keys named, stands-later old (sem a) keys x keeps da stands)
 
     pub stored-expected : StoredIsExpected passes names env
-    stored-expected at old new a i access before after met lasts la valid =
+    stored-expected at old new a i access before after met lasts la =
         let o = expected-opened at old new met in
         let (ea, ei) = two-same o.container o.key a i (same-lasts old.found 2 (o.container ∷ o.key ∷ []) (a ∷ i ∷ []) o.last_parts lasts) in
         let es : o.access ≡ access = last-same old.accesses o.access access o.last_access la in
@@ -192,7 +192,7 @@ module _ (passes : List AtomDef → Asked → TypeLimit → Type 0) where
         let defined = last-want-defined old new o.want after o.all in (
           o.want,
           o.all,
-          (λ x here is. may-stand access old.atoms a i o.keys x before.keeps da di valid named
+          (λ x here is. may-stand access old.atoms a i o.keys x before.keeps da di named
               ((exactly x here).0 ((o.meaning x here).0 ((before.keeps.shapes (sem_of o.want) defined x).1 is)))),
         )
 

@@ -2,8 +2,7 @@
 use Rattle.std.specs.Prelude.{⊤, Bool, List, Some, [], ◌++◌, ◌∷◌, ◌≡◌}
 use Rattle.bal_base.specs.Valid.{IsValid}
 use Rattle.bal_base.specs.declared.place.Place.{Place}
-use Rattle.bal_base.specs.declared.shape.Shape.{Str, Shape}
-use Rattle.bal_base.specs.declared.text.Text.{Text}
+use Rattle.bal_base.specs.declared.shape.Shape.{Shape}
 use Rattle.bal_tree.specs.declared.name.Word.{Word}
 use Rattle.check_words.specs.Members.{container_kind, index_kind}
 use Rattle.check_words.specs.State.{AreLast, IsLast, State}
@@ -12,7 +11,7 @@ use Rattle.check_words.specs.declared.access.Access.{Access}
 use Rattle.descriptors.specs.declared.names.Names.{Names}
 use Rattle.expr_needs.specs.Needs.{ExpectsStored, HasField, Stores}
 use Rattle.expr_needs.specs.declared.kind.Kind.TheVariants as kind
-use Rattle.operations.specs.Rows.{StandsAtIndex, StandsAtKey, Surroundings, IsSingle}
+use Rattle.operations.specs.Rows.{StandsAtIndex, StandsAtKey, Surroundings}
 use Rattle.tree_promises.specs.Made.{AreTypedExprs, sem}
 use Rattle.tree_promises.specs.Types.{IsTypedExpr}
 use Rattle.type_model.specs.Calls.{Asked}
@@ -37,16 +36,10 @@ module _ (passes : List AtomDef → Asked → TypeLimit → Type 0) (names : Nam
   abbrev pub AllMayStand : Access → TypedExpr → TypedExpr → SemType → Type 0
   AllMayStand access a i t = (x : Shape) → IsValid x → In env x t → MayStandThere access a i x
 
-  -- where a key's type has one string alone this is a valid one, as it is of each type that has a shape
-  abbrev pub HasValidKey : Access → TypedExpr → Type 0
-  HasValidKey Char i = ⊤
-  HasValidKey Item i = ⊤
-  HasValidKey Key i = (key : Text) → IsSingle env (sem i) (Str key) → IsValid (Str key)
-
   abbrev pub StoredIsExpected : Type 0
   StoredIsExpected =
       (at : Place) (old new : State) (a i : TypedExpr) (access : Access) → IsBefore env old → IsBefore env new → IsMet passes names env (ExpectsStored at) old new
-      → AreLast old.found 2 (a ∷ i ∷ []) → IsLast old.accesses access → HasValidKey access i
+      → AreLast old.found 2 (a ∷ i ∷ []) → IsLast old.accesses access
       → (w : Shared) × (new ≡ record old { wants = old.wants ++ Some w ∷ [] }) × AllMayStand access a i (sem_of w)
 
   module _ (place : Surroundings) where
