@@ -24,35 +24,35 @@ module _ (env : List AtomDef) (t : SemType) (name : Text) where
   )
 
   abbrev Decides : Bool → Type 0
-  Decides yes = IsTrue yes ↔ IsSingle env t (Str name)
+  Decides decided = IsTrue decided ↔ IsSingle env t (Str name)
 
-  by-both : (yes : Bool) → IsTrue yes ↔ (Sub env t One × Sub env One t) → Decides yes
-  by-both yes h = ((λ e. single-of-both.0 (h.0 e)), (λ s. h.1 (single-of-both.1 s)))
+  by-both : (decided : Bool) → IsTrue decided ↔ (Sub env t One × Sub env One t) → Decides decided
+  by-both decided h = ((λ e. single-of-both.0 (h.0 e)), (λ s. h.1 (single-of-both.1 s)))
 
-  pub single-told : {E : Type 0} (r : Result Bool E) → IfOk r (λ yes. IsTrue yes ↔ (Sub env t One × Sub env One t)) → IfOk r Decides
-  single-told (Ok yes) h = by-both yes h
+  pub single-told : {E : Type 0} (r : Result Bool E) → IfOk r (λ decided. IsTrue decided ↔ (Sub env t One × Sub env One t)) → IfOk r Decides
+  single-told (Ok decided) h = by-both decided h
   single-told (Err e) h = tt
 
-  pub is-single : (yes : Bool) → yes ≡ true → Decides yes → IsSingle env t (Str name)
-  is-single yes e d = d.0 e
+  pub is-single : (decided : Bool) → decided ≡ true → Decides decided → IsSingle env t (Str name)
+  is-single decided e d = d.0 e
 
-  pub no-single : (yes : Bool) → yes ≡ false → Decides yes → ¬ (IsSingle env t (Str name))
-  no-single yes e d s = absurd (let both : true ≡ false = sym (d.1 s) ∙ e in let q : ⊥ = cc in q)
+  pub no-single : (decided : Bool) → decided ≡ false → Decides decided → ¬ (IsSingle env t (Str name))
+  no-single decided e d s = absurd (let both : true ≡ false = sym (d.1 s) ∙ e in let q : ⊥ = cc in q)
 
 -- ---- Booleans
 
-pub where-first : (first : Bool) → first ≡ true → (P : Type 0) (yes : Bool) → IsTrue yes ↔ P → IsTrue yes ↔ (IsTrue first × P)
-where-first first e P yes h = ((λ y. (e, h.0 y)), (λ p. h.1 p.1))
+pub where-first : (first : Bool) → first ≡ true → (P : Type 0) (decided : Bool) → IsTrue decided ↔ P → IsTrue decided ↔ (IsTrue first × P)
+where-first first e P decided h = ((λ y. (e, h.0 y)), (λ p. h.1 p.1))
 
-pub where-first-ok : (first : Bool) → first ≡ true → (P : Type 0) → {E : Type 0} (r : Result Bool E) → IfOk r (λ yes. IsTrue yes ↔ P) → IfOk r (λ yes. IsTrue yes ↔ (IsTrue first × P))
-where-first-ok first e P (Ok yes) h = where-first first e P yes h
+pub where-first-ok : (first : Bool) → first ≡ true → (P : Type 0) → {E : Type 0} (r : Result Bool E) → IfOk r (λ decided. IsTrue decided ↔ P) → IfOk r (λ decided. IsTrue decided ↔ (IsTrue first × P))
+where-first-ok first e P (Ok decided) h = where-first first e P decided h
 where-first-ok first e P (Err s) h = tt
 
 pub where-not : (first : Bool) → first ≡ false → (P : Type 0) → IsTrue false ↔ (IsTrue first × P)
 where-not first e P = ((λ y. absurd (let q : ⊥ = cc in q)), (λ p. absurd (let both : true ≡ false = sym p.0 ∙ e in let q : ⊥ = cc in q)))
 
-pub both-decided : (first : Bool) (P Q : Type 0) → IsTrue first ↔ P → {E : Type 0} (r : Result Bool E) → IfOk r (λ yes. IsTrue yes ↔ (IsTrue first × Q)) → IfOk r (λ yes. IsTrue yes ↔ (P × Q))
-both-decided first P Q d (Ok yes) h = ((λ y. (d.0 (h.0 y).0, (h.0 y).1)), (λ p. h.1 (d.1 p.0, p.1)))
+pub both-decided : (first : Bool) (P Q : Type 0) → IsTrue first ↔ P → {E : Type 0} (r : Result Bool E) → IfOk r (λ decided. IsTrue decided ↔ (IsTrue first × Q)) → IfOk r (λ decided. IsTrue decided ↔ (P × Q))
+both-decided first P Q d (Ok decided) h = ((λ y. (d.0 (h.0 y).0, (h.0 y).1)), (λ p. h.1 (d.1 p.0, p.1)))
 both-decided first P Q d (Err s) h = tt
 
 -- ---- among what a list is mapped to
