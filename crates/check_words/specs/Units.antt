@@ -195,7 +195,7 @@ pub record IsFunctionOf (d : FunctionDef) (scope : Scope) (u : UnitAtWork) (f : 
   pub isolated : f.isolated ≡ d.isolated
   pub unit : f.unit ≡ typed_unit u u.arrow u.future
   pub events : f.events ≡ events_of_body d.body
-  pub at : f.at ≡ d.name.at
+  pub at : f.at ≡ d.at
 
 abbrev pub adds_function : FunctionDef → UnitAtWork → (TypedBody → Type 0) → Step
 adds_function d u P =

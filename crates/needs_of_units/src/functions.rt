@@ -63,7 +63,7 @@ fn typed_function(
         unit: made,
         body,
         events: SeenEvents::of(events),
-        at: d.name.at,
+        at: d.at,
     })
 }
 

@@ -6,7 +6,7 @@
 //! - An event is `W:N`, with the number of its worker, 0 of the default one, and its number there, from 0.
 //! - PAIRS: `S-R` for each message, of the events that send and receive it, in text order of the sends; or `none`.
 //! - ORDER: events of which each has a lesser rank than the next one.
-//! - A fault: its code, `@` and the byte of the body at which it stands, or `name` where it stands at the function's name; and behind it
+//! - A fault: its code, `@` and the byte of the body at which it stands, or `name` where it stands at the function's first token; and behind it
 //!   what it keeps: how many are sent and received, as `2,1`, a count, a shape, or the events of a ring.
 //!
 //! A body may close the function and begin others, which are planned too: pairs and faults are those of all functions of the file.

@@ -55,7 +55,7 @@ pub struct TypedFunction {
     pub body: TypedBody,
     /// The events of its workers by its syntax, as `skeleton` gives them.
     pub events: SeenEvents,
-    /// The place of its name.
+    /// The place of its first token.
     pub at: Place,
 }
 

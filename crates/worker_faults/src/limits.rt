@@ -34,7 +34,7 @@ fn within_limit_of(most: usize, count: usize, at: Place) -> Result<(), Stop<Faul
 }
 
 /// Not more than 64 named workers, and not more than 4,096 events of all workers: else `WorkerLimit` with the count, at the function's
-/// name. Takes no memory.
+/// first token. Takes no memory.
 pub fn within_limits(named: usize, events: usize, at: Place) -> Result<(), Stop<Fault>>
     ensures { (env : Atoms) → Comes (within_limit most_workers named at ▷ λ _. within_limit most_events events at) env result env }
 {
