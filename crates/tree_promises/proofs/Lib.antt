@@ -4,9 +4,9 @@ mod Layered
 mod LoopFlows
 mod LoopPieces
 mod MatchFlows
-mod Order
+pub mod Order
 pub mod Pieces
-mod Rows
+pub mod Rows
 mod Sets
 mod StmtFlows
 mod StmtPieces

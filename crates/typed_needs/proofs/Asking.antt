@@ -55,7 +55,7 @@ module _ (passes : List AtomDef → Asked → TypeLimit → Type 0) where
   pub wanted-leaves : (at : Place) → LeavesAll (is_wanted passes at)
   wanted-leaves at = all-then _ _ (all-some _) (λ w. all-then _ _ (all-some _) (λ e. below-if-leaves w e at))
 
-  has-part-leaves : (P : Shape → Type 0) (at : Place) → LeavesAll (has_part passes P at)
+  pub has-part-leaves : (P : Shape → Type 0) (at : Place) → LeavesAll (has_part passes P at)
   has-part-leaves P at = all-then _ _ (all-some _) (λ e. whether-some-leaves _ at)
 
   -- ---- what was asked
@@ -144,7 +144,7 @@ module _ (passes : List AtomDef → Asked → TypeLimit → Type 0) where
     accessed-as a at old new e before (u, mid, met, is) last =
         (a, is ∙ ap (λ (s : State). record s { accesses = s.accesses ++ a ∷ [] }) (is-of-leaves (container_kind a) at old mid u met), is-of-so (container_kind a) at u old mid e before met last)
 
-    either-way : (b : Bool) (m n : Check State (Unit {0})) (old new : State) (Q : Type 0) → either b m n old (Gives tt) new → (m old (Gives tt) new → Q) → (n old (Gives tt) new → Q) → Q
+    pub either-way : (b : Bool) (m n : Check State (Unit {0})) (old new : State) (Q : Type 0) → either b m n old (Gives tt) new → (m old (Gives tt) new → Q) → (n old (Gives tt) new → Q) → Q
     either-way true m n old new Q met f g = f met
     either-way false m n old new Q met f g = g met
 

@@ -60,7 +60,7 @@ pair-same a b x y e = let first = cons-same a x (b ∷ []) (y ∷ []) e in (firs
 
 -- ---- a member at a place stands at any place
 
-index-any : (n : ℕ) (whole part : Shape) → StandsIn (Index n) whole part → StandsIn AnyIndex whole part
+pub index-any : (n : ℕ) (whole part : Shape) → StandsIn (Index n) whole part → StandsIn AnyIndex whole part
 index-any n (List' mark _ items) part at =
     let xs = shapes_in _ items in
     subst (Contains xs) (get_or_from_slice_get xs n part part at) (Contains-get_or xs n part (slice_get_within xs n part at))
@@ -78,7 +78,7 @@ contains-map [] f (k, l, e) = absurd (omega (arith, l))
 contains-map (g ∷ fs) f (zero, l, e) = (0, omega arith, ap (λ h. h.1) e)
 contains-map (g ∷ fs) f (suc k, l, e) = let (j, m, is) = contains-map fs f (k, omega (arith, l), e) in (suc j, omega (arith, m), is)
 
-field-any : (name : Text) (whole part : Shape) → StandsIn (Field name) whole part → StandsIn AnyField whole part
+pub field-any : (name : Text) (whole part : Shape) → StandsIn (Field name) whole part → StandsIn AnyField whole part
 field-any name (Mapping' mark _ fields) part at = contains-map (fields_in _ fields) (name, part) at
 field-any name Nil part at = absurd at
 field-any name (BoolShape b) part at = absurd at
@@ -90,7 +90,7 @@ field-any name (Function isolated graph) part at = absurd at
 field-any name (Future' _ results) part at = absurd at
 
 -- a mapping of an atom with a required field has that member
-has-member : (env : List AtomDef) (name : Text) (defs : List AtomDef) (x : Shape) → HaveField name defs → In (env ++ defs) x (Atom (length env)) → HasMember name x
+pub has-member : (env : List AtomDef) (name : Text) (defs : List AtomDef) (x : Shape) → HaveField name defs → In (env ++ defs) x (Atom (length env)) → HasMember name x
 has-member env name defs x (t, r, every, rest, is) i = by x (subst (λ d. IsSomeAnd d (Fits (env ++ defs) x)) there i)
   where
     def : AtomDef
@@ -121,7 +121,7 @@ module _ (old env : List AtomDef) (t : SemType) (same : (x : Shape) → In old x
   only-one : (x y : Shape) → IsValid x → HasExactly old t (λ z. z ≡ x) → HasExactly env t (λ z. z ≡ y) → x ≡ y
   only-one x y valid h k = (k x valid).0 ((same x).0 ((h x valid).1 refl))
 
-  item-named : (keys others : Keys) (whole part : Shape) → NamesItems old t keys → NamesIndex env t others → StandsIn others whole part → StandsIn keys whole part
+  pub item-named : (keys others : Keys) (whole part : Shape) → NamesItems old t keys → NamesIndex env t others → StandsIn others whole part → StandsIn keys whole part
   item-named keys others whole part (inl (n, (valid, only), is)) (inl (m, (int, single), are)) at =
       let one : Int (pos n) ≡ Int (pos m) = only-one (Int (pos n)) (Int (pos m)) valid only single in
       let number : n ≡ m = cc in
@@ -132,7 +132,7 @@ module _ (old env : List AtomDef) (t : SemType) (same : (x : Shape) → In old x
       subst (λ k. StandsIn k whole part) (sym is) (index-any m whole part (subst (λ k. StandsIn k whole part) are at))
   item-named keys others whole part (inr (none, is)) (inr (never, are)) at = subst (λ k. StandsIn k whole part) (are ∙ sym is) at
 
-  key-named : (keys others : Keys) (whole part : Shape) → NamesFields old t keys → NamesKey env t others → StandsIn others whole part → StandsIn keys whole part
+  pub key-named : (keys others : Keys) (whole part : Shape) → NamesFields old t keys → NamesKey env t others → StandsIn others whole part → StandsIn keys whole part
   key-named keys others whole part (inl (n, (valid, only), is)) (inl (m, (text, single), are)) at =
       let one : Str n ≡ Str m = only-one (Str n) (Str m) valid only single in
       let name : n ≡ m = cc in
@@ -258,7 +258,7 @@ module _ (passes : List AtomDef → Asked → TypeLimit → Type 0) where
       )
 
   -- the mappings that have the field are an atom more
-  key-asked : (name : Text) (t : SemType) (at : Place) (u : Unit {0}) (old new : State) → has_key passes name t at old (Gives u) new
+  pub key-asked : (name : Text) (t : SemType) (at : Place) (u : Unit {0}) (old new : State) → has_key passes name t at old (Gives u) new
       → (defs : List AtomDef) × HaveField name defs × (new ≡ record old { atoms = old.atoms ++ defs }) × Sub new.atoms t (Atom (length old.atoms))
   unfolding ◌▷◌ asks adds is_below
   key-asked name t at u old new (atom, a, ((defs, have, number, atoms), over), (true, b, ((under, same), still), rest)) =

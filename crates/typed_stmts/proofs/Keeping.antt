@@ -53,7 +53,7 @@ module _ (place : Surroundings) where
   all-same [] (u ∷ us) same h = absurd same
   all-same (v ∷ vs) [] same h = absurd same
 
-  by-name : (vs : List Variable) (name : Name) (t : Option Shared) → All (IsStored place) vs → All (IsStored place) (narrowed_by_name vs name t)
+  pub by-name : (vs : List Variable) (name : Name) (t : Option Shared) → All (IsStored place) vs → All (IsStored place) (narrowed_by_name vs name t)
   by-name [] name t h = h
   by-name (v ∷ vs) name t h = by (is_same_text v.name name) (by-name vs name t (All-tail (IsStored place) v vs h))
     where
@@ -66,12 +66,12 @@ module _ (place : Surroundings) where
   one-more (w ∷ vs) v h stored =
       All-cons (IsStored place) w (vs ++ v ∷ []) (All-head (IsStored place) w vs h) (one-more vs v (All-tail (IsStored place) w vs h) stored)
 
-  first-ones : (n : ℕ) (vs : List Variable) → All (IsStored place) vs → All (IsStored place) (take n vs)
+  pub first-ones : (n : ℕ) (vs : List Variable) → All (IsStored place) vs → All (IsStored place) (take n vs)
   first-ones zero vs h = All-nil (IsStored place)
   first-ones (suc n) [] h = All-nil (IsStored place)
   first-ones (suc n) (v ∷ vs) h = All-cons (IsStored place) v (take n vs) (All-head (IsStored place) v vs h) (first-ones n vs (All-tail (IsStored place) v vs h))
 
-  heads-stored : (words : List Word) (f : Flow) → FlowIsStored place f → FlowIsStored place (at_head words f)
+  pub heads-stored : (words : List Word) (f : Flow) → FlowIsStored place f → FlowIsStored place (at_head words f)
   heads-stored [] f h = h
   heads-stored (w ∷ words) f h = heads-stored words (with_type w.name None f) (by-name f.variables w.name None h)
 

@@ -1,14 +1,16 @@
-mod Assigning
-mod Branches
-mod Branching
-mod Ends
+pub mod Assigning
+pub mod Branches
+pub mod Branching
+pub mod ElementReads
+pub mod ElementUpdates
+pub mod Ends
 mod FlowPieces
-mod Items
-mod Keeping
-mod Looping
-mod Matching
-mod NameUpdates
-mod Seeing
-mod Storing
-mod Updating
-mod Words
+pub mod Items
+pub mod Keeping
+pub mod Looping
+pub mod Matching
+pub mod NameUpdates
+pub mod Seeing
+pub mod Storing
+pub mod Updating
+pub mod Words

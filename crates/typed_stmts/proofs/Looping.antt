@@ -76,7 +76,7 @@ zip-last R (w ∷ xs) x (y ∷ ys) h = let (z, last, r) = zip-last R xs x ys h.1
 zip-last R (w ∷ xs) x [] h = absurd h
 
 -- the next one has the next number
-next-slot : (t u : Shared) (own next : ℕ) (a b c d : State) → (s : UnitSet a b (λ w. record w { slots = w.slots ++ t ∷ [] }) with_units) → own ≡ length s.was.slots
+pub next-slot : (t u : Shared) (own next : ℕ) (a b c d : State) → (s : UnitSet a b (λ w. record w { slots = w.slots ++ t ∷ [] }) with_units) → own ≡ length s.was.slots
     → c.units ≡ b.units → (r : UnitSet c d (λ w. record w { slots = w.slots ++ u ∷ [] }) with_units) → next ≡ length r.was.slots → next ≡ own + 1
 next-slot t u own next a b c d s is same r are =
     let units : c.units ≡ replaced a.units s.now = same ∙ ap (λ (x : State). x.units) s.all in

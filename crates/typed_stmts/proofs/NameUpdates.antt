@@ -54,12 +54,12 @@ updates-opened P op value at u old new (what, a, (holds, e), added) =
     (what, holds, put-from (IsUpdate what op value at) old a new (ap (λ (s : State). s.blocks) e) (stmt-put (IsUpdate what op value at) u a new added))
 
 module _ (made : MadeStatementsAreTyped) (passes : List AtomDef → Asked → TypeLimit → Type 0) (names : Names) (env : List AtomDef) (place : Surroundings) (inside : Bool) where
-  leads-so : (truth : SemType) (op : Operator) (s t r : SemType) → HasExactly env truth IsBoolean → OperandsFit env op (s ∷ t ∷ []) × ResultHas env (Some r) (GivenBy op)
+  pub leads-so : (truth : SemType) (op : Operator) (s t r : SemType) → HasExactly env truth IsBoolean → OperandsFit env op (s ∷ t ∷ []) × ResultHas env (Some r) (GivenBy op)
       → LeadsTo env place (operator_operations op) (s ∷ t ∷ []) r
   leads-so truth op s t r booleans fits = let p : MadeIsTyped env place truth = made-is-typed env place truth in p.operators op (s ∷ t ∷ []) r booleans fits.0 fits.1
 
   -- what the operator gives is below what is stored, over the atoms at the end
-  result-under : (old : State) (stored read result : Shared) → IsBefore env old → AreLast old.wants 3 (Some stored ∷ Some read ∷ Some result ∷ [])
+  pub result-under : (old : State) (stored read result : Shared) → IsBefore env old → AreLast old.wants 3 (Some stored ∷ Some read ∷ Some result ∷ [])
       → Sub old.atoms (sem_of result) (sem_of stored) → Sub env (sem_of result) (sem_of stored)
   result-under old stored read result before lasts under =
       let all = last-have (IfShared (TyBelow (length old.atoms))) 3 old.wants (Some stored ∷ Some read ∷ Some result ∷ []) lasts before.stands.wants in
@@ -181,7 +181,7 @@ module _ (made : MadeStatementsAreTyped) (passes : List AtomDef → Asked → Ty
   name-so (SeenNothing code) a q read result stored op e at truth old mid new is stands named takes typed leads under reads stores same met = absurd is
 
   -- the three types that are wanted are these
-  same-three : (s r t s' r' t' : Shared) → Some s ∷ Some r ∷ Some t ∷ [] ≡ Some s' ∷ Some r' ∷ Some t' ∷ [] → (s ≡ s') × (r ≡ r') × (t ≡ t')
+  pub same-three : (s r t s' r' t' : Shared) → Some s ∷ Some r ∷ Some t ∷ [] ≡ Some s' ∷ Some r' ∷ Some t' ∷ [] → (s ≡ s') × (r ≡ r') × (t ≡ t')
   same-three s r t s' r' t' e = ((let a : s ≡ s' = cc in a), (let b : r ≡ r' = cc in b), (let c : t ≡ t' = cc in c))
 
   pub name-update : NameUpdateIsTyped passes names env place inside

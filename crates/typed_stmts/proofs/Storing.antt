@@ -1,7 +1,6 @@
 -- Stores to members.
 use Rattle.std.proofs.Common.{inl, inr, Bool, List, None, Some, [], ap, append-nil, arith, length, refl, rules, subst, sym, ◌++◌, ◌↔◌, ◌∙◌, ◌∷◌, ◌≡◌}
 use Rattle.std.specs.Prelude.{pos}
-use Rattle.bal_base.specs.Valid.{IsValid}
 use Rattle.bal_base.specs.declared.fault.FaultCode.TheVariants.{NoField}
 use Rattle.bal_base.specs.declared.place.Place.{Place}
 use Rattle.bal_base.specs.declared.shape.Shape.{Shape, Str, Int}
@@ -9,7 +8,7 @@ use Rattle.bal_base.specs.declared.text.Text.{Text}
 use Rattle.bal_tree.specs.declared.name.Word.{Word}
 use Rattle.check_words.proofs.LastOnes.{kept-is}
 use Rattle.check_words.proofs.Standing.{last-has, last-have}
-use Rattle.check_words.specs.Members.{IsStored as IsStoredAt, NamesFields, NamesItems, NamesMembers, accesses, container_kind, expects_stored, gives_key, has_field, index_kind, names_members, some_member_at, takes_access}
+use Rattle.check_words.specs.Members.{IsStored as IsStoredAt, NamesFields, NamesItems, NamesMembers, accesses, container_kind, expects_stored, gives_key, has_field, index_kind, names_members, some_member_at}
 use Rattle.check_words.specs.Stands.{PartBelow}
 use Rattle.check_words.specs.State.{AreLast, IsLast, State, all_but}
 use Rattle.check_words.specs.Statements.{store_form, stores}
@@ -49,7 +48,7 @@ use Rattle.typed_needs.specs.Asked.{IsOfIt}
 use Rattle.typed_needs.specs.Pieces.{IsBefore}
 use Rattle.typed_stmts.proofs.Branching.{two-same}
 use Rattle.typed_stmts.proofs.Ends.{performed-typed}
-use Rattle.typed_stmts.proofs.Words.{parts-taken, put-from, stmt-put, want-some-put, wants-dropped}
+use Rattle.typed_stmts.proofs.Words.{access-taken, parts-taken, put-from, stmt-put, want-some-put, wants-dropped}
 use Rattle.typed_stmts.specs.Adding.{AddsStmt, AddsTyped}
 use Rattle.typed_stmts.specs.Stored.{AllMayStand, FieldIsNamed, MayStandThere, StoreIsTyped, StoredIsExpected, StoresAreTyped}
 use Rattle.typed_tree.proofs.ExprLayers.{expr_layers}
@@ -227,11 +226,6 @@ module _ (passes : List AtomDef → Asked → TypeLimit → Type 0) where
           pub last_parts : AreLast old.found 3 parts
           pub is : store_form access form
           pub put : AddsStmt (IsPerform form parts at) [] old new
-
-        access-taken : (a : Access) (old new : State) → takes_access old (Gives a) new → IsLast old.accesses a × (new ≡ record old { accesses = all_but 1 old.accesses })
-        unfolding ◌▷◌ gives_some does
-        access-taken a old new (b, s, (last, e1), (u, t, e2, (is, e3))) =
-            (subst (λ (x : Access). IsLast old.accesses x) (sym is) last, e3 ∙ e2 ∙ ap (λ (x : State). record x { accesses = all_but 1 x.accesses }) e1)
 
         pub store-opened : (at : Place) (old new : State) → stores at old (Gives tt) new → StoreOpened at old new
         unfolding ◌▷◌ gives_some

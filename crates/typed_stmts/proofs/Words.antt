@@ -2,10 +2,12 @@
 use Rattle.std.proofs.Common.{List, None, Some, [], ap, append_assoc, length, map, refl, slice_get, subst, sym, ℕ, ◌++◌, ◌∙◌, ◌∷◌, ◌≡◌, Option}
 use Rattle.std.proofs.lemmas.List.{length-map}
 use Rattle.std.specs.List.{AllZip}
+use Rattle.check_words.specs.Members.{takes_access}
 use Rattle.check_words.specs.Sharing.{SameShared, SameUnit}
 use Rattle.check_words.specs.State.{AreLast, BlockAtWork, ChoiceAtWork, IsLast, State, UnitAtWork, all_but, replaced}
 use Rattle.check_words.specs.Statements.{adds_stmt, closes_block, takes_part, takes_want}
 use Rattle.check_words.specs.Words.{takes, wants, by_handles, changes_flow, closes_choice, flow_now, new_slot, sets_flow, sets_unit, wants_no_more, Atoms, wants_some}
+use Rattle.check_words.specs.declared.access.Access.{Access}
 use Rattle.checks.specs.Checks.{Gives, gives_some, ◌▷◌}
 use Rattle.flow_narrowing.specs.declared.flow.Flow.{Flow}
 use Rattle.needs.specs.Needs.{does}
@@ -75,6 +77,13 @@ unfolding ◌▷◌ gives_some
 want-some-put P u old new (t, a, (holds, e1), put) =
     let (w, e2, value) = want-put-some t u a new put in
     (w, e2 ∙ ap (λ (s : State). record s { wants = s.wants ++ Some w ∷ [] }) e1, subst (λ (y : Ty). P old.atoms y) (sym value) holds)
+
+-- ---- what members are taken of
+
+pub access-taken : (a : Access) (old new : State) → takes_access old (Gives a) new → IsLast old.accesses a × (new ≡ record old { accesses = all_but 1 old.accesses })
+unfolding ◌▷◌ gives_some does
+access-taken a old new (b, s, (last, e1), (u, t, e2, (is, e3))) =
+    (subst (λ (x : Access). IsLast old.accesses x) (sym is) last, e3 ∙ e2 ∙ ap (λ (x : State). record x { accesses = all_but 1 x.accesses }) e1)
 
 -- ---- the unit at hand
 

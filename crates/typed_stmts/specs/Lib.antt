@@ -1,6 +1,7 @@
 pub mod Adding
 pub mod Assigned
 pub mod Branched
+pub mod Elements
 pub mod Ended
 pub mod Flowing
 pub mod Kept

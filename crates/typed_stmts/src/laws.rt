@@ -1,6 +1,7 @@
 //! Laws of needs of statements that are met, piece by piece. These calls do nothing: their clauses are laws.
 ghost use Rattle.typed_stmts.specs.Assigned.{AllAssignmentsAreTyped};
 ghost use Rattle.typed_stmts.specs.Branched.{AllBranchesAreTyped};
+ghost use Rattle.typed_stmts.specs.Elements.{ElementUpdatesAreTyped};
 ghost use Rattle.typed_stmts.specs.Ended.{AllEndsAreTyped};
 ghost use Rattle.typed_stmts.specs.Flowing.{TheseStatementsLeave};
 ghost use Rattle.typed_stmts.specs.Kept.{StoredStays};
@@ -46,6 +47,14 @@ pub fn needs_make_typed_stores<T: Types>()
 /// operator works on, and what it gives is below what is declared.
 pub fn needs_make_typed_updates<T: Types>()
     ensures { NameUpdatesAreTyped T.passes }
+{
+    made_statements_are_typed();
+}
+
+/// Where an assignment with an operator to a member is met there is one typed statement more in the block at hand: what is read there and the value are of the sort that the
+/// operator works on, and what it gives may stand there. What is stored to is a list or a mapping, and of what is read a type that has all of it is wanted.
+pub fn needs_make_typed_element_updates<T: Types>()
+    ensures { ElementUpdatesAreTyped T.passes }
 {
     made_statements_are_typed();
 }
