@@ -66,10 +66,10 @@ pub text-same : (a b : Text) → a ≡ b → is_same_text a b ≡ true
 text-same a b e = (bytes_decides a b).1 e
 
 -- what is not the same text isn't equal to it
-other-text : (a b : Text) → is_same_text a b ≡ false → (b ≡ a) → ⊥
+pub other-text : (a b : Text) → is_same_text a b ≡ false → (b ≡ a) → ⊥
 other-text a b other same = let one : is_same_text a b ≡ true = text-same a b (sym same) in let bad : ⊥ = cc in bad
 
-none-so : (text : Text) (keys : List (Option Text)) → list_any (is_key text) keys ≡ false → All (λ key. Differ key (Some text)) keys
+pub none-so : (text : Text) (keys : List (Option Text)) → list_any (is_key text) keys ≡ false → All (λ key. Differ key (Some text)) keys
 none-so text [] e = All-nil _
 none-so text (key ∷ keys) e = All-cons (λ k. Differ k (Some text)) key keys (first key (or-false (is_key text key) (list_any (is_key text) keys) e).0)
     (none-so text keys (or-false (is_key text key) (list_any (is_key text) keys) e).1)
@@ -82,7 +82,7 @@ none-so text (key ∷ keys) e = All-cons (λ k. Differ k (Some text)) key keys (
     or-false false b e = (refl, e)
     or-false true b e = absurd (let bad : ⊥ = cc in bad)
 
-distinct-more : (keys : List (Option Text)) (key : Option Text) → AreDistinct keys → All (λ k. Differ k key) keys → AreDistinct (keys ++ key ∷ [])
+pub distinct-more : (keys : List (Option Text)) (key : Option Text) → AreDistinct keys → All (λ k. Differ k key) keys → AreDistinct (keys ++ key ∷ [])
 distinct-more [] key d h = (All-nil _, tt)
 distinct-more (k ∷ keys) key d h =
     (push k keys d.0 (All-head (λ j. Differ j key) k keys h), distinct-more keys key d.1 (All-tail (λ j. Differ j key) k keys h))
@@ -110,13 +110,13 @@ module _ (env : List AtomDef) where
 
   -- ---- the details of errors
 
-  abbrev sems : Pair → SemType × SemType
+  abbrev pub sems : Pair → SemType × SemType
   sems p = (sem p.0, sem p.1)
 
   abbrev IsOf : Text → Shape → SemType × SemType → Type 0
   IsOf key y p = In env (Str key) p.0 × In env y p.1
 
-  any-cases : {A : Type 0} (P : A → Type 0) (x : A) (xs : List A) → Any P (x ∷ xs) → P x ⊎ Any P xs
+  pub any-cases : {A : Type 0} (P : A → Type 0) (x : A) (xs : List A) → Any P (x ∷ xs) → P x ⊎ Any P xs
   any-cases P x xs (zero, y, lt, at, h) = inl (subst P (sym at) h)
   any-cases P x xs (suc k, y, lt, at, h) = inr (k, y, omega (arith, lt), at, h)
 
@@ -222,7 +222,7 @@ module _ (env : List AtomDef) where
     error-in x error valid of = subst (λ o. IsSomeAnd o (Fits env x)) (sym error) (of-detail x valid of)
 
   -- parts of pairs, in pairs
-  in-pairs : (ps : List Pair) (P : List (SemType × SemType) → Type 0) → P (map sems ps) → InPairs (length ps) (map sem (parts_of ps)) P
+  pub in-pairs : (ps : List Pair) (P : List (SemType × SemType) → Type 0) → P (map sems ps) → InPairs (length ps) (map sem (parts_of ps)) P
   in-pairs [] P h = h
   in-pairs (p ∷ ps) P h = in-pairs ps (λ more. P (sems p ∷ more)) h
 

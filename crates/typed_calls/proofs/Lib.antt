@@ -3,5 +3,7 @@ mod Errors
 mod LibraryCalls
 mod LibraryOperands
 mod LibraryWants
+mod MappingMembers
+mod Mappings
 mod ValueStarts
 mod WholeWaits

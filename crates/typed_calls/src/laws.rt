@@ -2,6 +2,7 @@
 ghost use Rattle.typed_calls.specs.Callees.{AllCalleesAreOpened};
 ghost use Rattle.typed_calls.specs.Errors.{AllErrorsAreTyped};
 ghost use Rattle.typed_calls.specs.LibraryCalls.{AllLibraryCallsAreTyped};
+ghost use Rattle.typed_calls.specs.Mappings.{AllMappingsAreTyped};
 ghost use Rattle.typed_calls.specs.ValueStarts.{ValueStartsAreTyped};
 ghost use Rattle.typed_calls.specs.WholeWaits.{AllWholeWaitsAreTyped};
 
@@ -33,4 +34,10 @@ pub fn needs_start_typed_values<T: Types>()
 /// the error is made there is one typed part in place of its message, its cause or nil, and its details.
 pub fn needs_make_typed_errors<T: Types>()
     ensures { AllErrorsAreTyped T.passes }
+{}
+
+/// A mapping constructor holds its members so far, each of whose values is in the type of each key that its key may be: so it is where one begins, behind each key and value, and
+/// where the mapping is made there is one typed part in place of its keys and values. Its required fields are among the members that were seen as it began.
+pub fn needs_make_typed_mappings<T: Types>()
+    ensures { AllMappingsAreTyped T.passes }
 {}

@@ -164,7 +164,7 @@ module _ (passes : List AtomDef → Asked → TypeLimit → Type 0) where
   pub frozen-leaves : (e : TypedExpr) (at : Place) → LeavesAll (is_frozen passes e at)
   frozen-leaves e at = all-then _ _ (whether-leaves passes IsFrozenType (sem e) at) (λ b. unless-leaves b ReadOnlyHolds at)
 
-  one-of : {A : Type 0} (b : Bool) (m n : Check State A) → LeavesAll m → LeavesAll n → LeavesAll (either b m n)
+  pub one-of : {A : Type 0} (b : Bool) (m n : Check State A) → LeavesAll m → LeavesAll n → LeavesAll (either b m n)
   one-of true m n f g = f
   one-of false m n f g = g
 
@@ -176,7 +176,7 @@ module _ (passes : List AtomDef → Asked → TypeLimit → Type 0) where
   widens-to-leaves (k ∷ kinds) t at =
       all-then _ _ (whether-leaves passes (OfKind k) (sem_of t) at) (λ b. one-of b _ _ (all-some _) (widens-to-leaves kinds t at))
 
-  added-leaves : (choice : Option ℕ) (e : TypedExpr) (at : Place) → LeavesAll (added_type passes choice e at)
+  pub added-leaves : (choice : Option ℕ) (e : TypedExpr) (at : Place) → LeavesAll (added_type passes choice e at)
   added-leaves None e at = widens-to-leaves (kind.Integer ∷ kind.Text ∷ kind.Truth ∷ []) (type_of e) at
   added-leaves (Some atom) e at = all-some _
 
@@ -198,7 +198,7 @@ module _ (passes : List AtomDef → Asked → TypeLimit → Type 0) where
           let here : mid ≡ old = whether-leaves passes (OfKind k) (sem_of t) at old mid false asked in
           subst (λ (s : State). Sub s.atoms (sem_of t) (sem_of u)) here (more mid new rest)
 
-  added-so : (e : TypedExpr) (t : Shared) (at : Place) (old new : State) → added_type passes None e at old (Gives t) new → Sub old.atoms (sem e) (sem_of t)
+  pub added-so : (e : TypedExpr) (t : Shared) (at : Place) (old new : State) → added_type passes None e at old (Gives t) new → Sub old.atoms (sem e) (sem_of t)
   added-so e t at old new met = widened-so (kind.Integer ∷ kind.Text ∷ kind.Truth ∷ []) (type_of e) t at old new met
 
   -- an item, step by step
@@ -261,7 +261,7 @@ module _ (passes : List AtomDef → Asked → TypeLimit → Type 0) where
 
   module _ (names : Names) (env : List AtomDef) where
     -- what may stand in an immutable structure is immutable data
-    stands-so : (immutable : Bool) (e : TypedExpr) (at : Place) (old new : State) → IsBefore env old → IsLast old.found e
+    pub stands-so : (immutable : Bool) (e : TypedExpr) (at : Place) (old new : State) → IsBefore env old → IsLast old.found e
         → either immutable (is_frozen passes e at) done old (Gives tt) new → MayStandIn env immutable (sem e)
     stands-so false e at old new before last met = λ is. absurd (let q : ⊥ = cc in q)
     stands-so true e at old new before last met = λ is. by (frozen-opened e at old new met)
