@@ -1,1 +1,5 @@
+mod Beside
+mod KeyTexts
+mod MemberKeys
 mod Singles
+mod Stopping
