@@ -1,0 +1,4 @@
+mod Chains
+mod Commanded
+mod Following
+mod NamedTypes
