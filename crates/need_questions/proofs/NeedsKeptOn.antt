@@ -1,5 +1,5 @@
 -- Questions one after another, over atoms that are added on the way.
-use Rattle.std.proofs.Common.{◌≡◌, ◌<◌, ◌+◌, ℕ, zero, suc, List, [], ◌∷◌, Some, All, Result, Ok, Err, IsErr, IsErrAnd, arith, get_or, length, refl, slice_get, subst, sym, take}
+use Rattle.std.proofs.Common.{◌≡◌, ◌<◌, ◌+◌, ℕ, zero, suc, List, [], ◌∷◌, Option, Some, None, All, IfSome, Result, Ok, Err, IsErr, IsErrAnd, arith, get_or, length, refl, slice_get, subst, sym, take}
 use Rattle.std.proofs.lemmas.List.Elements.{All-cons, All-head, All-more, All-nil, All-tail}
 use Rattle.std.proofs.lemmas.Option.{get_or_from_slice_get, slice_get_within}
 use Rattle.bal_base.specs.declared.shape.Shape.{Shape}
@@ -14,7 +14,7 @@ use Rattle.type_model.specs.declared.answers.TypeLimit.{TypeLimit}
 use Rattle.type_model.specs.Calls.{Asked, KeepsTypes}
 use Rattle.type_model.specs.Defined.{IsDefined}
 use Rattle.type_model.specs.Inclusion.{HasExactly}
-use Rattle.code_needs.specs.Needs.{Applies, Gives, GivesFuture, HasField, IsMet, Names, Need}
+use Rattle.code_needs.specs.Needs.{Applies, FitsFields, Gives, GivesFuture, HasField, IsMet, Names, Need}
 use Rattle.code_verifier.specs.declared.kind_types.KnownTypes.{KnownTypes}
 use Rattle.code_verifier.specs.declared.questions.OfKinds.TheVariants as kinds
 use Rattle.code_verifier.specs.declared.questions.OfMembers.TheVariants as members
@@ -25,6 +25,9 @@ use Rattle.code_verifier.specs.declared.questions.Question.TheVariants as plain
 use Rattle.code_verifier.specs.KindSets.{AreKnown}
 use Rattle.code_verifier.specs.Questions.{IsAskable, need_of}
 use Rattle.pair_questions.specs.declared.pair.Pair.{Pair}
+use Rattle.type_model.specs.declared.basic.Ty.{Ty}
+use Rattle.pair_questions.specs.declared.members.Members.{Members}
+use Rattle.pair_questions.specs.Fitting.{AreMembers}
 use Rattle.pair_questions.specs.Pairs.{KeyDefined, pair_of, pairs_of}
 use Rattle.atom_questions.specs.declared.limits.QuestionLimit.{QuestionLimit}
 use Rattle.atom_questions.specs.Kept.{NeedDefined}
@@ -74,6 +77,7 @@ module _ (env : List AtomDef) where
   defined : (q : NeedQuestion) → IsAskableNeed env q → All (NeedDefined env) (needs_of q)
   defined (asked.Plain q) d = one (need_of q) (plain-defined q d)
   defined (asked.HasField m name) d = one (HasField m.now name.now) d
+  defined (asked.FitsFields members pair) d = one (FitsFields members.fields.now members.rest.now (pair_of pair)) (d.0.0, d.0.1, d.1.2, d.1.1)
   defined (asked.Names pairs name) d = one (Names (pairs_of pairs.now) name.now) (pairs-defined pairs.now d)
   defined (asked.Gives f args r) d =
       All-cons (NeedDefined env) (Applies f.now args.now) (Gives f.now args.now r.now ∷ []) (d.0, d.2) (one (Gives f.now args.now r.now) (d.0, d.1, d.2))
@@ -101,9 +105,17 @@ module _ (env new : List AtomDef) (keeps : KeepsTypes env new) where
   all-kept : (ts : List SemType) → All (IsDefined env) ts → All (IsDefined new) ts
   all-kept ts d k t lt = keeps.defined (get_or ts k t) (d k t lt)
 
+  rest-kept : (rest : Option Ty) → IfSome rest (λ t. IsDefined env t.sem) → IfSome rest (λ t. IsDefined new t.sem)
+  rest-kept (Some t) d = keeps.defined t.sem d
+  rest-kept None d = tt
+
+  members-kept : (members : Members) → AreMembers env members → AreMembers new members
+  members-kept members d = (d.0, (λ k f lt. keeps.defined (get_or members.fields.now k f).ty.sem (d.1 k f lt)), rest-kept members.rest.now d.2)
+
   askable-kept : (q : NeedQuestion) → IsAskableNeed env q → IsAskableNeed new q
   askable-kept (asked.Plain q) d = plain-kept q d
   askable-kept (asked.HasField m name) d = keeps.defined m.now d
+  askable-kept (asked.FitsFields members pair) d = ((keeps.defined pair.key.now d.0.0, keeps.defined pair.value.now d.0.1), members-kept members d.1)
   askable-kept (asked.Names pairs name) d = λ k p lt. keeps.defined (get_or pairs.now k p).key.now (d k p lt)
   askable-kept (asked.Gives f args r) d = (keeps.defined f.now d.0, keeps.defined r.now d.1, all-kept args.now d.2)
   askable-kept (asked.GivesFuture f args r) d = (keeps.defined f.now d.0, keeps.defined r.now d.1, all-kept args.now d.2)

@@ -7,6 +7,7 @@ use Rattle.type_model.specs.Calls.{Asked, KeepsTypes, Without}
 use Rattle.code_verifier.specs.declared.kind_types.KnownTypes.{KnownTypes}
 use Rattle.code_verifier.specs.LedTo.{SomePasses}
 use Rattle.code_verifier.specs.Questions.{LeadsTo}
+use Rattle.pair_questions.specs.Fitting.{AsksFit}
 use Rattle.pair_questions.specs.Pairs.{AsksName}
 use Rattle.atom_questions.specs.Added.{HasOneMore, IsArgsDef, IsFieldDef}
 use Rattle.atom_questions.specs.FutureNeeds.{FutureStops, HasFutureMore}
@@ -21,6 +22,7 @@ use Rattle.need_questions.specs.NeedsAsked.{NeedsMet}
 abbrev pub HasAddedFor : List AtomDef → NeedQuestion → List AtomDef → Type 0
 HasAddedFor old (asked.Plain q) new = new ≡ old
 HasAddedFor old (asked.HasField m name) new = HasOneMore old (IsFieldDef name.now) new
+HasAddedFor old (asked.FitsFields members pair) new = new ≡ old
 HasAddedFor old (asked.Names pairs name) new = new ≡ old
 HasAddedFor old (asked.Gives f args r) new = HasOneMore old (IsArgsDef args.now) new
 HasAddedFor old (asked.GivesFuture f args r) new = HasFutureMore old f.now args.now new
@@ -34,6 +36,7 @@ OfTypes P (Types limit) = P limit
 abbrev pub NeedStops : (List AtomDef → Asked → TypeLimit → Type 0) → KnownTypes → List AtomDef → NeedQuestion → QuestionLimit → Type 0
 NeedStops passes known old (asked.Plain q) limit = OfTypes (SomePasses passes old (LeadsTo old known q)) limit
 NeedStops passes known old (asked.HasField m name) limit = OneMoreStops passes old (IsFieldDef name.now) (λ env asked. asked ≡ Without m.now (Atom (length old))) limit
+NeedStops passes known old (asked.FitsFields members pair) limit = OfTypes (SomePasses passes old (AsksFit old members pair)) limit
 NeedStops passes known old (asked.Names pairs name) limit = OfTypes (SomePasses passes old (AsksName pairs.now name.now)) limit
 NeedStops passes known old (asked.Gives f args r) limit = OneMoreStops passes old (IsArgsDef args.now) (AsksGiven f.now args.now (length old) r.now) limit
 NeedStops passes known old (asked.GivesFuture f args r) limit = FutureStops passes old f.now args.now r.now limit

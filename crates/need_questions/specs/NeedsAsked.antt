@@ -5,10 +5,11 @@ use Rattle.type_model.specs.declared.answers.Answer.{Answer}
 use Rattle.type_model.specs.declared.answers.Answer.TheVariants.{Yes, No}
 use Rattle.type_model.specs.declared.atoms.AtomDef.{AtomDef}
 use Rattle.type_model.specs.Defined.{IsDefined}
-use Rattle.code_needs.specs.Needs.{Applies, Gives, GivesFuture, HasField, IsMet, Names, Need}
+use Rattle.code_needs.specs.Needs.{Applies, FitsFields, Gives, GivesFuture, HasField, IsMet, Names, Need}
 use Rattle.code_verifier.specs.Asked.{IsAgainst}
 use Rattle.code_verifier.specs.Questions.{IsAskable, need_of}
-use Rattle.pair_questions.specs.Pairs.{KeyDefined, pairs_of}
+use Rattle.pair_questions.specs.Fitting.{AreMembers}
+use Rattle.pair_questions.specs.Pairs.{KeyDefined, pair_of, pairs_of}
 use Rattle.need_questions.specs.declared.question.NeedQuestion.{NeedQuestion}
 use Rattle.need_questions.specs.declared.question.NeedQuestion.TheVariants as asked
 
@@ -16,15 +17,17 @@ use Rattle.need_questions.specs.declared.question.NeedQuestion.TheVariants as as
 abbrev pub needs_of : NeedQuestion → List Need
 needs_of (asked.Plain q) = need_of q ∷ []
 needs_of (asked.HasField m name) = HasField m.now name.now ∷ []
+needs_of (asked.FitsFields members pair) = FitsFields members.fields.now members.rest.now (pair_of pair) ∷ []
 needs_of (asked.Names pairs name) = Names (pairs_of pairs.now) name.now ∷ []
 needs_of (asked.Gives f args r) = Applies f.now args.now ∷ Gives f.now args.now r.now ∷ []
 needs_of (asked.GivesFuture f args r) = Applies f.now args.now ∷ GivesFuture f.now args.now r.now ∷ []
 
 module _ (env : List AtomDef) where
-  -- its types name atoms that are there
+  -- its types name atoms that are there, and fields have names of their own
   abbrev pub IsAskableNeed : NeedQuestion → Type 0
   IsAskableNeed (asked.Plain q) = IsAskable env q
   IsAskableNeed (asked.HasField m name) = IsDefined env m.now
+  IsAskableNeed (asked.FitsFields members pair) = (IsDefined env pair.key.now × IsDefined env pair.value.now) × AreMembers env members
   IsAskableNeed (asked.Names pairs name) = All (KeyDefined env) pairs.now
   IsAskableNeed (asked.Gives f args r) = IsDefined env f.now × IsDefined env r.now × All (IsDefined env) args.now
   IsAskableNeed (asked.GivesFuture f args r) = IsDefined env f.now × IsDefined env r.now × All (IsDefined env) args.now

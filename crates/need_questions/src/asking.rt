@@ -2,12 +2,14 @@
 ghost use Rattle.std.specs.Prelude.{◌≡◌, All, IfOk};
 ghost use Rattle.bal_base.specs.Stops.{IfFault};
 ghost use Rattle.type_model.specs.Calls.{KeepsTypes};
-ghost use Rattle.code_needs.specs.Needs.{Names};
+ghost use Rattle.type_model.specs.Defined.{IsDefined};
+ghost use Rattle.code_needs.specs.Needs.{FitsFields, Names};
 ghost use Rattle.code_verifier.specs.Asked.{Answers};
 ghost use Rattle.code_verifier.specs.KindSets.{AreKnown};
 ghost use Rattle.code_verifier.specs.LedTo.{SomePasses};
 ghost use Rattle.code_verifier.specs.Questions.{IsAskable, LeadsTo, need_of};
-ghost use Rattle.pair_questions.specs.Pairs.{AsksName, KeyDefined, pairs_of};
+ghost use Rattle.pair_questions.specs.Fitting.{AreMembers, AsksFit};
+ghost use Rattle.pair_questions.specs.Pairs.{AsksName, KeyDefined, pair_of, pairs_of};
 ghost use Rattle.need_questions.specs.inner.Widened.{widened};
 ghost use Rattle.need_questions.specs.NeedsAsked.{AnswersNeeds, AreAnswered, IsAskableNeed, needs_of};
 ghost use Rattle.need_questions.specs.NeedStops.{FirstStops, HasAddedFor, NeedStops, OfTypes};
@@ -16,7 +18,7 @@ use crate::question::NeedQuestion;
 use atom_questions::{QuestionLimit, gives, gives_future, has_field};
 use bal_base::{Shape, Stop, Text};
 use code_verifier::{KnownTypes, Question, ask};
-use pair_questions::{Pair, has_name};
+use pair_questions::{Members, Pair, fits_fields, has_name};
 use std::alloc::Global;
 use type_model::{Answer, TypeLimit, Types};
 
@@ -45,6 +47,22 @@ fn ask_plain<T: Types>(
     ensures limit { IfFault result (OfTypes (SomePasses T.passes (T.atoms types.old) (LeadsTo (T.atoms types.old) known.now question.entry))) }
 {
     widen(ask(alloc, types, known, question))
+}
+
+/// Whether the pair's value is in the type of each key that its key may be.
+fn ask_fits<T: Types>(
+    alloc: Global,
+    types: &mut T,
+    members: Members<'_>,
+    pair: Pair<'_>,
+) -> Result<Answer, Stop<QuestionLimit>>
+    requires members { AreMembers (T.atoms types.old) members }
+    requires value { IsDefined (T.atoms types.old) pair.value.now }
+    ensures atoms { T.atoms types.new ≡ T.atoms types.old }
+    ensures answers { IfOk result (Answers (T.atoms types.old) (FitsFields members.entry.fields.now members.entry.rest.now (pair_of pair.entry))) }
+    ensures limit { IfFault result (OfTypes (SomePasses T.passes (T.atoms types.old) (AsksFit (T.atoms types.old) members.entry pair.entry))) }
+{
+    widen(fits_fields(alloc, types, members, pair))
 }
 
 /// Whether some key is the name alone.
@@ -80,6 +98,7 @@ pub fn ask_need<T: Types>(
     match question {
         NeedQuestion::Plain(question) => ask_plain(alloc, types, known, question),
         NeedQuestion::HasField(m, name) => has_field(alloc, types, m, name),
+        NeedQuestion::FitsFields(members, pair) => ask_fits(alloc, types, members, pair),
         NeedQuestion::Names(pairs, name) => ask_names(alloc, types, pairs, name),
         NeedQuestion::Gives(f, args, r) => gives(alloc, types, f, args, r),
         NeedQuestion::GivesFuture(f, args, r) => gives_future(alloc, types, f, args, r),

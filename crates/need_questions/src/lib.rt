@@ -1,5 +1,5 @@
 //! Needs of code as questions about types, of whichever kind they are, asked one after another: of all that `code_needs` has
-//! but pairs that are to fit fields and errors with details of pairs, which aren't asked yet.
+//! but errors with details of pairs, which aren't asked yet.
 //!
 //! - [`NeedQuestion`]: a need, or two of one call, and the types that are asked about.
 //! - [`ask_need`]: whether it is met.

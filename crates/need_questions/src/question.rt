@@ -2,7 +2,7 @@
 
 use bal_base::Text;
 use code_verifier::Question;
-use pair_questions::Pair;
+use pair_questions::{Members, Pair};
 use type_model::SemType;
 
 /// A need, or two needs of one call, as `needs_of` in `specs/NeedsAsked.antt` says.
@@ -12,6 +12,8 @@ pub enum NeedQuestion<'c> {
     Plain(Question<'c>),
     /// All shapes of the type are mappings that have the key.
     HasField(&'c SemType, &'c Text),
+    /// The pair's value is in the type of each key of a mapping with these members that its key may be.
+    FitsFields(Members<'c>, Pair<'c>),
     /// Some pair has the name as its single key.
     Names(&'c [Pair<'c>], &'c Text),
     /// No function of the first type fails at arguments of these types, and all that they give is in the last one.

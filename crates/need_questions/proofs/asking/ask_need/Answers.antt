@@ -33,6 +33,21 @@ pub returns-in-HasField-clause-limit : goal.returns-in-HasField-clause-limit
 returns-in-HasField-clause-limit g c =
     subst (λ (q : NeedQuestion). IfFault c.has_field.result (NeedStops g.T.Types.passes c.args.known.now (g.T.Types.atoms c.args.types.now) q)) (sym c.in-HasField.is) c.has_field.ensures.limit
 
+pub returns-in-FitsFields-clause-kept : goal.returns-in-FitsFields-clause-kept
+returns-in-FitsFields-clause-kept g c = kept-same (g.T.Types.atoms c.args.types.now) _ c.ask_fits.ensures.atoms
+
+pub returns-in-FitsFields-clause-added : goal.returns-in-FitsFields-clause-added
+returns-in-FitsFields-clause-added g c = added-of (g.T.Types.atoms c.args.types.now) c.args.question _ c.in-FitsFields.is _ c.ask_fits.ensures.atoms
+
+pub returns-in-FitsFields-clause-answers : goal.returns-in-FitsFields-clause-answers
+returns-in-FitsFields-clause-answers g c =
+    let env = g.T.Types.atoms c.args.types.now in
+    subst (λ (q : NeedQuestion). IfOk c.ask_fits.result (AnswersNeeds env (needs_of q))) (sym c.in-FitsFields.is) (one-answered env _ c.ask_fits.result c.ask_fits.ensures.answers)
+
+pub returns-in-FitsFields-clause-limit : goal.returns-in-FitsFields-clause-limit
+returns-in-FitsFields-clause-limit g c =
+    subst (λ (q : NeedQuestion). IfFault c.ask_fits.result (NeedStops g.T.Types.passes c.args.known.now (g.T.Types.atoms c.args.types.now) q)) (sym c.in-FitsFields.is) c.ask_fits.ensures.limit
+
 pub returns-in-Names-clause-kept : goal.returns-in-Names-clause-kept
 returns-in-Names-clause-kept g c = kept-same (g.T.Types.atoms c.args.types.now) _ c.ask_names.ensures.atoms
 
