@@ -1,4 +1,3 @@
 mod Chains
 mod Commanded
-mod Following
 mod NamedTypes
