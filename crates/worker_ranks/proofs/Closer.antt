@@ -9,21 +9,18 @@ use Rattle.worker_pairing.specs.Marks.{Members, Numbered, in_text, in_turn}
 use Rattle.worker_ranks.specs.inner.Vertices.{IsNoneBefore, Vertex, close_of, graph_of, is_close, is_edge, needs_other, vertex_of}
 use Rattle.worker_ranks.proofs.Graphs.{edge-has, edge-there, there-at, vertex-from, vertex-has}
 use Rattle.worker_ranks.proofs.InTurn.{vertex-there}
+use Rattle.worker_ranks.proofs.NotOnCycle.{way-on}
 use Rattle.worker_ranks.proofs.Texts.{turn-in-text}
 
 -- ---- ways in place of edges
 
 module _ (next close : List (List ℕ)) (led : (s t : ℕ) → Follows next s t → (between : List ℕ) × IsWay close s between t) where
-  joined : (s : ℕ) (ks : List ℕ) (m : ℕ) (ls : List ℕ) (t : ℕ) → IsWay close s ks m → IsWay close m ls t → IsWay close s (ks ++ m ∷ ls) t
-  joined s [] m ls t edge way = (edge, way)
-  joined s (k ∷ ks) m ls t (edge, rest) way = (edge, joined k ks m ls t rest way)
-
   way-led : (s : ℕ) (ks : List ℕ) (t : ℕ) → IsWay next s ks t → (between : List ℕ) × IsWay close s between t
   way-led s [] t edge = led s t edge
   way-led s (k ∷ ks) t (edge, rest) =
       let first = led s k edge in
       let more = way-led k ks t rest in
-      (first.0 ++ k ∷ more.0, joined s first.0 k more.0 t first.1 more.1)
+      (first.0 ++ k ∷ more.0, way-on close s first.0 k more.0 t first.1 more.1)
 
   pub none-led : (n : ℕ) → IsNoneBefore close n → IsNoneBefore next n
   none-led n none i lt cycle = none i lt (way-led i cycle.0 i cycle.1)

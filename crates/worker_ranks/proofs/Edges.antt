@@ -1,5 +1,5 @@
 -- Two vertices show whether the first event follows or needs the second.
-use Rattle.std.proofs.Common.{◌≡◌, ◌∙◌, ◌<◌, ◌⊎◌, ◌+◌, ◌==◌, ℕ, zero, suc, Bool, true, false, List, [], ◌∷◌, Some, None, length, refl, sym, subst, ap, inl, inr, arith}
+use Rattle.std.proofs.Common.{◌≡◌, ◌∙◌, ◌<◌, ◌⊎◌, ◌+◌, ◌==◌, ℕ, zero, suc, Bool, true, List, [], ◌∷◌, Some, None, length, refl, sym, subst, ap, inl, inr, arith}
 use Rattle.std.specs.Prelude.{◌&&◌, Contains, IsSomeAnd, nat_lt, slice_get}
 use Rattle.std.proofs.lemmas.Bool.{and_from, and_parts, eq-eqb, eqb-true, false≢true, lt-ltb, ltb-true, or_cases, or_left, or_right}
 use Rattle.typed_tree.specs.declared.event.EventKind.{EventKind}

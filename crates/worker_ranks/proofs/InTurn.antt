@@ -37,7 +37,7 @@ module _ (ms : Members) where
 
 -- ---- an event that needs none of a worker
 
-may-so : (k : EventKind) (a b : Vertex) → needs_other k a b ≡ true → may_need k b.worker ≡ true
+pub may-so : (k : EventKind) (a b : Vertex) → needs_other k a b ≡ true → may_need k b.worker ≡ true
 may-so (Receive (Some v)) a b is = eq-eqb v b.worker (sym (eqb-true b.worker v (and_parts _ _ is).0))
 may-so (Done (Some v)) a b is = eq-eqb v b.worker (sym (eqb-true b.worker v (and_parts _ _ is).0))
 may-so (Flush (Some v)) a b is = eq-eqb v b.worker (sym (eqb-true b.worker v (and_parts _ _ is).0))

@@ -4,6 +4,8 @@ mod Graphs
 mod Groups
 mod InTurn
 mod Named
+mod Neighbours
+mod NotOnCycle
 mod Numbered
 mod Placed
 mod Ringed

@@ -19,7 +19,7 @@ use Rattle.worker_ranks.proofs.Texts.{turn-from}
 
 -- ---- the test
 
-all-there : (p : ℕ → Bool) (ts : List ℕ) (t : ℕ) → list_all p ts ≡ true → Contains ts t → p t ≡ true
+pub all-there : (p : ℕ → Bool) (ts : List ℕ) (t : ℕ) → list_all p ts ≡ true → Contains ts t → p t ≡ true
 all-there p [] t is (k, lt, same) = absurd (omega (arith, lt))
 all-there p (x ∷ ts) t is (zero, lt, same) = subst (λ y. p y ≡ true) same (and_parts _ _ is).0
 all-there p (x ∷ ts) t is (suc k, lt, same) = all-there p ts t (and_parts _ _ is).1 (k, omega (arith, lt), same)

@@ -1,2 +1,4 @@
+pub mod Free
+pub mod SideBySide
 pub mod Turned
 pub mod Vertices

@@ -12,7 +12,7 @@ use std::alloc::Global;
 use worker_members::SaidKind;
 
 /// Whether an event may need one of this worker.
-fn may_need(kind: SaidKind<'_>, worker: u32) -> bool
+pub(crate) fn may_need(kind: SaidKind<'_>, worker: u32) -> bool
     ensures { result ≡ may_need_of (kind_of kind.entry) worker }
 {
     match kind {
@@ -59,7 +59,7 @@ fn add_of_group(
 }
 
 /// The number that comes so many behind another one.
-fn behind(number: usize, count: usize) -> Result<usize, Memory>
+pub(crate) fn behind(number: usize, count: usize) -> Result<usize, Memory>
     ensures { IfOk result (λ n. n ≡ number + count) }
 {
     number.checked_add(count).ok_or(Memory)

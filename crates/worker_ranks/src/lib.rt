@@ -11,8 +11,10 @@
 mod close;
 mod nodes;
 mod order;
+mod peel;
 mod rings;
 mod rising;
+mod runs;
 mod turns;
 
 pub use order::ranked;

@@ -6,7 +6,7 @@ ghost use Rattle.operations.specs.Talk.{workers_in};
 ghost use Rattle.worker_pairing.specs.Events.{is_peer as is_peer_of, receives_from as receives_from_of, sends_to as sends_to_of};
 ghost use Rattle.worker_pairing.specs.Faults.{crew_of, kinds_of};
 ghost use Rattle.worker_members.specs.Held.{kind_of, member_held, numbered_held};
-ghost use Rattle.worker_ranks.specs.inner.Vertices.{graph_by, is_among, is_edge_by, needs_other, passing, place_in, vertex_held, vertex_of};
+ghost use Rattle.worker_ranks.specs.inner.Vertices.{is_among, is_edge_by, needs_other, place_in, vertex_held, vertex_of};
 
 use bal_base::Memory;
 use std::alloc::Global;
@@ -183,7 +183,7 @@ fn is_right_behind(a: Node<'_>, b: Node<'_>) -> bool
 }
 
 /// Whether such an edge goes from the first to the second.
-fn is_edge(edges: Edges, a: Node<'_>, b: Node<'_>) -> bool
+pub(crate) fn is_edge(edges: Edges, a: Node<'_>, b: Node<'_>) -> bool
     ensures { result ≡ is_edge_by edges (vertex_held a.entry) (vertex_held b.entry) }
 {
     match edges {
@@ -199,40 +199,4 @@ pub(crate) fn push_if(next: &mut Vec<usize>, number: usize, there: bool) -> Resu
         next.push(number)?;
     }
     Ok(())
-}
-
-/// The numbers of those to which an edge goes from one of them.
-fn followed(
-    alloc: Global,
-    edges: Edges,
-    nodes: &[Node<'_>],
-    a: Node<'_>,
-) -> Result<Vec<usize>, Memory>
-    ensures { IfOk result (λ next. next.items ≡ passing (is_edge_by edges (vertex_held a.entry)) 0 (map vertex_held nodes.now)) }
-{
-    let mut next = Vec::new(alloc);
-    let mut number: usize = 0;
-    for b in nodes {
-        let there = is_edge(edges, a, *b);
-        push_if(&mut next, number, there)?;
-        number += 1;
-    }
-    Ok(next)
-}
-
-/// Of each vertex the numbers of those to which such edges go. Takes time that grows with the square of their number, and memory that
-/// grows with the edges.
-pub(crate) fn graph(
-    alloc: Global,
-    edges: Edges,
-    nodes: &[Node<'_>],
-) -> Result<Vec<Vec<usize>>, Memory>
-    ensures { IfOk result (λ graph. map (λ v. v.items) graph.items ≡ graph_by (is_edge_by edges) (map vertex_held nodes.now)) }
-{
-    let mut graph = Vec::new(alloc);
-    for a in nodes {
-        let next = followed(alloc, edges, nodes, *a)?;
-        graph.push(next)?;
-    }
-    Ok(graph)
 }

@@ -11,9 +11,13 @@ ghost use Rattle.graphs.specs.Distances.{IsReversed};
 ghost use Rattle.worker_pairing.specs.Faults.{IsRingFault, event_of as event_held};
 ghost use Rattle.worker_pairing.specs.Marks.{in_text};
 ghost use Rattle.worker_members.specs.Held.{member_held, numbered_held};
-ghost use Rattle.worker_ranks.specs.inner.Vertices.{IsNoneBefore, IsRingAt, IsRingOf, ShowsRing, close_of, graph_of, place_in_text, shown, vertex_held};
+ghost use Rattle.worker_ranks.specs.inner.SideBySide.{AreRuns};
+ghost use Rattle.worker_ranks.specs.inner.Turned.{groups_held, laid};
+ghost use Rattle.worker_ranks.specs.inner.Vertices.{IsNoneBefore, IsRingAt, IsRingOf, ShowsRing, close_of, graph_of, place_in_text, shown, vertex_of};
 
-use crate::nodes::{Edges, Node, graph, nodes};
+use crate::nodes::{Edges, Node, nodes};
+use crate::peel::freed_numbers;
+use crate::runs::{graph, runs};
 use bal_base::{Event, Fault, FaultCode, Kept, Memory, Place, Row};
 use graphs::{first_cycle, reversed};
 use std::alloc::Global;
@@ -26,7 +30,8 @@ pub(crate) struct Ring {
     others: Vec<usize>,
 }
 
-/// The first number that lies on a cycle. Each number in front costs a search of the graph.
+/// The first number that lies on a cycle. A number in front that lies on none costs a search of the graph where a way leads from a cycle
+/// to it and from it to one.
 fn first_on_cycle(
     alloc: Global,
     next: &[Vec<usize>],
@@ -35,11 +40,11 @@ fn first_on_cycle(
     requires reversed { IsReversed (map (λ v. v.items) next.now) (map (λ v. v.items) back.now) }
     ensures { IfOk result (λ found. IfSome found (IsNoneBefore (map (λ v. v.items) next.now))) }
 {
+    let mut freed = freed_numbers(alloc, next, back)?;
     for first in 0..back.len() {
-        let found = first_cycle(alloc, next, back, first)?;
-        match found {
-            Some(_) => return Ok(Some(first)),
-            None => {}
+        let on = freed.is_on_cycle(alloc, next, back, first)?;
+        if on {
+            return Ok(Some(first));
         }
     }
     Ok(None)
@@ -54,10 +59,11 @@ fn first_in(alloc: Global, next: &[Vec<usize>]) -> Result<Option<usize>, Memory>
 }
 
 /// The first of the events that lies on a ring.
-fn first_of(alloc: Global, vertices: &[Node<'_>]) -> Result<Option<usize>, Memory>
-    ensures { IfOk result (λ found. IfSome found (IsNoneBefore (close_of (map vertex_held vertices.now)))) }
+fn first_of(alloc: Global, runs: &[Vec<Node<'_>>]) -> Result<Option<usize>, Memory>
+    requires { AreRuns (groups_held runs.now) }
+    ensures { IfOk result (λ found. IfSome found (IsNoneBefore (close_of (laid (groups_held runs.now))))) }
 {
-    let next = graph(alloc, Edges::Close, vertices)?;
+    let next = graph(alloc, Edges::Close, runs)?;
     first_in(alloc, &next)
 }
 
@@ -97,20 +103,22 @@ fn ring_in(alloc: Global, next: &[Vec<usize>], first: usize) -> Result<Option<Ri
 }
 
 /// The same of the events.
-fn ring_at(alloc: Global, vertices: &[Node<'_>], first: usize) -> Result<Option<Ring>, Memory>
-    ensures { IfOk result (λ found. IfSome found (λ ring. IsRingAt (graph_of (map vertex_held vertices.now)) first ring.first ring.others.items)) }
+fn ring_at(alloc: Global, runs: &[Vec<Node<'_>>], first: usize) -> Result<Option<Ring>, Memory>
+    requires { AreRuns (groups_held runs.now) }
+    ensures { IfOk result (λ found. IfSome found (λ ring. IsRingAt (graph_of (laid (groups_held runs.now))) first ring.first ring.others.items)) }
 {
-    let next = graph(alloc, Edges::Every, vertices)?;
+    let next = graph(alloc, Edges::Every, runs)?;
     ring_in(alloc, &next, first)
 }
 
 /// The ring of the events. All their edges are held only where there is one.
-fn ring_of(alloc: Global, vertices: &[Node<'_>]) -> Result<Option<Ring>, Memory>
-    ensures { IfOk result (λ found. IfSome found (λ ring. IsRingOf (map vertex_held vertices.now) ring.first ring.others.items)) }
+fn ring_of(alloc: Global, runs: &[Vec<Node<'_>>]) -> Result<Option<Ring>, Memory>
+    requires { AreRuns (groups_held runs.now) }
+    ensures { IfOk result (λ found. IfSome found (λ ring. IsRingOf (laid (groups_held runs.now)) ring.first ring.others.items)) }
 {
-    let found = first_of(alloc, vertices)?;
+    let found = first_of(alloc, runs)?;
     match found {
-        Some(first) => ring_at(alloc, vertices, first),
+        Some(first) => ring_at(alloc, runs, first),
         None => Ok(None),
     }
 }
@@ -194,11 +202,25 @@ fn shown_ring(
     }
 }
 
+/// The events of the text, by neighbours of one worker.
+fn text_runs<'a>(
+    alloc: Global,
+    workers: &[HeldMember<'_>],
+    text: &[Standing<'a>],
+) -> Result<Vec<Vec<Node<'a>>>, Memory>
+    ensures runs { IfOk result (λ runs. AreRuns (groups_held runs.items)) }
+    ensures laid { IfOk result (λ runs. laid (groups_held runs.items) ≡ map (vertex_of (map member_held workers.now)) (map numbered_held text.now)) }
+{
+    let vertices = nodes(alloc, workers, text)?;
+    runs(alloc, &vertices)
+}
+
 /// The ring in which events of the workers wait for one another, as `WaitCycle` at its first event, where there is one: it begins with
 /// the first event in text order that lies on a ring, and is a shortest one, and of those the one whose events come first in text order.
-/// `text` has all events in text order. Takes time that grows with the square of the events, for each event in front of the first one a
-/// search of what events need and of those right before them, and, where there is a ring, memory that grows with the square of the
-/// events. Wants memory alone.
+/// `text` has all events in text order. An event costs a look at those of its worker and of the workers of which it may need some. The
+/// first one is sought where rounds over the events, which end when they tell no more, leave some that may lie on a ring; one of these in
+/// front of it costs a search of what events need and of those right before them. Where there is a ring the memory grows with the squares
+/// of the events of each worker. Wants memory alone.
 pub fn ring_fault(
     alloc: Global,
     workers: &[HeldMember<'_>],
@@ -207,7 +229,7 @@ pub fn ring_fault(
     requires { map numbered_held text.now ≡ in_text (map member_held workers.now) }
     ensures { IfOk result (λ found. IfSome found (IsRingFault (map member_held workers.now))) }
 {
-    let vertices = nodes(alloc, workers, text)?;
-    let found = ring_of(alloc, &vertices)?;
+    let runs = text_runs(alloc, workers, text)?;
+    let found = ring_of(alloc, &runs)?;
     shown_ring(alloc, text, found)
 }
