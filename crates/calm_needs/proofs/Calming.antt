@@ -219,7 +219,7 @@ unit-on was next a old new last same (v, mid, (handles, first), is) =
     }
 
 -- where the unit is set it has the same parts
-unit-parts : (u : UnitAtWork) (a : Unit {0}) (old new : State) → sets_unit u old (Gives a) new → (new.found ≡ old.found) × (new.ways ≡ old.ways)
+pub unit-parts : (u : UnitAtWork) (a : Unit {0}) (old new : State) → sets_unit u old (Gives a) new → (new.found ≡ old.found) × (new.ways ≡ old.ways)
 unfolding ◌▷◌ by_handles does
 unit-parts u a old new (w, mid, (same, first), is) =
     (ap (λ (s : State). s.found) is ∙ ap (λ (s : State). s.found) first, ap (λ (s : State). s.ways) is ∙ ap (λ (s : State). s.ways) first)

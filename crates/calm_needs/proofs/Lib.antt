@@ -1,5 +1,6 @@
-pub mod CalmLaw
+mod CalmLaw
 mod CalmWords
 mod Calming
 pub mod PlacedParts
+mod Staying
 mod Ways

@@ -291,7 +291,7 @@ module _ (place : Surroundings) where
 -- ---- what says something of variables
 
 -- ways that are put say nothing of parts
-ways-set-parts : (w : Option Ways) (u : Unit {0}) (old new : State) → sets_ways w old (Gives u) new → (new.found ≡ old.found) × StaysOn old new
+pub ways-set-parts : (w : Option Ways) (u : Unit {0}) (old new : State) → sets_ways w old (Gives u) new → (new.found ≡ old.found) × StaysOn old new
 unfolding ◌▷◌ by_handles does
 ways-set-parts w u old new (x, mid, (same, first), is) = (
   ap (λ (s : State). s.found) is ∙ ap (λ (s : State). s.found) first,
