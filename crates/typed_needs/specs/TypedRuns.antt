@@ -1,5 +1,5 @@
 -- What all needs of an expression or of an action come to: one typed part more.
-use Rattle.std.specs.Prelude.{◌≡◌, ◌++◌, List, [], ◌∷◌, All, ⊤}
+use Rattle.std.specs.Prelude.{◌≡◌, ◌≤◌, ◌++◌, List, [], ◌∷◌, All, length, ⊤}
 use Rattle.bal_tree.specs.declared.action.Action.{Action, Prefix', Start, WaitAny, WaitAll, Flush, Receive, Send, SyncSend}
 use Rattle.bal_tree.specs.declared.action.Rhs.{Rhs}
 use Rattle.bal_tree.specs.declared.action.Rhs.TheVariants.{Expr as ExprRhs, Action as ActionRhs}
@@ -36,11 +36,11 @@ pub record ComesToTyped (env : List AtomDef) (place : Surroundings) (old new : S
   pub units : All (IsTypedUnit env place) (units_in (part ∷ []))
   pub kept : IsKept place new
 
--- each worker that a message is for, or from, is another worker of the function
+-- each worker that a message is for, or from, is another worker of the function, and one of several names at least is waited for: a wait for any of none has no operation
 abbrev pub NamesOfAction : Action → State → Type 0
 NamesOfAction (Prefix' op _ a at) s = NamesOfAction a s
 NamesOfAction (Start call at) s = ⊤
-NamesOfAction (WaitAny names at) s = ⊤
+NamesOfAction (WaitAny names at) s = 1 ≤ length names.items
 NamesOfAction (WaitAll members at) s = ⊤
 NamesOfAction (Flush peer at) s = NamesWorker peer s
 NamesOfAction (Receive peer at) s = NamesWorker peer s
