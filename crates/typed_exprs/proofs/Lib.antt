@@ -1,8 +1,18 @@
+mod ActionLaw
+mod Callees
+mod Calls
+mod Conditions
 mod Elements
 mod Law
+mod Lists
+mod Loops
+mod Messages
 mod Operands
 mod Operators
+mod Pairs
 mod Plain
 mod Prefixes
 mod Single
-mod Steps
+pub mod Steps
+mod Structures
+mod WaitLines

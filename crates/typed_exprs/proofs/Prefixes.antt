@@ -41,7 +41,7 @@ use Rattle.typed_exprs.proofs.Steps.{Step, before, calm-keeps, calm-path, parted
 
 module _ (passes : List AtomDef → Asked → TypeLimit → Type 0) (names : Names) (env : List AtomDef) (calm : NeedsAreCalm passes names) where
   -- what stands behind an operand of a kind
-  behind : (k : Kind) (a : Reading) (need : Need) (old new : State) → Run passes names env (a.needs (expectation k) & one (IsOf k a.at) & one need) old new
+  pub behind : (k : Kind) (a : Reading) (need : Need) (old new : State) → Run passes names env (a.needs (expectation k) & one (IsOf k a.at) & one need) old new
       → (n : State) × Run passes names env (against k a) old n × Step passes names env need n new
   unfolding ◌▷◌
   behind k a need old new (u, m, x, (v, n, y, z)) = (n, (u, m, x, y), z)

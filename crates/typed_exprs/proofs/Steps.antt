@@ -1,5 +1,5 @@
 -- How what is kept goes forth from state to state, and what is known of the end goes back.
-use Rattle.std.proofs.Common.{◌≡◌, ◌∙◌, ◌++◌, ◌+◌, ℕ, List, [], ◌∷◌, length, All, append-nil, append_assoc, arith, length-append, sym, subst, ap}
+use Rattle.std.proofs.Common.{◌≡◌, ◌∙◌, ◌++◌, ℕ, List, [], ◌∷◌, length, All, append-nil, append_assoc, arith, length-append, sym, subst, ap}
 use Rattle.checks.specs.Checks.{Gives, ◌▷◌}
 use Rattle.descriptors.specs.declared.names.Names.{Names}
 use Rattle.operations.specs.Rows.{Surroundings}
@@ -33,7 +33,7 @@ use Rattle.typed_exprs.specs.Lines.{Path, Run}
 cons-of : {A : Type 0} (x y : A) (xs ys : List A) → x ∷ xs ≡ y ∷ ys → xs ≡ ys
 cons-of x y xs ys e = let q : xs ≡ ys = cc in q
 
-same-front : {A : Type 0} (xs ys zs : List A) → xs ++ ys ≡ xs ++ zs → ys ≡ zs
+pub same-front : {A : Type 0} (xs ys zs : List A) → xs ++ ys ≡ xs ++ zs → ys ≡ zs
 same-front [] ys zs e = e
 same-front (x ∷ xs) ys zs e = same-front xs ys zs (cons-of x x (xs ++ ys) (xs ++ zs) e)
 
