@@ -1,0 +1,5 @@
+pub mod Constructs
+pub mod Events
+pub mod Laws
+pub mod Tracing
+pub mod Trees
