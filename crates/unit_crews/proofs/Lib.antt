@@ -1,0 +1,3 @@
+pub mod Alone
+pub mod Crewing
+pub mod Noting
