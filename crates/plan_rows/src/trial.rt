@@ -90,16 +90,21 @@ fn planned(
         is_lax: false,
         rises: true,
     };
-    let mut order = order;
+    let mut is_first = true;
     let mut left = package.functions.as_slice();
     for made in functions {
         if let Some((f, rest)) = left.split_first() {
-            add_plan(alloc, f, made, order, &mut tried)?;
+            add_plan(alloc, f, made, named_in(order, is_first), &mut tried)?;
             left = rest;
         }
-        order = "";
+        is_first = false;
     }
     Ok(tried)
+}
+
+/// The events that are named are those of the first function.
+fn named_in(order: &str, is_first: bool) -> &str {
+    if is_first { order } else { "" }
 }
 
 /// Compares the plan of a function more.
