@@ -1,7 +1,7 @@
 -- Checks one behind another, and a plan or a ring at their end.
 use Rattle.std.proofs.Common.{◌≡◌, ◌∙◌, ℕ, List, [], ◌∷◌, Option, Result, Ok, Err, Vec, map, length, refl, sym, subst, ap, inl, inr, arith}
 use Rattle.std.specs.Global.{Global}
-use Rattle.std.specs.Prelude.{IfSome}
+use Rattle.std.specs.Prelude.{IfNone, IfSome}
 use Rattle.std.proofs.lemmas.List.{length-map}
 use Rattle.bal_base.specs.declared.fault.Fault.{Fault}
 use Rattle.bal_base.specs.declared.place.Place.{Place}
@@ -9,7 +9,7 @@ use Rattle.bal_base.specs.declared.stop.Stop.{Stop}
 use Rattle.bal_base.specs.declared.stop.Stop.TheVariants.{Memory, Fault as OwnFault}
 use Rattle.typed_tree.specs.declared.event.Plan.{Plan}
 use Rattle.checks.specs.Checks.{Check, Comes, ◌▷◌}
-use Rattle.worker_pairing.specs.Events.{IsNumbering}
+use Rattle.worker_pairing.specs.Events.{IsNumbering, IsOrderable}
 use Rattle.worker_pairing.specs.Faults.{Atoms, IsRingFault, crew_of, most_events, most_workers, named_count, ordered, pairs_of, rank_in, within_limit}
 use Rattle.worker_pairing.specs.Marks.{Members, in_text}
 use Rattle.worker_members.specs.declared.held.HeldMember.{HeldMember}
@@ -64,8 +64,8 @@ limits-so list ws n text at env r is named same h =
 -- ---- what was found over the workers, by what they are
 
 module _ (list ws : List HeldMember) where
-  pub ring-found : (found : Option Fault) → list ≡ ws → IfSome found (IsRingFault (map member_held list)) → IfSome found (IsRingFault (map member_held ws))
-  ring-found found is h = subst (λ l. IfSome found (IsRingFault (map member_held l))) is h
+  pub none-found : (found : Option (Vec ℕ Global)) → list ≡ ws → IfNone found (¬ IsOrderable (crew_of (map member_held list))) → IfNone found (¬ IsOrderable (crew_of (map member_held ws)))
+  none-found found is h = subst (λ l. IfNone found (¬ IsOrderable (crew_of (map member_held l)))) is h
 
   pub long-found : (found : Option (Vec ℕ Global)) → list ≡ ws → IfSome found (λ ranks. length ranks.items ≡ length (in_text (map member_held list)))
       → IfSome found (λ ranks. length ranks.items ≡ length (in_text (map member_held ws)))

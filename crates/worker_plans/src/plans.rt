@@ -1,11 +1,11 @@
 //! Plans, or the first fault of a function's workers.
 #![tactic(auto)]
 
-ghost use Rattle.std.specs.Prelude.{◌≡◌, Err as Stopped, IfOk, IfSome, length, map};
+ghost use Rattle.std.specs.Prelude.{◌≡◌, Err as Stopped, IfNone, IfOk, IfSome, length, map};
 ghost use Rattle.checks.specs.Checks.{Comes};
-ghost use Rattle.worker_pairing.specs.Events.{IsNumbering};
-ghost use Rattle.worker_pairing.specs.Faults.{Atoms, IsRingFault, crew_of, named_count, ordered as ordered_of, pairs_of, plans as plans_of, rank_in};
-ghost use Rattle.worker_pairing.specs.Marks.{Members, in_text, members_of};
+ghost use Rattle.worker_pairing.specs.Events.{IsNumbering, IsOrderable};
+ghost use Rattle.worker_pairing.specs.Faults.{Atoms, crew_of, named_count, ordered as ordered_of, pairs_of, plans as plans_of, rank_in};
+ghost use Rattle.worker_pairing.specs.Marks.{in_text, members_of};
 ghost use Rattle.worker_members.specs.Held.{member_held, members_held, numbered_held};
 ghost use Rattle.worker_messages.specs.Defined.{AreDefined};
 ghost use Rattle.worker_plans.specs.inner.Chains.{conditioned as conditioned_of, from_messages as from_messages_of, from_peers as from_peers_of, from_returns as from_returns_of, settled as settled_of};
@@ -44,23 +44,14 @@ fn planned(
     })
 }
 
-/// A ring as what stops, where one was found.
-fn stop_of(found: Option<Fault>) -> Stop<Fault>
-    ensures { (ms : Members) (env : Atoms) → IfSome found (IsRingFault ms) → Comes (ordered_of ms) env (Stopped result) env }
-{
-    match found {
-        Some(fault) => Stop::Fault(fault),
-        None => Stop::Memory,
-    }
-}
-
 /// The ring that allows no plan.
 fn refused(alloc: Global, members: &HeldMembers<'_>, text: &[Standing<'_>]) -> Stop<Fault>
-    requires { map numbered_held text.now ≡ in_text (members_held members.now) }
+    requires text { map numbered_held text.now ≡ in_text (members_held members.now) }
+    requires none { ¬ IsOrderable (crew_of (members_held members.now)) }
     ensures { (env : Atoms) → Comes (ordered_of (members_held members.now)) env (Stopped result) env }
 {
     match ring_fault(alloc, &members.workers, text) {
-        Ok(found) => stop_of(found),
+        Ok(fault) => Stop::Fault(fault),
         Err(Memory) => Stop::Memory,
     }
 }
@@ -91,6 +82,7 @@ fn ordered_by(
     found: Option<Vec<u32>>,
 ) -> Result<Plan, Stop<Fault>>
     requires text { map numbered_held text.now ≡ in_text (members_held members.now) }
+    requires none { IfNone found (¬ IsOrderable (crew_of (members_held members.now))) }
     requires long { IfSome found (λ ranks. length ranks.items ≡ length (in_text (members_held members.now))) }
     requires numbering { IfSome found (λ ranks. IsNumbering (crew_of (members_held members.now)) (rank_in (members_held members.now) ranks.items)) }
     ensures { (env : Atoms) → Comes (ordered_of (members_held members.now)) env result env }

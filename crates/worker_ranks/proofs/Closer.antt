@@ -3,10 +3,11 @@ use Rattle.std.proofs.Common.{◌≡◌, ◌∙◌, ◌<◌, ◌⊎◌, ◌+◌,
 use Rattle.std.specs.Prelude.{◌&&◌, nat_lt, slice_get}
 use Rattle.std.proofs.lemmas.Bool.{and_from, and_parts, eq-eqb, eqb-true, ltb-true, or_cases, or_left, or_right}
 use Rattle.std.proofs.lemmas.Option.{slice_get_within}
-use Rattle.graphs.specs.Cycles.{Follows, IsWay}
+use Rattle.graphs.specs.Cycles.{IsOnCycle, IsWay, Follows}
 use Rattle.worker_pairing.specs.Faults.{kinds_of, start_of}
 use Rattle.worker_pairing.specs.Marks.{Members, Numbered, in_text, in_turn}
 use Rattle.worker_ranks.specs.inner.Vertices.{IsNoneBefore, Vertex, close_of, graph_of, is_close, is_edge, needs_other, vertex_of}
+use Rattle.worker_ranks.proofs.Edges.{close-edge}
 use Rattle.worker_ranks.proofs.Graphs.{edge-has, edge-there, there-at, vertex-from, vertex-has}
 use Rattle.worker_ranks.proofs.InTurn.{vertex-there}
 use Rattle.worker_ranks.proofs.NotOnCycle.{way-on}
@@ -83,3 +84,16 @@ module _ (ms : Members) where
 
   pub none-before : (n : ℕ) → IsNoneBefore (close_of vs) n → IsNoneBefore (graph_of vs) n
   none-before = none-led (graph_of vs) (close_of vs) edge-led
+
+-- ---- and a way of close edges is one of all edges
+
+module _ (vs : List Vertex) where
+  edge-wider : (s t : ℕ) → Follows (close_of vs) s t → Follows (graph_of vs) s t
+  edge-wider s t f = let e = edge-there is_close vs s t f in edge-has is_edge vs s t e.0 e.1 e.2 e.3 (close-edge e.0 e.1 e.4)
+
+  way-wider : (s : ℕ) (ks : List ℕ) (t : ℕ) → IsWay (close_of vs) s ks t → IsWay (graph_of vs) s ks t
+  way-wider s [] t f = edge-wider s t f
+  way-wider s (k ∷ ks) t (f, rest) = (edge-wider s k f, way-wider k ks t rest)
+
+  pub on-wider : (i : ℕ) → IsOnCycle (close_of vs) i → IsOnCycle (graph_of vs) i
+  on-wider i (ks, way) = (ks, way-wider i ks i way)

@@ -1,3 +1,4 @@
+mod Acyclic
 mod Closer
 mod Edges
 mod Graphs
@@ -7,6 +8,7 @@ mod Named
 mod Neighbours
 mod NotOnCycle
 mod Numbered
+mod Orderable
 mod Placed
 mod Ringed
 mod Risen

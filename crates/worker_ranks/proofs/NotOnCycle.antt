@@ -1,12 +1,13 @@
 -- A number from which no step leads to a cycle lies on none, nor does one to which none leads from one.
-use Rattle.std.proofs.Common.{◌≡◌, ◌∙◌, ◌<◌, ◌≤◌, ◌⊎◌, ◌++◌, ℕ, Bool, true, false, List, [], ◌∷◌, get_or, length, replicate, set, sym, subst, inl, inr, arith}
+use Rattle.std.proofs.Common.{◌≡◌, ◌∙◌, ◌<◌, ◌≤◌, ◌⊎◌, ◌++◌, ℕ, Bool, true, false, List, [], ◌∷◌, get_or, length, map, replicate, set, sym, subst, inl, inr, arith}
 use Rattle.std.specs.List.{list_all}
 use Rattle.std.proofs.lemmas.Bool.{cases_eq, cases_lt, false≢true}
-use Rattle.std.proofs.lemmas.List.{get_or-replicate, get_or-set_other, get_or_past, length-replicate}
+use Rattle.std.proofs.lemmas.List.{get_or-replicate, get_or-set_other, get_or_past, length-map, length-replicate}
 use Rattle.graphs.specs.Cycles.{IsOnCycle, IsWay, Follows, followers}
 use Rattle.graphs.specs.Distances.{IsReversed}
 use Rattle.graphs.proofs.Levels.{follows-place}
 use Rattle.worker_ranks.specs.inner.Free.{AreFree, Frees}
+use Rattle.worker_ranks.specs.inner.Vertices.{IsNoneBefore}
 use Rattle.worker_ranks.proofs.Risen.{all-there}
 
 -- ---- ways
@@ -29,14 +30,25 @@ module _ (next : List (List ℕ)) where
   before-end s [] t edge ls way = (s, edge, (t ∷ ls, (edge, way)))
   before-end s (k ∷ ks) t (edge, rest) ls way = before-end k ks t rest (ls ++ s ∷ []) (way-on t ls s [] k way edge)
 
+  cycle-within : (i : ℕ) (ks : List ℕ) → IsWay next i ks i → i < length next
+  cycle-within i [] edge = follows-place next i i edge
+  cycle-within i (k ∷ ks) (edge, rest) = follows-place next i k edge
+
   pub frees-back : (back : List (List ℕ)) → IsReversed next back → Frees next back
   frees-back back reversed i none (ks, way) =
       let found = before-end i ks i way ks way in
-      none found.0 (reversed.known found.0 i (within ks way) found.1) found.2
-    where
-      within : (ks : List ℕ) → IsWay next i ks i → i < length next
-      within [] edge = follows-place next i i edge
-      within (k ∷ ks) (edge, rest) = follows-place next i k edge
+      none found.0 (reversed.known found.0 i (cycle-within i ks way) found.1) found.2
+
+  -- a number on a cycle is one of those of the graph that is turned round
+  pub cycle-placed : {X : Type 0} (items : X → List ℕ) (backs : List X) (i : ℕ) → IsReversed next (map items backs) → IsOnCycle next i → i < length backs
+  cycle-placed items backs i reversed (ks, way) =
+      let lt = cycle-within i ks way in
+      let same = reversed.long in
+      let long = length-map backs items in
+      omega (arith, lt, same, long)
+
+  pub none-at-all : {X : Type 0} (items : X → List ℕ) (backs : List X) (n : ℕ) → IsReversed next (map items backs) → length backs ≤ n → IsNoneBefore next n → (i : ℕ) → ¬ IsOnCycle next i
+  none-at-all items backs n reversed all none i cycle = none i (let lt = cycle-placed items backs i reversed cycle in omega (arith, lt, all)) cycle
 
 -- ---- marks
 

@@ -1,6 +1,6 @@
 -- The ring that is found, as the fault that shows it.
 use Rattle.std.proofs.Common.{◌≡◌, ◌∙◌, ◌<◌, ◌≤◌, ◌⊎◌, ◌+◌, ◌++◌, ℕ, List, [], ◌∷◌, Option, Some, None, Result, Ok, Err, map, get_or, length, refl, sym, subst, ap, inl, inr, arith}
-use Rattle.std.specs.Prelude.{IfOk, IfSome, IsSomeAnd, option_map}
+use Rattle.std.specs.Prelude.{IfOk, option_map}
 use Rattle.std.specs.List.{flat_map}
 use Rattle.std.proofs.lemmas.Bool.{cases_lt}
 use Rattle.std.proofs.lemmas.Option.{slice_get-map, slice_get_past, slice_get_read}
@@ -40,21 +40,17 @@ module _ (ms : Members) where
         subst (λ es. IsFault WaitCycle (place_in_text (in_text ms) first) (kept.Events es) f) (events-shown (first ∷ others)) fault,
       )
 
-  -- the same of what was found and told
-  pub ring-told : {Y : Type 0} (text : List Numbered) (vs : List Vertex) (found : Option Ring) (r : Result (Option Fault) Y)
-      → text ≡ in_text ms → vs ≡ map (vertex_of ms) text → IfSome found (λ ring. IsRingOf vs ring.first ring.others.items)
-      → IfOk r (λ told. IfSome told (λ f. IsSomeAnd found (λ ring. ShowsRing text ring.first ring.others.items f))) → IfOk r (λ told. IfSome told (IsRingFault ms))
-  ring-told text vs (Some ring) (Ok (Some f)) is held there told =
-      ring-fault vs ring.first ring.others.items f (held ∙ ap (map (vertex_of ms)) is) there (subst (λ xs. ShowsRing xs ring.first ring.others.items f) is told)
-  ring-told text vs None (Ok (Some f)) is held there told = absurd told
-  ring-told text vs found (Ok None) is held there told = tt
-  ring-told text vs found (Err e) is held there told = tt
+  -- the same of what was told
+  pub ring-told : {Y : Type 0} (text : List Numbered) (vs : List Vertex) (first : ℕ) (others : List ℕ) (r : Result Fault Y)
+      → text ≡ in_text ms → vs ≡ map (vertex_of ms) text → IsRingOf vs first others → IfOk r (ShowsRing text first others) → IfOk r (IsRingFault ms)
+  ring-told text vs first others (Ok f) is held there told =
+      ring-fault vs first others f (held ∙ ap (map (vertex_of ms)) is) there (subst (λ xs. ShowsRing xs first others f) is told)
+  ring-told text vs first others (Err e) is held there told = tt
 
 -- the first that is on a ring, and the ring that begins with it
-pub ring-so : {Y : Type 0} (vs : List Vertex) (n : ℕ) (r : Result (Option Ring) Y) → IsNoneBefore (close_of vs) n
-    → IfOk r (λ found. IfSome found (λ ring. IsRingAt (graph_of vs) n ring.first ring.others.items)) → IfOk r (λ found. IfSome found (λ ring. IsRingOf vs ring.first ring.others.items))
-ring-so vs n (Ok (Some ring)) none (same, is) = (subst (IsNoneBefore (close_of vs)) (sym same) none, is)
-ring-so vs n (Ok None) none is = tt
+pub ring-so : {Y : Type 0} (vs : List Vertex) (n : ℕ) (r : Result Ring Y) → IsNoneBefore (close_of vs) n
+    → IfOk r (λ ring. IsRingAt (graph_of vs) n ring.first ring.others.items) → IfOk r (λ ring. IsRingOf vs ring.first ring.others.items)
+ring-so vs n (Ok ring) none (same, is) = (subst (IsNoneBefore (close_of vs)) (sym same) none, is)
 ring-so vs n (Err e) none is = tt
 
 -- no cycle begins with a number before the next one

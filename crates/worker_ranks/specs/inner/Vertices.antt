@@ -113,6 +113,14 @@ pub record AreRanks (order ranks : List ℕ) (count : ℕ) : Type 0 where
 abbrev pub IsNoneBefore : List (List ℕ) → ℕ → Type 0
 IsNoneBefore next first = (i : ℕ) → i < first → ¬ IsOnCycle next i
 
+-- it can't be that no number is on a cycle
+abbrev pub IsCyclic : List (List ℕ) → Type 0
+IsCyclic next = ¬ ((i : ℕ) → ¬ IsOnCycle next i)
+
+-- the number is the first one that is on a cycle
+abbrev pub IsFirstOnCycle : List (List ℕ) → ℕ → Type 0
+IsFirstOnCycle next first = IsNoneBefore next first × IsOnCycle next first
+
 -- these are the others of the ring that begins with the number
 abbrev pub IsRingAt : List (List ℕ) → ℕ → ℕ → List ℕ → Type 0
 IsRingAt next number first others = (first ≡ number) × IsFirstCycle next first others

@@ -1,11 +1,10 @@
-use Rattle.std.proofs.Common.{subst}
-use Rattle.std.specs.Prelude.{IfSome}
 use Rattle.worker_ranks.specs.inner.Turned.{groups_held, laid}
-use Rattle.worker_ranks.specs.inner.Vertices.{IsNoneBefore, close_of}
+use Rattle.worker_ranks.proofs.Closer.{on-wider}
 use Rattle.worker_ranks.proofs.Ringed.{ring-so}
 use Rattle.worker_ranks.proofs.rings.ring_of.Goals as goal
 
-pub returns-in-Some : goal.returns-in-Some
-returns-in-Some c =
-    let vs = laid (groups_held c.args.runs.now) in
-    ring-so vs c.in-Some.first c.ring_at.result (subst (λ o. IfSome o (IsNoneBefore (close_of vs))) c.in-Some.is c.in_ok-found.ensures) c.ring_at.ensures
+pub ring_at-requires-clause-cycle : goal.ring_at-requires-clause-cycle
+ring_at-requires-clause-cycle c = on-wider (laid (groups_held c.args.runs.now)) c.in_ok-first.first c.in_ok-first.ensures.1
+
+pub returns : goal.returns
+returns c = ring-so (laid (groups_held c.args.runs.now)) c.in_ok-first.first c.ring_at.result c.in_ok-first.ensures.0 c.ring_at.ensures
