@@ -1,6 +1,6 @@
 mod CalmLaw
-mod CalmWords
-mod Calming
+pub mod CalmWords
+pub mod Calming
 pub mod PlacedParts
 mod Staying
-mod Ways
+pub mod Ways

@@ -32,10 +32,17 @@ use Rattle.calm_needs.specs.Calm.{ChangesChoice, ChoiceIsStored, ClosesChoice, I
 use Rattle.calm_needs.proofs.Calming.{Calm, calm-asking, calm-flow-now, calm-makes, calm-no-more, calm-on, calm-same, calm-some, calm-then, on-beside, on-on, same-stored, stored-by, unit-on, unit-stored}
 use Rattle.calm_needs.proofs.PlacedParts.{and-units, conditional-units, of-these, or-units, parens-units, strict-units}
 
+-- ---- what is open
+
+pub choice-opened : (c : ChoiceAtWork) (u : Unit {0}) (old new : State) → opens_choice c old (Gives u) new
+    → (d : ChoiceAtWork) × SameChoice c d × (new ≡ record old { choices = old.choices ++ d ∷ [] })
+unfolding ◌▷◌ by_handles does
+choice-opened c u old new (d, mid, (same, first), is) = (d, same, is ∙ ap (λ (s : State). record s { choices = s.choices ++ d ∷ [] }) first)
+
 module _ (place : Surroundings) where
   -- ---- flows
 
-  flow-by-handles : (f g : Flow) → SameFlow f g → FlowIsStored place f → FlowIsStored place g
+  pub flow-by-handles : (f g : Flow) → SameFlow f g → FlowIsStored place f → FlowIsStored place g
   flow-by-handles f g same h = same-stored place f.variables g.variables same.variables h
 
   ways-by-handles : (v w : Option Ways) → SameOption SameWays v w → IfSome v (WaysAreStored place) → IfSome w (WaysAreStored place)
@@ -44,7 +51,7 @@ module _ (place : Surroundings) where
   ways-by-handles None (Some w) same h = absurd same
   ways-by-handles (Some v) None same h = absurd same
 
-  choice-by-handles : (c d : ChoiceAtWork) → SameChoice c d → ChoiceIsStored place c → ChoiceIsStored place d
+  pub choice-by-handles : (c d : ChoiceAtWork) → SameChoice c d → ChoiceIsStored place c → ChoiceIsStored place d
   choice-by-handles c d same h =
       record {
         before = flow-by-handles c.before d.before same.before h.before;
@@ -53,7 +60,7 @@ module _ (place : Surroundings) where
       }
 
   -- narrowed by its name a variable is in the same slot
-  narrowed-stored : (vs : List Variable) (name : Name) (t : Option Shared) → All (IsStored place) vs → All (IsStored place) (narrowed_by_name vs name t)
+  pub narrowed-stored : (vs : List Variable) (name : Name) (t : Option Shared) → All (IsStored place) vs → All (IsStored place) (narrowed_by_name vs name t)
   narrowed-stored [] name t h = All-nil _
   narrowed-stored (v ∷ vs) name t h = by (narrowed-stored vs name t (All-tail (IsStored place) v vs h)) (is_same_text v.name name)
     where
@@ -84,7 +91,7 @@ module _ (place : Surroundings) where
   within (w ∷ us) (suc i) u e = let lt = within us i u e in omega (arith, lt)
   within [] i u e = absurd (let bad : ⊥ = cc in bad)
 
-  joined-stored : (env : Atoms) (f g h : Flow) → IsJoin env f g h → FlowIsStored place f → FlowIsStored place h
+  pub joined-stored : (env : Atoms) (f g h : Flow) → IsJoin env f g h → FlowIsStored place f → FlowIsStored place h
   joined-stored env f g h join stored = all-by-place h.variables each
     where
       each : (i : ℕ) (u : Variable) → slice_get h.variables i ≡ Some u → IsStored place u
@@ -99,7 +106,7 @@ module _ (place : Surroundings) where
 
   -- ---- small steps
 
-  flow-known : (f : Flow) (old new : State) → flow_now old (Gives f) new → AreStored place old → FlowIsStored place f × (new ≡ old)
+  pub flow-known : (f : Flow) (old new : State) → flow_now old (Gives f) new → AreStored place old → FlowIsStored place f × (new ≡ old)
   unfolding ◌▷◌ gives_some
   flow-known f old new (u, a, (last, first), (is, same)) h =
       let one : h.unit ≡ u = last-same old.units h.unit u h.at_hand last in (
@@ -157,11 +164,6 @@ module _ (place : Surroundings) where
       choices = ap (λ (s : State). s.choices) is ∙ ap (λ (s : State). s.choices) first;
     },
   )
-
-  choice-opened : (c : ChoiceAtWork) (u : Unit {0}) (old new : State) → opens_choice c old (Gives u) new
-      → (d : ChoiceAtWork) × SameChoice c d × (new ≡ record old { choices = old.choices ++ d ∷ [] })
-  unfolding ◌▷◌ by_handles does
-  choice-opened c u old new (d, mid, (same, first), is) = (d, same, is ∙ ap (λ (s : State). record s { choices = s.choices ++ d ∷ [] }) first)
 
   choice-closed : (c : ChoiceAtWork) (old new : State) → closes_choice old (Gives c) new → IsLast old.choices c × (new ≡ record old { choices = all_but 1 old.choices })
   unfolding ◌▷◌ gives_some does
@@ -298,7 +300,7 @@ ways-set-parts w u old new (x, mid, (same, first), is) = (
   on-on old mid new (on-beside old mid (ap (λ (s : State). s.atoms) first) (ap (λ (s : State). s.units) first)) (on-beside mid new (ap (λ (s : State). s.atoms) is) (ap (λ (s : State). s.units) is)),
 )
 
-ways-seen : (w : Ways) (old new : State) → ways_now old (Gives w) new → new ≡ old
+pub ways-seen : (w : Ways) (old new : State) → ways_now old (Gives w) new → new ≡ old
 unfolding ◌▷◌ gives_some
 ways-seen w old new (f, a, (u, b, (last, first), (is, same)), (are, second)) = second ∙ same ∙ first
 

@@ -7,7 +7,7 @@ mod Law
 mod Lists
 mod Loops
 mod Messages
-mod Operands
+pub mod Operands
 mod Operators
 mod Pairs
 mod Plain

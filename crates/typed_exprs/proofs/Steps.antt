@@ -43,7 +43,7 @@ pub path-on : (r s t : State) → Path r s → Path s t → Path r t
 path-on r s t f g =
     record { goes = goes-on r s t f.goes g.goes; many = g.many ∙ f.many; units = λ place h. f.units place (g.units place h) }
 
-stays-goes : (s t : State) → StaysOn s t → GoesOn s t
+pub stays-goes : (s t : State) → StaysOn s t → GoesOn s t
 stays-goes s t on = record { more = on.more; atoms = on.atoms; going = t.units; above = []; units = sym (append-nil t.units); each = on.each }
 
 -- a state that goes on by itself, whose parts have the same units
@@ -67,7 +67,7 @@ more-path s t goes one =
 
 -- ---- what is known from the end
 
-fewer-first : (env : List AtomDef) (old new : State) → GoesOn old new → AreFirst env new.atoms → AreFirst env old.atoms
+pub fewer-first : (env : List AtomDef) (old new : State) → GoesOn old new → AreFirst env new.atoms → AreFirst env old.atoms
 fewer-first env old new goes (more, is) = (goes.more ++ more, is ∙ ap (λ xs. xs ++ more) goes.atoms ∙ append_assoc old.atoms goes.more more)
 
 pub so-far : (env : List AtomDef) (place : Surroundings) (old new : State) → Path old new → IsSoFar env place new → IsSoFar env place old

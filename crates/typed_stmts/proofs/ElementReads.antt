@@ -77,7 +77,7 @@ module _ (passes : List AtomDef → Asked → TypeLimit → Type 0) where
   stored-leaves Key container key at =
       all-then _ _ (all-asking _ (names-add-none passes Key key at)) (λ keys. all-then _ _ (all-asking _ (member-adds-none passes container keys (Some at))) (λ m. all-some _))
 
-  record StoredRead (at : Place) (old new : State) : Type 0 where
+  pub record StoredRead (at : Place) (old new : State) : Type 0 where
     pub container : TypedExpr
     pub key : TypedExpr
     pub access : Access
@@ -89,7 +89,7 @@ module _ (passes : List AtomDef → Asked → TypeLimit → Type 0) where
     pub all : new ≡ record old { wants = old.wants ++ Some want ∷ [] }
     pub value : want.value ≡ type.value
 
-  stored-opened : (at : Place) (old new : State) → reads_stored passes at old (Gives tt) new → StoredRead at old new
+  pub stored-opened : (at : Place) (old new : State) → reads_stored passes at old (Gives tt) new → StoredRead at old new
   unfolding ◌▷◌ gives_some
   stored-opened at old new (p, a, (pair, e1), (access, b, (la, e2), (t, c, asked, put))) =
       let two : b ≡ old = e2 ∙ e1 in
@@ -109,7 +109,7 @@ module _ (passes : List AtomDef → Asked → TypeLimit → Type 0) where
         value = value;
       }
 
-  record FieldOpened (w : Word) (old new : State) : Type 0 where
+  pub record FieldOpened (w : Word) (old new : State) : Type 0 where
     pub container : TypedExpr
     pub key : TypedExpr
     pub defs : List AtomDef
@@ -124,7 +124,7 @@ module _ (passes : List AtomDef → Asked → TypeLimit → Type 0) where
     pub value : want.value ≡ plain member
     pub all : new ≡ record old { atoms = new.atoms; wants = old.wants ++ Some want ∷ [] }
 
-  field-opened : (w : Word) (at : Place) (old new : State) → reads_stored_field passes w at old (Gives tt) new → FieldOpened w old new
+  pub field-opened : (w : Word) (at : Place) (old new : State) → reads_stored_field passes w at old (Gives tt) new → FieldOpened w old new
   unfolding ◌▷◌ gives_some
   field-opened w at old new (p, a, (pair, e1), (m, c, (u, b, keyed, asked), put)) =
       let (defs, have, grown, under) = key-asked passes w.name (sem p.0) at u a b keyed in

@@ -85,7 +85,7 @@ unfolding ◌▷◌ gives_some
 update-put P op value at u old new (what, a, (holds, e), added) =
     (what, holds, subst (λ (s : State). StmtPut (IsUpdate what op value at) s new) e (stmt-put (IsUpdate what op value at) u a new added))
 
-record MemberPut (place : Surroundings) (how : Read) (of : Shared) (op : Operator) (parts : List TypedExpr) (at : Place) (old new : State) : Type 0 where
+pub record MemberPut (place : Surroundings) (how : Read) (of : Shared) (op : Operator) (parts : List TypedExpr) (at : Place) (old new : State) : Type 0 where
   pub container : TypedExpr
   pub key : TypedExpr
   pub value : TypedExpr
@@ -124,7 +124,7 @@ module _ (passes : List AtomDef → Asked → TypeLimit → Type 0) (names : Nam
   updating how assign at =
       result_fits passes at ▷ λ read_type. takes_operator assign ▷ λ op. takes_access ▷ λ a. takes 3 ▷ λ parts. updates_member (how a) read_type op parts at
 
-  record MemberUpdated (how : Access → Read) (assign : AssignOp) (at : Place) (old new : State) : Type 0 where
+  pub record MemberUpdated (how : Access → Read) (assign : AssignOp) (at : Place) (old new : State) : Type 0 where
     pub read : Shared
     pub result : Shared
     pub stored : Shared
@@ -142,7 +142,7 @@ module _ (passes : List AtomDef → Asked → TypeLimit → Type 0) (names : Nam
     pub blocks : before.blocks ≡ old.blocks
     pub put : MemberPut place (how access) read op parts at before new
 
-  member-updated : (how : Access → Read) (assign : AssignOp) (at : Place) (old new : State) → updating how assign at old (Gives tt) new → IsPlaced place new
+  pub member-updated : (how : Access → Read) (assign : AssignOp) (at : Place) (old new : State) → updating how assign at old (Gives tt) new → IsPlaced place new
       → MemberUpdated how assign at old new
   unfolding ◌▷◌
   member-updated how assign at old new (read, a, fits, (op, b, operator, (access, c, accessed, (parts, d, taken, updated)))) placed =

@@ -36,18 +36,18 @@ use Rattle.typed_stmts.specs.Branched.{CounterFits, CounterIsWanted, HasInts, Ha
 use Rattle.typed_tree.specs.SharedTypes.{Shared, sem_of}
 use Rattle.typed_tree.specs.declared.expr.TypedExpr.{TypedExpr}
 
-one-of : {A : Type 0} (b : Bool) (m n : Check State A) → LeavesAll m → LeavesAll n → LeavesAll (either b m n)
+pub one-of : {A : Type 0} (b : Bool) (m n : Check State A) → LeavesAll m → LeavesAll n → LeavesAll (either b m n)
 one-of true m n f g = f
 one-of false m n f g = g
 
 module _ (passes : List AtomDef → Asked → TypeLimit → Type 0) where
-  widens-to-leaves : (kinds : List Kind) (t : Shared) (at : Place) → LeavesAll (widens_to passes kinds t at)
+  pub widens-to-leaves : (kinds : List Kind) (t : Shared) (at : Place) → LeavesAll (widens_to passes kinds t at)
   widens-to-leaves [] t at = all-some _
   widens-to-leaves (k ∷ kinds) t at =
       all-then _ _ (whether-leaves passes (OfKind k) (sem_of t) at) (λ b. one-of b _ _ (all-some _) (widens-to-leaves kinds t at))
 
   -- what it is widened to has its shapes
-  widened-so : (kinds : List Kind) (t u : Shared) (at : Place) (old new : State) → widens_to passes kinds t at old (Gives u) new → Sub old.atoms (sem_of t) (sem_of u)
+  pub widened-so : (kinds : List Kind) (t u : Shared) (at : Place) (old new : State) → widens_to passes kinds t at old (Gives u) new → Sub old.atoms (sem_of t) (sem_of u)
   unfolding ◌▷◌ gives_some
   widened-so [] t u at old new (is, same) = λ x valid i. subst (λ (v : Shared). In old.atoms x (sem_of v)) (sym is) i
   widened-so (k ∷ kinds) t u at old new (b, mid, asked, rest) = by b asked rest (widened-so kinds t u at)
@@ -129,7 +129,7 @@ module _ (passes : List AtomDef → Asked → TypeLimit → Type 0) where
     items-later old e m t keeps there defined exactly under x valid (whole, shape, stands) =
         (keeps.shapes t defined x).0 (under x valid ((exactly x valid).1 (whole, (shape.0, (keeps.shapes (sem e) there whole).1 shape.1), stands)))
 
-    want-defined : (s : State) (t : Shared) → IsBefore env s → IsLast s.wants (Some t) → IsDefined s.atoms (sem_of t)
+    pub want-defined : (s : State) (t : Shared) → IsBefore env s → IsLast s.wants (Some t) → IsDefined s.atoms (sem_of t)
     want-defined s t before last =
         let h : IfShared (TyBelow (length s.atoms)) (Some t) = last-has (IfShared (TyBelow (length s.atoms))) s.wants (Some t) last before.stands.wants in h.0
 

@@ -68,7 +68,7 @@ zip-long R (x ∷ xs) (y ∷ ys) h = let more = zip-long R xs ys h.1 in omega (a
 zip-long R [] (y ∷ ys) h = absurd h
 zip-long R (x ∷ xs) [] h = absurd h
 
-zip-last : {A B : Type 0} (R : A → B → Type 0) (xs : List A) (x : A) (ys : List B) → AllZip R (xs ++ x ∷ []) ys → (y : B) × IsLast ys y × R x y
+pub zip-last : {A B : Type 0} (R : A → B → Type 0) (xs : List A) (x : A) (ys : List B) → AllZip R (xs ++ x ∷ []) ys → (y : B) × IsLast ys y × R x y
 zip-last R [] x (y ∷ []) h = (y, record { kept = []; is = refl }, h.0)
 zip-last R [] x [] h = absurd h
 zip-last R [] x (y ∷ z ∷ ys) h = absurd h.1
@@ -113,7 +113,7 @@ simple-later k old env t keeps simple (plain, written) =
 
 -- ---- the variable of the loop
 
-variable-seen : (v : Variable) (old new : State) → item_variable old (Gives v) new → (u : UnitAtWork) × IsLast old.units u × IsLast u.flow.variables v × (new ≡ old)
+pub variable-seen : (v : Variable) (old new : State) → item_variable old (Gives v) new → (u : UnitAtWork) × IsLast old.units u × IsLast u.flow.variables v × (new ≡ old)
 unfolding ◌▷◌ gives_some
 variable-seen v old new (f, a, seen, (last, e2)) =
     let (w, hand, is, e1) = flow-seen f old a seen in
@@ -142,7 +142,7 @@ item-declared-opened place name assigned old new (t, a, wanted, (slot, b, slotte
 
 -- ---- loops over lists
 
-record WalkOpened (place : Surroundings) (at : Place) (old new : State) : Type 0 where
+pub record WalkOpened (place : Surroundings) (at : Place) (old new : State) : Type 0 where
   pub list : TypedExpr
   pub body : BlockAtWork
   pub variable : Variable
@@ -159,7 +159,7 @@ record WalkOpened (place : Surroundings) (at : Place) (old new : State) : Type 0
   pub is_int : OfKind kind.Integer new.atoms int.value
   pub put : AddsStmt (IsForeach variable.slot over body.stmts at) (body ∷ []) old new
 
-walk-opened : (place : Surroundings) (at : Place) (old new : State) → makes_foreach at old (Gives tt) new → IsPlaced place new → WalkOpened place at old new
+pub walk-opened : (place : Surroundings) (at : Place) (old new : State) → makes_foreach at old (Gives tt) new → IsPlaced place new → WalkOpened place at old new
 unfolding ◌▷◌ gives_some
 walk-opened place at old new
     (v, s1, item, (c, s2, closed, (u, s3, flowed, (body, s4, close, (list, s5, taken, (own, s6, slotted, (index, s7, slotted', (over, s8, (source, e8), added)))))))) placed =
@@ -200,7 +200,7 @@ walk-opened place at old new
       put = put-before P (body ∷ []) old s3 new before (put-behind P [] body s3 s4 new l4 (ap (λ (x : State). x.blocks) e4) (put-from P s4 s8 new blocks put));
     }
 
-record CountOpened (place : Surroundings) (op : RangeOp) (at : Place) (old new : State) : Type 0 where
+pub record CountOpened (place : Surroundings) (op : RangeOp) (at : Place) (old new : State) : Type 0 where
   pub from : TypedExpr
   pub to : TypedExpr
   pub body : BlockAtWork
@@ -223,7 +223,7 @@ record CountOpened (place : Surroundings) (op : RangeOp) (at : Place) (old new :
   pub is_left : OfKind kind.Truth new.atoms left.value
   pub put : AddsStmt (IsForeach variable.slot over body.stmts at) (body ∷ []) old new
 
-count-opened : (place : Surroundings) (op : RangeOp) (at : Place) (old new : State) → makes_range op at old (Gives tt) new → IsPlaced place new → CountOpened place op at old new
+pub count-opened : (place : Surroundings) (op : RangeOp) (at : Place) (old new : State) → makes_range op at old (Gives tt) new → IsPlaced place new → CountOpened place op at old new
 unfolding ◌▷◌ gives_some
 count-opened place op at old new
     (v, s1, item, (c, s2, closed, (u, s3, flowed, (body, s4, close, (p, s5, (pair, e5), (ps, s6, taken, (own, s7, first, (two, s8, second, (three, s9, third, (over, s10, (source, e10), added))))))))))

@@ -33,7 +33,7 @@ use Rattle.typed_tree.specs.declared.expr.TypedExpr.{TypedExpr}
 use Rattle.typed_tree.specs.declared.stmt.TypedClause.{TypedClause, out-TypedClause}
 use Rattle.typed_tree.specs.declared.stmt.TypedStmt.{TypedStmt}
 
-clause-opened : (at : Place) (old new : State) → ends_clause at old (Gives tt) new
+pub clause-opened : (at : Place) (old new : State) → ends_clause at old (Gives tt) new
     → (b : BlockAtWork) × (m n : MatchAtWork) × (c : TypedClause) × IsLast old.blocks b × IsLast old.matches m × IsClause m.patterns b.stmts at c
     × (n.clauses ≡ m.clauses ++ c ∷ []) × (new.matches ≡ replaced old.matches n) × (new.blocks ≡ all_but 1 old.blocks)
 unfolding ◌▷◌ gives_some by_handles does
@@ -56,7 +56,7 @@ clause-opened at old new (f, s1, seen, (b, s2, closed, (m, s3, (lm, e3), (c, s4,
       ap (λ (x : State). x.blocks) e6 ∙ blocks,
     )
 
-match-begun : (name : Option QualifiedName) (at : Place) (old new : State) → begins_match name at old (Gives tt) new
+pub match-begun : (name : Option QualifiedName) (at : Place) (old new : State) → begins_match name at old (Gives tt) new
     → (m : MatchAtWork) × (new.matches ≡ old.matches ++ m ∷ []) × (m.clauses ≡ [])
 unfolding ◌▷◌ gives_some by_handles does
 match-begun name at old new (e, s1, (last, e1), (f, s2, seen, (n, s3, (same, e3), e4))) =
@@ -67,7 +67,7 @@ match-begun name at old new (e, s1, (last, e1), (f, s2, seen, (n, s3, (same, e3)
       same.clauses,
     )
 
-match-closed : (m : MatchAtWork) (old new : State) → closes_match old (Gives m) new → IsLast old.matches m × (new ≡ record old { matches = all_but 1 old.matches })
+pub match-closed : (m : MatchAtWork) (old new : State) → closes_match old (Gives m) new → IsLast old.matches m × (new ≡ record old { matches = all_but 1 old.matches })
 unfolding ◌▷◌ gives_some does
 match-closed m old new (x, a, (last, e1), (u, b, e2, (is, e3))) = (
   subst (λ y. IsLast old.matches y) (sym is) last,
@@ -93,7 +93,7 @@ module _ (passes : List AtomDef → Asked → TypeLimit → Type 0) where
   some-left-leaves true t at = all-some _
   some-left-leaves false t at = all-asking _ (has-some-adds-none passes (sem_of t) (Some at))
 
-  record MatchOpened (place : Surroundings) (at : Place) (old new : State) : Type 0 where
+  pub record MatchOpened (place : Surroundings) (at : Place) (old new : State) : Type 0 where
     pub subject : TypedExpr
     pub own : ℕ
     pub done : MatchAtWork
@@ -102,7 +102,7 @@ module _ (passes : List AtomDef → Asked → TypeLimit → Type 0) where
     pub held : slice_get place.slots own ≡ Some (sem subject)
     pub put : AddsStmt (IsMatch own subject done.clauses at) [] old new
 
-  match-opened : (place : Surroundings) (any : Bool) (at : Place) (old new : State) → makes_match passes any at old (Gives tt) new → IsPlaced place new → MatchOpened place at old new
+  pub match-opened : (place : Surroundings) (any : Bool) (at : Place) (old new : State) → makes_match passes any at old (Gives tt) new → IsPlaced place new → MatchOpened place at old new
   unfolding ◌▷◌
   match-opened place any at old new (m, s1, closed, (left, s2, asked, (f, s3, joined, (u, s4, flowed, (e, s5, taken, (own, s6, slotted, added)))))) placed =
       let (lm, e1) = match-closed m old s1 closed in

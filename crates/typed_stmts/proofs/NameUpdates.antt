@@ -67,7 +67,7 @@ module _ (made : MadeStatementsAreTyped) (passes : List AtomDef → Asked → Ty
 
   -- ---- names
 
-  record NameUpdated (q : QualifiedName) (assign : AssignOp) (at : Place) (old new : State) : Type 0 where
+  pub record NameUpdated (q : QualifiedName) (assign : AssignOp) (at : Place) (old new : State) : Type 0 where
     pub read : Shared
     pub result : Shared
     pub stored : Shared
@@ -87,7 +87,7 @@ module _ (made : MadeStatementsAreTyped) (passes : List AtomDef → Asked → Ty
     pub blocks : before.blocks ≡ old.blocks
     pub does : updates_assigned what read op value at before (Gives tt) new
 
-  name-updated : (q : QualifiedName) (assign : AssignOp) (at : Place) (old new : State) → updates_name passes names q assign at old (Gives tt) new → NameUpdated q assign at old new
+  pub name-updated : (q : QualifiedName) (assign : AssignOp) (at : Place) (old new : State) → updates_name passes names q assign at old (Gives tt) new → NameUpdated q assign at old new
   unfolding ◌▷◌
   name-updated q assign at old new (read, a, fits, (op, b, operator, (value, c, taken, (x, d, found, does)))) =
       let r = result-taken passes at read old a fits in
@@ -117,7 +117,7 @@ module _ (made : MadeStatementsAreTyped) (passes : List AtomDef → Asked → Ty
       }
 
   -- a variable of the unit
-  local-opened : (v : Variable) (read : Shared) (op : Operator) (value : TypedExpr) (at : Place) (old mid new : State) → mid.blocks ≡ old.blocks
+  pub local-opened : (v : Variable) (read : Shared) (op : Operator) (value : TypedExpr) (at : Place) (old mid new : State) → mid.blocks ≡ old.blocks
       → updates_assigned (AssignsVariable v) read op value at mid (Gives tt) new → AddsStmt (IsUpdate (target.Local v.slot (is_some v.narrowed) read) op value at) [] old new
   unfolding ◌▷◌
   local-opened v read op value at old mid new same (u, a, flowed, updated) =
@@ -126,7 +126,7 @@ module _ (made : MadeStatementsAreTyped) (passes : List AtomDef → Asked → Ty
       put-before (IsUpdate (target.Local v.slot (is_some v.narrowed) read) op value at) [] old a new (ap (λ (x : State). x.blocks) s.all ∙ same)
       (subst (λ (w : UpdateTarget). AddsStmt (IsUpdate w op value at) [] a new) is put)
 
-  module-opened : (number : ℕ) (t : Ty) (read : Shared) (op : Operator) (value : TypedExpr) (at : Place) (old mid new : State) → mid.blocks ≡ old.blocks
+  pub module-opened : (number : ℕ) (t : Ty) (read : Shared) (op : Operator) (value : TypedExpr) (at : Place) (old mid new : State) → mid.blocks ≡ old.blocks
       → updates_assigned (AssignsModule number t) read op value at mid (Gives tt) new → AddsStmt (IsUpdate (target.Variable number) op value at) [] old new
   module-opened number t read op value at old mid new same updated =
       let (what, is, put) = updates-opened (λ w. w ≡ target.Variable number) op value at tt mid new updated in

@@ -62,16 +62,16 @@ use Rattle.typed_tree.specs.declared.stmt.PerformForm.{PerformForm}
 implied-type : (c : Constant) (t : Shared) (at : Place) (e : TypedExpr) → IsImplied c t at e → type_of e ≡ t
 implied-type c t at e view = search (rules, expr_layers)
 
-key-given : (text : Text) (at : Place) (u : Unit {0}) (old new : State) → gives_key text at old (Gives u) new
+pub key-given : (text : Text) (at : Place) (u : Unit {0}) (old new : State) → gives_key text at old (Gives u) new
     → (e : TypedExpr) × (t : Shared) × SingleOf (constant.Str text) old.atoms t.value × IsImplied (constant.Str text) t at e
     × (new ≡ record old { found = all_but 0 old.found ++ e ∷ []; ways = None })
 unfolding does
 key-given text at u old new (parts, last, e, (t, single, view), is) = (e, t, single, view, is)
 
-all-stay : {A : Type 0} (xs : List A) → all_but 0 xs ≡ xs
+pub all-stay : {A : Type 0} (xs : List A) → all_but 0 xs ≡ xs
 all-stay xs = kept-is 0 xs xs [] (sym (append-nil xs)) refl
 
-field-opened : (w : Word) (old new : State) → has_field w old (Gives tt) new
+pub field-opened : (w : Word) (old new : State) → has_field w old (Gives tt) new
     → (e : TypedExpr) × (t : Shared) × SingleOf (constant.Str w.name) old.atoms t.value × IsImplied (constant.Str w.name) t w.at e
     × (new.found ≡ old.found ++ e ∷ []) × (new.accesses ≡ old.accesses ++ Key ∷ []) × (new.atoms ≡ old.atoms)
 unfolding ◌▷◌ does
@@ -117,7 +117,7 @@ module _ (passes : List AtomDef → Asked → TypeLimit → Type 0) where
       let all : new ≡ old = fourth ∙ unless-leaves b NoField at c d u third ∙ all-asking _ (has-some-adds-none passes n (Some at)) a c b second ∙ same in
       (subst (λ (k : SemType). HasExactly old.atoms k (StandsAt old.atoms t keys)) (sym is) exactly, all)
 
-  record Expected (at : Place) (old new : State) : Type 0 where
+  pub record Expected (at : Place) (old new : State) : Type 0 where
     pub container : TypedExpr
     pub key : TypedExpr
     pub access : Access
@@ -131,7 +131,7 @@ module _ (passes : List AtomDef → Asked → TypeLimit → Type 0) where
     pub meaning : HasExactly old.atoms (sem_of want) (λ x. In old.atoms x member)
     pub all : new ≡ record old { wants = old.wants ++ Some want ∷ [] }
 
-  expected-opened : (at : Place) (old new : State) → expects_stored passes at old (Gives tt) new → Expected at old new
+  pub expected-opened : (at : Place) (old new : State) → expects_stored passes at old (Gives tt) new → Expected at old new
   unfolding ◌▷◌ gives_some
   expected-opened at old new (p, a, (pair, e1), (access, b, (la, e2), (keys, c, asked, (m, d, member, put)))) =
       let two : b ≡ old = e2 ∙ e1 in

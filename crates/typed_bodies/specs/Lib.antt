@@ -1,0 +1,3 @@
+pub mod Claims
+pub mod Lines
+pub mod Units
