@@ -210,7 +210,7 @@ aside-changes change keeps old new u met =
 pub aside-new : (w : Word) → Aside (is_new w)
 aside-new w = aside-then _ _ (aside-some _) (λ b. aside-either b _ _ (aside-fails _ _) (aside-some _))
 
-aside-looks-up : (names : Names) (q : QualifiedName) → Aside (looks_up names q)
+pub aside-looks-up : (names : Names) (q : QualifiedName) → Aside (looks_up names q)
 aside-looks-up names q = aside-then _ _ (aside-some _) (λ u. aside-some _)
 
 aside-variable : (v : Variable) (at : Place) → Aside (variable_assignable v at)

@@ -1,5 +1,6 @@
 -- The lines of statements.
 use Rattle.std.proofs.Common.{List}
+use Rattle.std.specs.List.{list_any}
 use Rattle.bal_tree.specs.declared.action.Rhs.{Rhs}
 use Rattle.calm_needs.specs.Calm.{AllNeedsAreCalm}
 use Rattle.check_words.specs.State.{State}
@@ -7,7 +8,7 @@ use Rattle.descriptors.specs.declared.names.Names.{Names}
 use Rattle.expr_needs.specs.ExprTable.{read_expr}
 use Rattle.operations.specs.Kinds.{IsBoolean}
 use Rattle.operations.specs.Rows.{Surroundings}
-use Rattle.stmt_needs.specs.StmtTable.{is_among, leaves, otherwise_needs}
+use Rattle.stmt_needs.specs.StmtTable.{StmtReading, is_among, is_any, leaves, otherwise_needs}
 use Rattle.tree_promises.specs.Laws.{MadeLoopsAreTyped, MadeStatementsAreTyped}
 use Rattle.type_model.specs.Calls.{Asked}
 use Rattle.type_model.specs.Inclusion.{HasExactly}
@@ -19,7 +20,9 @@ use Rattle.typed_bodies.proofs.Blocks.{block, blocked, no-block, one-block}
 use Rattle.typed_bodies.proofs.Branches.{branched, repeated}
 use Rattle.typed_bodies.proofs.Declaring.{declaration}
 use Rattle.typed_bodies.proofs.MemberUpdates.{element-updated, field-updated}
+use Rattle.typed_bodies.proofs.Clauses.{clause}
 use Rattle.typed_bodies.proofs.Foreach.{counted, walked}
+use Rattle.typed_bodies.proofs.MatchLine.{matched}
 use Rattle.typed_bodies.proofs.Members.{stored}
 use Rattle.typed_bodies.proofs.Names.{assigned, updated}
 use Rattle.typed_bodies.proofs.Plain.{broken, continued, evaluated, ignored, nil-returned, panicked, returned}
@@ -27,7 +30,7 @@ use Rattle.typed_bodies.proofs.Targets.{elements, fields}
 use Rattle.typed_bodies.specs.Claims.{CanAct, StaysIn}
 use Rattle.typed_stmts.specs.Assigned.{TakeValues}
 use Rattle.typed_tree.specs.Listed.{members}
-use Rattle.typed_bodies.specs.Lines.{AllLinesAreTyped, BlockLines, LoopLines, NameLines, PlainLines, UpdateLines}
+use Rattle.typed_bodies.specs.Lines.{AllLinesAreTyped, BlockLines, LoopLines, MatchLines, NameLines, PlainLines, UpdateLines}
 
 module _ (made : MadeStatementsAreTyped) (loops : MadeLoopsAreTyped) (passes : List AtomDef → Asked → TypeLimit → Type 0) (calm : AllNeedsAreCalm passes) (names : Names) (env : List AtomDef)
     (place : Surroundings) (actions : List Rhs) where
@@ -79,6 +82,13 @@ module _ (made : MadeStatementsAreTyped) (loops : MadeLoopsAreTyped) (passes : L
             (members body.assigned) (is_among name.name (members body.assigned)) body.needs at kf kt kb;
       }
 
+  match-lines : (truth : SemType) → HasExactly env truth IsBoolean → MatchLines passes names env place Can
+  match-lines truth booleans =
+      record {
+        clause = λ ps body at kb. clause made passes names env place Can can ps (list_any is_any ps) body.needs at kb;
+        matched = λ e clauses at ke known. matched made passes names env place Can can truth booleans e clauses (list_any (λ (c : StmtReading). c.takes_all) clauses) at ke known;
+      }
+
   name-lines : TakeValues env names place → NameLines passes names env place Can
   name-lines takes =
       record { assigned = assigned made passes names env place Can can takes; updated = updated made passes names env place Can can takes }
@@ -89,6 +99,7 @@ all-lines-are-typed made loops passes calm names env place actions =
       plain = plain-lines made loops passes calm names env place actions;
       blocks = block-lines made loops passes calm names env place actions;
       names_assigned = name-lines made loops passes calm names env place actions;
+      matches = match-lines made loops passes calm names env place actions;
       loops = loop-lines made loops passes calm names env place actions;
       updates = update-lines made loops passes calm names env place actions;
     }

@@ -3,10 +3,13 @@ mod Aside
 mod Blocks
 mod Branches
 mod Choosing
+mod Clauses
 mod Declaring
 mod Foreach
 mod Law
 mod Loops
+mod MatchLine
+mod Matches
 mod MemberUpdates
 mod Members
 mod Names

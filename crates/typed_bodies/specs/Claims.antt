@@ -13,18 +13,19 @@ use Rattle.expr_needs.specs.declared.expected.Expected.{Expected}
 use Rattle.flow_narrowing.specs.Flows.{IsSameVariable}
 use Rattle.operations.specs.Rows.{Surroundings}
 use Rattle.stmt_needs.specs.StmtTable.{StmtReading, Within}
-use Rattle.tree_promises.specs.MadeStmts.{AreTypedStmts, IsTypedStmt}
+use Rattle.tree_promises.specs.MadeStmts.{AreTypedClauses, AreTypedStmts, IsTypedStmt}
 use Rattle.type_model.specs.Calls.{Asked}
 use Rattle.type_model.specs.declared.answers.TypeLimit.{TypeLimit}
 use Rattle.type_model.specs.declared.atoms.AtomDef.{AtomDef}
 use Rattle.typed_bodies.specs.Units.{units_of_clauses, units_of_stmts}
 use Rattle.typed_exprs.specs.Lines.{Leaves, Run}
-use Rattle.typed_needs.specs.Between.{IsKept, IsSoFar, IsTypedUnit, IsUnitAt}
+use Rattle.typed_needs.specs.Between.{FlowIsStored, IsKept, IsSoFar, IsTypedUnit, IsUnitAt}
 use Rattle.typed_needs.specs.Going.{GoesOn}
 use Rattle.typed_needs.specs.TypedRuns.{ComesToTyped, NamesWorkers}
 use Rattle.typed_needs.specs.Waits.{AreResults}
 use Rattle.typed_stmts.specs.Adding.{AddsStmt}
 use Rattle.typed_tree.specs.Listed.{Listed}
+use Rattle.typed_tree.specs.declared.stmt.TypedClause.{TypedClause}
 use Rattle.typed_tree.specs.declared.stmt.TypedStmt.{TypedStmt}
 
 -- ---- from state to state
@@ -54,6 +55,21 @@ pub record CanAct (env : List AtomDef) (place : Surroundings) (actions : List Rh
   pub peers : All (λ r. NamesWorkers r s) actions
   pub results : AreResults env place s.site.results
 
+-- what is known before a match, and behind its clauses, is of variables in slots of their declared types
+pub record MatchIsKept (place : Surroundings) (m : MatchAtWork) : Type 0 where
+  pub before : FlowIsStored place m.before
+  pub ends : All (FlowIsStored place) m.ends
+
+-- some clauses more in the match at hand; `around`: the matches around it
+pub record HasMoreClauses (around : List MatchAtWork) (was : MatchAtWork) (old new : State) : Type 0 where
+  pub stays : StaysIn old new
+  pub found : new.found ≡ old.found
+  pub blocks : new.blocks ≡ old.blocks
+  pub now : MatchAtWork
+  pub more : List TypedClause
+  pub matches : new.matches ≡ around ++ now ∷ []
+  pub clauses : now.clauses ≡ was.clauses ++ more
+
 module _ (env : List AtomDef) (place : Surroundings) (inside : Bool) where
   -- a statement is typed, and the functions in it are typed in units of their own
   pub record IsDone (s : TypedStmt) : Type 0 where
@@ -74,6 +90,19 @@ module _ (env : List AtomDef) (place : Surroundings) (inside : Bool) where
     pub block : BlockAtWork
     pub blocks : new.blocks ≡ old.blocks ++ block ∷ []
     pub done : AreDone block.stmts
+    pub kept : IsKept place new
+
+  -- of clauses the same
+  pub record AreDoneClauses (cs : List TypedClause) : Type 0 where
+    pub typed : AreTypedClauses env place inside cs
+    pub units : All (IsTypedUnit env place) (units_of_clauses cs)
+
+  -- the match at hand has some clauses more, and all are done
+  pub record ComesToClauses (around : List MatchAtWork) (new : State) : Type 0 where
+    pub now : MatchAtWork
+    pub matches : new.matches ≡ around ++ now ∷ []
+    pub known : MatchIsKept place now
+    pub done : AreDoneClauses now.clauses
     pub kept : IsKept place new
 
 -- ---- readings
@@ -116,3 +145,15 @@ module _ (passes : List AtomDef → Asked → TypeLimit → Type 0) (names : Nam
   abbrev pub AllKnown : List StmtReading → Type 0
   AllKnown [] = ⊤
   AllKnown (s ∷ ss) = KnowsStmt s.needs × AllKnown ss
+
+  -- and of clauses
+  pub record KnowsClauses (needs : Within → Listed Need) : Type 0 where
+    pub claim : (w : Within) (around : List MatchAtWork) (was : MatchAtWork) (old new : State) → Can old → HasUnit old → old.matches ≡ around ++ was ∷ []
+        → Run passes names env (needs w) old new → IsKept place old → MatchIsKept place was → AreDoneClauses env place w.loop was.clauses → IsOnTheWay env place new
+        → ComesToClauses env place w.loop around new
+    pub more : (w : Within) (around : List MatchAtWork) (was : MatchAtWork) (old new : State) → HasUnit old → old.matches ≡ around ++ was ∷ []
+        → Run passes names env (needs w) old new → HasMoreClauses around was old new
+
+  abbrev pub AllClausesKnown : List StmtReading → Type 0
+  AllClausesKnown [] = ⊤
+  AllClausesKnown (c ∷ cs) = KnowsClauses c.needs × AllClausesKnown cs

@@ -7,6 +7,7 @@ use Rattle.bal_tree.specs.declared.name.QualifiedName.{QualifiedName}
 use Rattle.bal_tree.specs.declared.name.Word.{Word}
 use Rattle.bal_tree.specs.declared.stmt.AssignOp.{AssignOp}
 use Rattle.bal_tree.specs.declared.stmt.LocalType.{LocalType}
+use Rattle.bal_tree.specs.declared.stmt.Pattern.{Pattern}
 use Rattle.bal_tree.specs.declared.stmt.Range.{Range}
 use Rattle.check_words.specs.State.{State}
 use Rattle.descriptors.specs.declared.names.Names.{Names}
@@ -15,13 +16,13 @@ use Rattle.expr_needs.specs.Needs.{Assigns, BeginsBlock, Breaks, Continues, Ends
 use Rattle.expr_needs.specs.declared.kind.Kind.TheVariants as kind
 use Rattle.operations.specs.Kinds.{IsBoolean}
 use Rattle.operations.specs.Rows.{Surroundings}
-use Rattle.stmt_needs.specs.StmtTable.{StmtReading, Within, block_needs, declaration_needs, foreach_needs, if_needs, jump_needs, otherwise_needs, return_needs, while_needs}
+use Rattle.stmt_needs.specs.StmtTable.{StmtReading, Within, block_needs, clause_needs, declaration_needs, foreach_needs, if_needs, jump_needs, match_needs, otherwise_needs, return_needs, while_needs}
 use Rattle.type_model.specs.Calls.{Asked}
 use Rattle.type_model.specs.Inclusion.{HasExactly}
 use Rattle.type_model.specs.declared.answers.TypeLimit.{TypeLimit}
 use Rattle.type_model.specs.declared.atoms.AtomDef.{AtomDef}
 use Rattle.type_model.specs.declared.basic.SemType.{SemType}
-use Rattle.typed_bodies.specs.Claims.{CanAct, AllKnown, BlockClaim, KnowsBlock, KnowsStmt, KnowsValue, StmtClaim}
+use Rattle.typed_bodies.specs.Claims.{AllClausesKnown, AllKnown, BlockClaim, CanAct, KnowsBlock, KnowsClauses, KnowsStmt, KnowsValue, StmtClaim}
 use Rattle.typed_needs.specs.Placing.{AreNamed}
 use Rattle.typed_stmts.specs.Assigned.{TakeValues}
 use Rattle.typed_tree.specs.Listed.{Listed, one, ◌&◌}
@@ -88,6 +89,11 @@ module _ (passes : List AtomDef → Asked → TypeLimit → Type 0) (names : Nam
     pub counted : (t : LocalType) (name : Word) (from : Reading) (range : Range) (body : StmtReading) (at : Place) → Known from → Known (read_expr range.end.value)
         → KnownBlock body.needs → Line (λ w. foreach_needs t name from (Some range) body at)
 
+  -- matches, and their clauses
+  pub record MatchLines : Type 0 where
+    pub clause : (ps : List Pattern) (body : StmtReading) (at : Place) → KnownBlock body.needs → KnowsClauses passes names env place Can (clause_needs ps body at)
+    pub matched : (e : Reading) (clauses : List StmtReading) (at : Place) → Known e → AllClausesKnown passes names env place Can clauses → Line (match_needs e clauses at)
+
 -- in each package, wherever a statement stands, and whatever actions there are in it
 pub record LinesAreTyped (passes : List AtomDef → Asked → TypeLimit → Type 0) (names : Names) (env : List AtomDef) (place : Surroundings) (actions : List Rhs) : Type 0 where
   pub plain : PlainLines passes names env place (CanAct env place actions)
@@ -96,6 +102,7 @@ pub record LinesAreTyped (passes : List AtomDef → Asked → TypeLimit → Type
   pub names_assigned : TakeValues env names place → NameLines passes names env place (CanAct env place actions)
   -- where there is a type of the booleans
   pub updates : (truth : SemType) → HasExactly env truth IsBoolean → UpdateLines passes names env place (CanAct env place actions)
+  pub matches : (truth : SemType) → HasExactly env truth IsBoolean → MatchLines passes names env place (CanAct env place actions)
   pub loops : (truth : SemType) → HasExactly env truth IsBoolean → LoopLines passes names env place (CanAct env place actions)
 
 abbrev pub AllLinesAreTyped : (List AtomDef → Asked → TypeLimit → Type 0) → Type 0

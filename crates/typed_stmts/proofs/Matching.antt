@@ -78,18 +78,18 @@ joined-leaves : (f : Flow) (gs : List Flow) → LeavesAll (joins_from f gs)
 joined-leaves f [] = all-some _
 joined-leaves f (g ∷ gs) = all-then _ _ (all-some _) (λ h. joined-leaves h gs)
 
-all-joined-leaves : (before : Flow) (fs : List Flow) → LeavesAll (joins_all before fs)
+pub all-joined-leaves : (before : Flow) (fs : List Flow) → LeavesAll (joins_all before fs)
 all-joined-leaves before [] = all-some _
 all-joined-leaves before (f ∷ fs) = joined-leaves f fs
 
 module _ (env : List AtomDef) (place : Surroundings) (inside : Bool) where
-  clauses-more : (cs : List TypedClause) (c : TypedClause) → AreTypedClauses env place inside cs → AreTypedStmts env place inside (out-TypedClause c).stmts.items
+  pub clauses-more : (cs : List TypedClause) (c : TypedClause) → AreTypedClauses env place inside cs → AreTypedStmts env place inside (out-TypedClause c).stmts.items
       → AreTypedClauses env place inside (cs ++ c ∷ [])
   clauses-more [] c h typed = (typed, tt)
   clauses-more (d ∷ cs) c h typed = (h.0, clauses-more cs c h.1 typed)
 
 module _ (passes : List AtomDef → Asked → TypeLimit → Type 0) where
-  some-left-leaves : (any : Bool) (t : Shared) (at : Place) → LeavesAll (some_is_left passes any t at)
+  pub some-left-leaves : (any : Bool) (t : Shared) (at : Place) → LeavesAll (some_is_left passes any t at)
   some-left-leaves true t at = all-some _
   some-left-leaves false t at = all-asking _ (has-some-adds-none passes (sem_of t) (Some at))
 
