@@ -26,8 +26,9 @@ fn one_def(alloc: Global, def: AtomDef) -> Result<Vec<AtomDef>, Memory>
     Ok(defs)
 }
 
-/// Definitions more, whose first number it gives.
-fn add_defs<T: Types>(
+/// Definitions more, which may name each other and the atoms that are there; gives the number of the first. `Atoms` where there
+/// would be too many.
+pub fn add_defs<T: Types>(
     alloc: Global,
     types: &mut T,
     defs: Vec<AtomDef>,
@@ -68,7 +69,7 @@ pub(crate) fn add_one<T: Types>(
 }
 
 /// Whether the first type is below the second. `Types` where the question is too large.
-pub(crate) fn below<T: Types>(
+pub fn below<T: Types>(
     alloc: Global,
     types: &mut T,
     s: &SemType,

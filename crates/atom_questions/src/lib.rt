@@ -5,6 +5,7 @@
 //! - [`has_field`]: whether all shapes of a type are mappings that have a key.
 //! - [`gives`]: whether no function of a type fails at arguments, and all that they give is in a type.
 //! - [`gives_future`]: whether no function of a type fails at arguments, and futures of what they give are in a type.
+//! - [`add_defs`], [`below`]: atoms that are added, and what is asked of them, for further questions.
 //! - [`answers_are_kept`]: needs are met or not as before where atoms are added.
 //!
 //! Each call keeps the atoms that are there and adds one or two behind them; `specs/Limits.antt` says which limits are passed,
@@ -19,6 +20,7 @@ mod futures;
 mod laws;
 mod limits;
 
+pub use adding::{add_defs, below};
 pub use applications::gives;
 pub use fields::has_field;
 pub use futures::gives_future;

@@ -1,5 +1,5 @@
 mod Beside
-mod KeyTexts
+pub mod KeyTexts
 mod MemberKeys
 mod Singles
 mod Stopping

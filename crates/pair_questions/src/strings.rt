@@ -40,7 +40,7 @@ fn set_has(set: &BasicSet, text: Option<&Text>) -> bool
 
 /// Whether the string is in the type, over any atoms; nothing stands for a string that the type doesn't name. It walks over the
 /// type once.
-pub(crate) fn type_has(t: &SemType, text: Option<&Text>) -> bool
+pub fn type_has(t: &SemType, text: Option<&Text>) -> bool
     ensures { result ≡ has_string t.now (option_copied text.entry) }
 {
     match t {
@@ -69,7 +69,7 @@ fn is_beside(text: &Text, key: &SemType, fields: &[FieldDef]) -> bool
 }
 
 /// The text that a set names.
-fn text_of(set: &BasicSet) -> Option<&Text>
+pub fn text_of(set: &BasicSet) -> Option<&Text>
     ensures { option_copied result ≡ text_of_set set.now }
 {
     match set {
