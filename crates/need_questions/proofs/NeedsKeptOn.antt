@@ -14,7 +14,7 @@ use Rattle.type_model.specs.declared.answers.TypeLimit.{TypeLimit}
 use Rattle.type_model.specs.Calls.{Asked, KeepsTypes}
 use Rattle.type_model.specs.Defined.{IsDefined}
 use Rattle.type_model.specs.Inclusion.{HasExactly}
-use Rattle.code_needs.specs.Needs.{Applies, FitsFields, Gives, GivesFuture, HasField, IsMet, Names, Need}
+use Rattle.code_needs.specs.Needs.{Applies, FitsFields, Gives, GivesFuture, HasErrorsOf, HasField, IsMet, Names, Need}
 use Rattle.code_verifier.specs.declared.kind_types.KnownTypes.{KnownTypes}
 use Rattle.code_verifier.specs.declared.questions.OfKinds.TheVariants as kinds
 use Rattle.code_verifier.specs.declared.questions.OfMembers.TheVariants as members
@@ -32,6 +32,7 @@ use Rattle.pair_questions.specs.Pairs.{KeyDefined, pair_of, pairs_of}
 use Rattle.atom_questions.specs.declared.limits.QuestionLimit.{QuestionLimit}
 use Rattle.atom_questions.specs.Kept.{NeedDefined}
 use Rattle.atom_questions.proofs.NeedsKept.{answers-kept}
+use Rattle.detail_questions.specs.Details.{PairDefined}
 use Rattle.need_questions.specs.declared.question.NeedQuestion.{NeedQuestion}
 use Rattle.need_questions.specs.declared.question.NeedQuestion.TheVariants as asked
 use Rattle.need_questions.specs.NeedStops.{FirstStops, NeedStops}
@@ -71,6 +72,11 @@ module _ (env : List AtomDef) where
   pairs-defined [] d = All-nil (λ p. IsDefined env p.0)
   pairs-defined (p ∷ ps) d = All-cons (λ r. IsDefined env r.0) (pair_of p) (pairs_of ps) (All-head (KeyDefined env) p ps d) (pairs-defined ps (All-tail (KeyDefined env) p ps d))
 
+  both-defined : (ps : List Pair) → All (PairDefined env) ps → All (λ p. IsDefined env p.0 × IsDefined env p.1) (pairs_of ps)
+  both-defined [] d = All-nil (λ p. IsDefined env p.0 × IsDefined env p.1)
+  both-defined (p ∷ ps) d =
+      All-cons (λ r. IsDefined env r.0 × IsDefined env r.1) (pair_of p) (pairs_of ps) (All-head (PairDefined env) p ps d) (both-defined ps (All-tail (PairDefined env) p ps d))
+
   one : (need : Need) → NeedDefined env need → All (NeedDefined env) (need ∷ [])
   one need d = All-cons (NeedDefined env) need [] d (All-nil (NeedDefined env))
 
@@ -79,6 +85,7 @@ module _ (env : List AtomDef) where
   defined (asked.HasField m name) d = one (HasField m.now name.now) d
   defined (asked.FitsFields members pair) d = one (FitsFields members.fields.now members.rest.now (pair_of pair)) (d.0.0, d.0.1, d.1.2, d.1.1)
   defined (asked.Names pairs name) d = one (Names (pairs_of pairs.now) name.now) (pairs-defined pairs.now d)
+  defined (asked.HasErrorsOf r pairs) d = one (HasErrorsOf r.now (pairs_of pairs.now)) (d.0, both-defined pairs.now d.1)
   defined (asked.Gives f args r) d =
       All-cons (NeedDefined env) (Applies f.now args.now) (Gives f.now args.now r.now ∷ []) (d.0, d.2) (one (Gives f.now args.now r.now) (d.0, d.1, d.2))
   defined (asked.GivesFuture f args r) d =
@@ -117,6 +124,7 @@ module _ (env new : List AtomDef) (keeps : KeepsTypes env new) where
   askable-kept (asked.HasField m name) d = keeps.defined m.now d
   askable-kept (asked.FitsFields members pair) d = ((keeps.defined pair.key.now d.0.0, keeps.defined pair.value.now d.0.1), members-kept members d.1)
   askable-kept (asked.Names pairs name) d = λ k p lt. keeps.defined (get_or pairs.now k p).key.now (d k p lt)
+  askable-kept (asked.HasErrorsOf r pairs) d = (keeps.defined r.now d.0, (λ k p lt. (keeps.defined (get_or pairs.now k p).key.now (d.1 k p lt).0, keeps.defined (get_or pairs.now k p).value.now (d.1 k p lt).1)))
   askable-kept (asked.Gives f args r) d = (keeps.defined f.now d.0, keeps.defined r.now d.1, all-kept args.now d.2)
   askable-kept (asked.GivesFuture f args r) d = (keeps.defined f.now d.0, keeps.defined r.now d.1, all-kept args.now d.2)
 

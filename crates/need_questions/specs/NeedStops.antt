@@ -14,6 +14,7 @@ use Rattle.atom_questions.specs.FutureNeeds.{FutureStops, HasFutureMore}
 use Rattle.atom_questions.specs.declared.limits.QuestionLimit.{QuestionLimit}
 use Rattle.atom_questions.specs.declared.limits.QuestionLimit.TheVariants.{Atoms, Types}
 use Rattle.atom_questions.specs.Limits.{AsksGiven, OneMoreStops}
+use Rattle.detail_questions.specs.Details.{ErrorStops, HasErrorsMore}
 use Rattle.need_questions.specs.declared.question.NeedQuestion.{NeedQuestion}
 use Rattle.need_questions.specs.declared.question.NeedQuestion.TheVariants as asked
 use Rattle.need_questions.specs.NeedsAsked.{NeedsMet}
@@ -24,6 +25,7 @@ HasAddedFor old (asked.Plain q) new = new ≡ old
 HasAddedFor old (asked.HasField m name) new = HasOneMore old (IsFieldDef name.now) new
 HasAddedFor old (asked.FitsFields members pair) new = new ≡ old
 HasAddedFor old (asked.Names pairs name) new = new ≡ old
+HasAddedFor old (asked.HasErrorsOf r pairs) new = HasErrorsMore old pairs.now new
 HasAddedFor old (asked.Gives f args r) new = HasOneMore old (IsArgsDef args.now) new
 HasAddedFor old (asked.GivesFuture f args r) new = HasFutureMore old f.now args.now new
 
@@ -38,6 +40,7 @@ NeedStops passes known old (asked.Plain q) limit = OfTypes (SomePasses passes ol
 NeedStops passes known old (asked.HasField m name) limit = OneMoreStops passes old (IsFieldDef name.now) (λ env asked. asked ≡ Without m.now (Atom (length old))) limit
 NeedStops passes known old (asked.FitsFields members pair) limit = OfTypes (SomePasses passes old (AsksFit old members pair)) limit
 NeedStops passes known old (asked.Names pairs name) limit = OfTypes (SomePasses passes old (AsksName pairs.now name.now)) limit
+NeedStops passes known old (asked.HasErrorsOf r pairs) limit = ErrorStops passes old pairs.now r.now limit
 NeedStops passes known old (asked.Gives f args r) limit = OneMoreStops passes old (IsArgsDef args.now) (AsksGiven f.now args.now (length old) r.now) limit
 NeedStops passes known old (asked.GivesFuture f args r) limit = FutureStops passes old f.now args.now r.now limit
 

@@ -5,11 +5,12 @@ use Rattle.type_model.specs.declared.answers.Answer.{Answer}
 use Rattle.type_model.specs.declared.answers.Answer.TheVariants.{Yes, No}
 use Rattle.type_model.specs.declared.atoms.AtomDef.{AtomDef}
 use Rattle.type_model.specs.Defined.{IsDefined}
-use Rattle.code_needs.specs.Needs.{Applies, FitsFields, Gives, GivesFuture, HasField, IsMet, Names, Need}
+use Rattle.code_needs.specs.Needs.{Applies, FitsFields, Gives, GivesFuture, HasErrorsOf, HasField, IsMet, Names, Need}
 use Rattle.code_verifier.specs.Asked.{IsAgainst}
 use Rattle.code_verifier.specs.Questions.{IsAskable, need_of}
 use Rattle.pair_questions.specs.Fitting.{AreMembers}
 use Rattle.pair_questions.specs.Pairs.{KeyDefined, pair_of, pairs_of}
+use Rattle.detail_questions.specs.Details.{PairDefined}
 use Rattle.need_questions.specs.declared.question.NeedQuestion.{NeedQuestion}
 use Rattle.need_questions.specs.declared.question.NeedQuestion.TheVariants as asked
 
@@ -19,6 +20,7 @@ needs_of (asked.Plain q) = need_of q ∷ []
 needs_of (asked.HasField m name) = HasField m.now name.now ∷ []
 needs_of (asked.FitsFields members pair) = FitsFields members.fields.now members.rest.now (pair_of pair) ∷ []
 needs_of (asked.Names pairs name) = Names (pairs_of pairs.now) name.now ∷ []
+needs_of (asked.HasErrorsOf r pairs) = HasErrorsOf r.now (pairs_of pairs.now) ∷ []
 needs_of (asked.Gives f args r) = Applies f.now args.now ∷ Gives f.now args.now r.now ∷ []
 needs_of (asked.GivesFuture f args r) = Applies f.now args.now ∷ GivesFuture f.now args.now r.now ∷ []
 
@@ -29,6 +31,7 @@ module _ (env : List AtomDef) where
   IsAskableNeed (asked.HasField m name) = IsDefined env m.now
   IsAskableNeed (asked.FitsFields members pair) = (IsDefined env pair.key.now × IsDefined env pair.value.now) × AreMembers env members
   IsAskableNeed (asked.Names pairs name) = All (KeyDefined env) pairs.now
+  IsAskableNeed (asked.HasErrorsOf r pairs) = IsDefined env r.now × All (PairDefined env) pairs.now
   IsAskableNeed (asked.Gives f args r) = IsDefined env f.now × IsDefined env r.now × All (IsDefined env) args.now
   IsAskableNeed (asked.GivesFuture f args r) = IsDefined env f.now × IsDefined env r.now × All (IsDefined env) args.now
 

@@ -18,6 +18,7 @@ use crate::question::NeedQuestion;
 use atom_questions::{QuestionLimit, gives, gives_future, has_field};
 use bal_base::{Shape, Stop, Text};
 use code_verifier::{KnownTypes, Question, ask};
+use detail_questions::has_errors;
 use pair_questions::{Members, Pair, fits_fields, has_name};
 use std::alloc::Global;
 use type_model::{Answer, TypeLimit, Types};
@@ -81,7 +82,7 @@ fn ask_names<T: Types>(
 }
 
 /// Whether the needs of a question are met, or a shape that shows that one isn't: a few questions about types, and up to two atoms
-/// more. `Atoms` where there would be too many atoms, `Types` where a question is too large.
+/// more, or for errors one more for each pair whose key isn't written as a single string. `Atoms` where there would be too many atoms, `Types` where a question is too large.
 pub fn ask_need<T: Types>(
     alloc: Global,
     types: &mut T,
@@ -100,6 +101,7 @@ pub fn ask_need<T: Types>(
         NeedQuestion::HasField(m, name) => has_field(alloc, types, m, name),
         NeedQuestion::FitsFields(members, pair) => ask_fits(alloc, types, members, pair),
         NeedQuestion::Names(pairs, name) => ask_names(alloc, types, pairs, name),
+        NeedQuestion::HasErrorsOf(r, pairs) => has_errors(alloc, types, r, pairs),
         NeedQuestion::Gives(f, args, r) => gives(alloc, types, f, args, r),
         NeedQuestion::GivesFuture(f, args, r) => gives_future(alloc, types, f, args, r),
     }

@@ -1,5 +1,4 @@
-//! Needs of code as questions about types, of whichever kind they are, asked one after another: of all that `code_needs` has
-//! but errors with details of pairs, which aren't asked yet.
+//! Needs of code as questions about types, of whichever of the kinds that `code_needs` has, asked one after another.
 //!
 //! - [`NeedQuestion`]: a need, or two of one call, and the types that are asked about.
 //! - [`ask_need`]: whether it is met.

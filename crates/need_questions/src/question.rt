@@ -16,6 +16,8 @@ pub enum NeedQuestion<'c> {
     FitsFields(Members<'c>, Pair<'c>),
     /// Some pair has the name as its single key.
     Names(&'c [Pair<'c>], &'c Text),
+    /// Errors with details of the pairs are in the type.
+    HasErrorsOf(&'c SemType, &'c [Pair<'c>]),
     /// No function of the first type fails at arguments of these types, and all that they give is in the last one.
     Gives(&'c SemType, &'c [SemType], &'c SemType),
     /// No function of the first type fails at arguments of these types, and futures of all that they give are in the last

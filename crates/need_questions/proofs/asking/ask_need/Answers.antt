@@ -63,6 +63,18 @@ pub returns-in-Names-clause-limit : goal.returns-in-Names-clause-limit
 returns-in-Names-clause-limit g c =
     subst (λ (q : NeedQuestion). IfFault c.ask_names.result (NeedStops g.T.Types.passes c.args.known.now (g.T.Types.atoms c.args.types.now) q)) (sym c.in-Names.is) c.ask_names.ensures.limit
 
+pub returns-in-HasErrorsOf-clause-added : goal.returns-in-HasErrorsOf-clause-added
+returns-in-HasErrorsOf-clause-added g c = added-of (g.T.Types.atoms c.args.types.now) c.args.question _ c.in-HasErrorsOf.is _ c.has_errors.ensures.added
+
+pub returns-in-HasErrorsOf-clause-answers : goal.returns-in-HasErrorsOf-clause-answers
+returns-in-HasErrorsOf-clause-answers g c =
+    let env = g.T.Types.atoms c.args.types.now in
+    subst (λ (q : NeedQuestion). IfOk c.has_errors.result (AnswersNeeds env (needs_of q))) (sym c.in-HasErrorsOf.is) (one-answered env _ c.has_errors.result c.has_errors.ensures.answers)
+
+pub returns-in-HasErrorsOf-clause-limit : goal.returns-in-HasErrorsOf-clause-limit
+returns-in-HasErrorsOf-clause-limit g c =
+    subst (λ (q : NeedQuestion). IfFault c.has_errors.result (NeedStops g.T.Types.passes c.args.known.now (g.T.Types.atoms c.args.types.now) q)) (sym c.in-HasErrorsOf.is) c.has_errors.ensures.limit
+
 pub returns-in-Gives-clause-added : goal.returns-in-Gives-clause-added
 returns-in-Gives-clause-added g c = added-of (g.T.Types.atoms c.args.types.now) c.args.question _ c.in-Gives.is _ c.gives.ensures.added
 
