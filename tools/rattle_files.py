@@ -158,7 +158,7 @@ class File:
                 continue
             found = HEAD.match(line)
             inside = current is not None and indent > current_indent
-            if found and self.is_head(found, line, inside and bool(current.kind)):
+            if found and self.is_head(found, line, inside, inside and bool(current.kind)):
                 current = Definition(found["name"], self.path, number, (found["kind"] or "").strip(), comment, [line])
                 current.public = "pub" in (found["words"] + found["after"]).split()
                 current.head_of_module = module
@@ -170,13 +170,13 @@ class File:
                     current.parts.append(part[1])
 
     @staticmethod
-    def is_head(found, line, in_type):
-        """Whether a line begins a definition, and isn't an equation, a field or a constructor."""
+    def is_head(found, line, inside, in_type):
+        """Whether a line begins a definition, and isn't an equation, a field, a constructor or a further line of one."""
         if in_type:
             return False
         if found["words"].strip() or found["kind"]:
             return True
-        return "=" not in line.split(" : ")[0].split()
+        return not inside and "=" not in line.split(" : ")[0].split() and bool(re.match(r"[\w◌]", found["name"]))
 
 
 def head_comment(lines):
