@@ -1,10 +1,9 @@
 -- What answering a question says of the folder that has the file: of its bytes only so many are read as a file may have, and
 -- one more.
-use Rattle.std.proofs.Common.{◌≡◌, ◌<◌, ◌+◌, ℕ, List, [], chars, length, take, Option, Some, None, refl, sym, ap, subst, ◌∙◌, inl, inr, ⊎_elim}
+use Rattle.std.proofs.Common.{◌≡◌, ◌<◌, ◌+◌, ℕ, List, [], length, take, Option, Some, None, sym, subst, inl, inr, ⊎_elim}
 use Rattle.std.specs.Prelude.{All, IfOk, IfSome, Result, Ok, Err, String, Vec, ◌⊎◌}
 use Rattle.std.specs.Global.{Global}
 use Rattle.bal_base.specs.declared.fault.Fault.{Fault as FaultOf}
-use Rattle.bal_base.specs.declared.fault.FaultCode.TheVariants.{NotUtf8, Syntax}
 use Rattle.bal_base.specs.declared.fault.Refusal.{Refusal}
 use Rattle.bal_base.specs.declared.limits.TheConstants.{MOST_FILE_BYTES}
 use Rattle.bal_base.specs.declared.stop.Memory.{Memory as NoMemory}
@@ -12,21 +11,18 @@ use Rattle.bal_base.specs.declared.stop.Stop.{Stop}
 use Rattle.bal_base.specs.declared.stop.Stop.TheVariants.{Memory, Fault}
 use Rattle.bal_tree.specs.declared.def.FileTree.{FileTree}
 use Rattle.bal_tree.specs.declared.package.Package.{Package}
-use Rattle.bal_tree.specs.declared.package.SourceFile.{SourceFile}
 use Rattle.package_questions.specs.PackageAnswers.{AnswersFor, home_files}
 use Rattle.type_diagrams.specs.Reach.{Passes}
 use Rattle.type_model.specs.declared.atoms.AtomDef.{AtomDef}
-use Rattle.bal_run.specs.declared.compile.LoadFault.{LoadFault}
-use Rattle.bal_run.specs.Files.{Files, HasNoMain, IsFrontOfMain, IsMainFile, main_name}
-use Rattle.bal_run.specs.Questions.{Answers, AnswersBytes, AnswersPackage, ImportsIo, IsLoaded, IsMainSource, IsUnread, package_of}
-use Rattle.bal_run.specs.Source.{NotText, TooLong, fault_at, refusal_of}
+use Rattle.bal_run.specs.declared.load.LoadFault.{LoadFault}
+use Rattle.bal_run.specs.Files.{Files, HasNoMain, IsFrontOfMain, IsMainFile}
+use Rattle.bal_run.specs.Packages.{ImportsIo, package_of}
+use Rattle.bal_run.specs.Questions.{Answers, AnswersBytes, AnswersPackage, IsLoaded}
+use Rattle.bal_run.specs.Readings.{IsMainSource, IsUnread}
+use Rattle.bal_run.specs.Source.{NotText, TooLong, refusal_of}
 use Rattle.bal_run.specs.Work.{IsStopOf, IsTreeReading}
-use Rattle.bal_run.proofs.Compiling.{at-start, front-long, long-has, not-short, not-text-has, short-or-long}
 use Rattle.bal_run.proofs.FindingMain.{short-front, whole-bytes}
-
--- the file with this text and this tree
-abbrev pub file_with : List ℕ → FileTree → SourceFile
-file_with text tree = record { name = main_name; text = chars text; tree = tree }
+use Rattle.bal_run.proofs.Unread.{file_with, front-long, its-source, long-unread, not-short, short-or-long, unread-at-start, unread-text}
 
 -- what comes of a package that imports nothing else, over no atoms
 pub package-answers : (env : List AtomDef) (whole : Package) (s t : List ℕ) (r : Result (String Global) (Stop Refusal)) → env ≡ [] → All ImportsIo (home_files whole)
@@ -38,45 +34,13 @@ package-answers env whole s t r e io h = so r (subst (λ atoms. AnswersFor Passe
     so (Err (Fault refusal)) a = inr (io, a)
     so (Err Memory) a = tt
 
--- a file that is too long is unread, as its front is, which is too long too
-long-unread : (bytes front : List ℕ) (r : Refusal) → MOST_FILE_BYTES < length bytes → MOST_FILE_BYTES < length front → IsUnread front r → IsUnread bytes r
-long-unread bytes front r long so-long h =
-    record {
-      fault = fault_at Syntax 0;
-      has = inl (long, refl);
-      only = λ other has. long-has bytes other long (inl has);
-      no_tree = λ tree is. not-short bytes long is.are.0;
-      is = h.is ∙ ap (refusal_of front) (long-has front h.fault so-long (inl h.has));
-    }
-
-unread-at-start : (bytes : List ℕ) (fault : FaultOf) → TooLong bytes fault ⊎ NotText bytes fault → IsUnread bytes (refusal_of [] fault)
-unread-at-start bytes fault (inl h) =
-    record {
-      fault = fault;
-      has = inl h;
-      only = λ other has. long-has bytes other h.0 (inl has) ∙ sym h.1;
-      no_tree = λ tree is. not-short bytes h.0 is.are.0;
-      is = at-start bytes fault Syntax h.1;
-    }
-unread-at-start bytes fault (inr h) =
-    record {
-      fault = fault;
-      has = inr (inl h);
-      only = λ other has. not-text-has bytes fault other h (inl has);
-      no_tree = λ tree is. h.1 is.are.0.1;
-      is = at-start bytes fault NotUtf8 h.2;
-    }
-
 module _ (s t : List ℕ) where
   -- ---- a text
 
   module _ (text : List ℕ) (tree : FileTree) (h : IsTreeReading text (Ok tree)) where
-    its-source : IsMainSource text (file_with text tree)
-    its-source = record { named = refl; text = refl; reads = h.reads; sound = h.fault_due }
-
     pub text-answers : (r : Result (String Global) (Stop Refusal)) → AnswersPackage (package_of (Some (file_with text tree))) s t r → AnswersBytes text s t r
-    text-answers (Ok x) a = (file_with text tree, its-source, a)
-    text-answers (Err (Fault r)) a = inr (file_with text tree, its-source, a)
+    text-answers (Ok x) a = (file_with text tree, its-source text tree h, a)
+    text-answers (Err (Fault r)) a = inr (file_with text tree, its-source text tree h, a)
     text-answers (Err Memory) a = tt
 
   -- a refusal that there was memory for
@@ -86,14 +50,7 @@ module _ (s t : List ℕ) where
   unread-or-not bytes (Err m) stop refusal is stopped so = subst (λ q. AnswersBytes bytes s t (Err q)) (sym stopped) tt
 
   pub text-unread : (text : List ℕ) (fault : FaultOf) (r : Result Refusal NoMemory) (stop : Stop Refusal) → IsTreeReading text (Err (Fault fault)) → IfOk r (λ x. x ≡ refusal_of text fault) → IsStopOf r stop → AnswersBytes text s t (Err stop)
-  text-unread text fault r stop h is stopped =
-      unread-or-not text r stop (refusal_of text fault) is stopped (record {
-        fault = fault;
-        has = h.fault;
-        only = λ other has. sym (h.fault_due other has);
-        no_tree = h.tree_due;
-        is = refl;
-      })
+  text-unread text fault r stop h is stopped = unread-or-not text r stop (refusal_of text fault) is stopped (unread-text text fault h)
 
   pub bytes-unread : (bytes : List ℕ) (fault : FaultOf) (r : Result Refusal NoMemory) (stop : Stop Refusal) → TooLong bytes fault ⊎ NotText bytes fault → IfOk r (λ x. x ≡ refusal_of [] fault) → IsStopOf r stop → AnswersBytes bytes s t (Err stop)
   bytes-unread bytes fault r stop h is stopped = unread-or-not bytes r stop (refusal_of [] fault) is stopped (unread-at-start bytes fault h)

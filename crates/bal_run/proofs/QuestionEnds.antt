@@ -4,15 +4,17 @@ use Rattle.std.specs.Prelude.{None, Ok, Err, String, string_bytes}
 use Rattle.std.specs.Global.{Global}
 use Rattle.bal_base.specs.declared.stop.Stop.{Stop}
 use Rattle.bal_base.specs.declared.stop.Stop.TheVariants.{Memory as NoMemory, Fault}
-use Rattle.bal_run.specs.declared.compile.LoadFault.{LoadFault}
-use Rattle.bal_run.specs.declared.compile.LoadFault.TheVariants.{Folder, Source}
-use Rattle.bal_run.specs.declared.status.Run.{Run}
+use Rattle.bal_run.specs.declared.load.LoadFault.{LoadFault}
+use Rattle.bal_run.specs.declared.load.LoadFault.TheVariants.{Folder, Source}
 use Rattle.bal_run.specs.declared.status.Status.{Status}
-use Rattle.bal_run.specs.Due.{IsWritten, Outside, QuestionEnded, StatusIsDue}
+use Rattle.bal_run.specs.declared.top.Worked.{Worked}
+use Rattle.bal_run.specs.Due.{IsWritten, QuestionEnded, StatusIsDue}
 use Rattle.bal_run.specs.Files.{CountsFolderFaults}
+use Rattle.bal_run.specs.Outside.{IsAsBefore, Outside}
+use Rattle.bal_run.specs.Packages.{source_files}
 use Rattle.bal_run.specs.Questions.{Answers}
 use Rattle.bal_run.specs.Words.{IsQuestion}
-use Rattle.bal_run.specs.Work.{IsStatusOfLoad}
+use Rattle.bal_run.specs.Work.{IsStatusOfLoad, not_run}
 use Rattle.bal_run.proofs.Texts.{bytes-written}
 
 module _ (s t : List ℕ) (before after : Outside) (status : Status) where
@@ -34,14 +36,16 @@ module _ (s t : List ℕ) (before after : Outside) (status : Status) where
       inr (record { cause = inr (inl (r, is, h, counts)); faults = faults; written = written })
 
 -- the status of a question that ended so
-pub asked-so : (words : List (String Global)) (before after : Outside) (run : Run) (status : Status) (s t : List ℕ) → IsQuestion words s t → QuestionEnded s t before after status → run ≡ record { status = status; built = None; turns = 0; steps = 0 } → StatusIsDue words before after run run.status
-asked-so words before after run status s t is ended made =
+pub asked-so : (words : List (String Global)) (before after : Outside) (work : Worked) (status : Status) (s t : List ℕ) → IsQuestion words s t → QuestionEnded s t before after status → IsAsBefore before.input after.input → work ≡ record { run = not_run status; source = None } → StatusIsDue words before after work.run (source_files work.source) work.run.status
+asked-so words before after work status s t is ended input made =
     inr (inr (inr (record {
       s = s;
       t = t;
       is = is;
-      ended = subst (λ (x : Status). QuestionEnded s t before after x) (sym (ap (λ (r : Run). r.status) made)) ended;
-      built = ap (λ (r : Run). r.built) made;
-      steps = ap (λ (r : Run). r.steps) made;
-      turns = ap (λ (r : Run). r.turns) made;
+      ended = subst (λ (x : Status). QuestionEnded s t before after x) (sym (ap (λ (w : Worked). w.run.status) made)) ended;
+      built = ap (λ (w : Worked). w.run.built) made;
+      turns = ap (λ (w : Worked). w.run.turns) made;
+      spent = ap (λ (w : Worked). w.run.spent) made;
+      input = input;
+      shows = ap (λ (w : Worked). source_files w.source) made;
     })))

@@ -1,15 +1,18 @@
 -- What is so of the answer and of the diagnostics, however the due status was told.
 use Rattle.std.proofs.Common.{◌≡◌, ◌≢◌, ◌⊎◌, ℕ, List, [], ◌++◌, Option, Some, None, refl, sym, ap, subst, ◌∙◌, inl, inr, ⊎_elim, append_assoc}
-use Rattle.std.specs.Prelude.{IfSome}
+use Rattle.std.specs.Prelude.{String}
+use Rattle.std.specs.Global.{Global}
 use Rattle.std.proofs.lemmas.List.{append-nil}
 use Rattle.bal_io.specs.Content.{Told, Appends, AppendsFront}
 use Rattle.bal_io.specs.Faults.{Rises}
 use Rattle.bal_run.specs.declared.status.Status.{Status}
 use Rattle.bal_run.specs.declared.status.Status.TheVariants.{Done, ErrorReturned, Panicked, Refused, GoesOn, Stalled, FolderFault, InputFault, OutFault, Memory, Words, Limit, DiagFault}
-use Rattle.bal_run.specs.declared.status.Built.{Built}
-use Rattle.bal_run.specs.Due.{IsBeforeRun, SinkTells, status_of}
-use Rattle.sum_code.specs.Outcome.{Outcome}
-use Rattle.bal_run.specs.Report.{AppendsFronts, CanReport, ComesTo, CountsDiagFaults, IsToldWhole, Reports, ReportedMemory, ReportedWhole, ReportFailed, WroteFrontOfSomeText, WroteFrontsOfSomeTexts, WroteFrontsOfTexts, WroteText}
+use Rattle.bal_base.specs.declared.fault.LimitKind.TheVariants.{Cells, Strands}
+use Rattle.bal_tree.specs.declared.package.SourceFile.{SourceFile}
+use Rattle.bal_run.specs.Files.{Files}
+use Rattle.bal_run.specs.OfDiagnostics.{AreDiagnosticsTold, AreShown, AreTextsCut, IsTextCut, IsTextWritten}
+use Rattle.bal_run.specs.Outside.{SinkTells}
+use Rattle.bal_run.specs.Report.{AppendsFronts, CanReport, ComesTo, CountsDiagFaults, IsToldWhole, Reports, ReportedMemory, ReportedWhole, ReportFailed, WroteFrontsOfTexts}
 use Rattle.bal_run.specs.Status.{HasText}
 
 -- ---- what was written
@@ -43,77 +46,103 @@ both-fronts text other None None (Some c) h k = absurd k
 pub faults-of-two : (old mid new : ℕ) → mid ≡ old → (new ≡ mid) ⊎ Rises mid new → (new ≡ old) ⊎ Rises old new
 faults-of-two old mid new e h = subst (λ n. (new ≡ n) ⊎ Rises n new) e h
 
-counts-same : (status : Status) (old new : ℕ) → CanReport status → new ≡ old → CountsDiagFaults status old new
-counts-same Done old new can e = e
-counts-same (ErrorReturned m) old new can e = e
-counts-same (Panicked m) old new can e = e
-counts-same (Refused r) old new can e = e
-counts-same (GoesOn n) old new can e = e
-counts-same (Stalled r) old new can e = e
-counts-same FolderFault old new can e = e
-counts-same InputFault old new can e = e
-counts-same OutFault old new can e = e
-counts-same Memory old new can e = inl e
-counts-same Words old new can e = e
-counts-same (Limit k) old new can e = e
-counts-same DiagFault old new can e = absurd can.1
+counts-same : (files : List SourceFile) (text : List ℕ) (status : Status) (old new : ℕ) → HasText files status text → new ≡ old → CountsDiagFaults status old new
+counts-same files text Done old new h e = e
+counts-same files text (ErrorReturned m) old new h e = e
+counts-same files text (Panicked m) old new h e = e
+counts-same files text (Refused r) old new h e = e
+counts-same files text (GoesOn n) old new h e = e
+counts-same files text (Stalled r) old new h e = e
+counts-same files text FolderFault old new h e = e
+counts-same files text InputFault old new h e = e
+counts-same files text OutFault old new h e = e
+counts-same files text Memory old new h e = inl e
+counts-same files text Words old new h e = e
+counts-same files text (Limit k) old new h e = e
+counts-same files text DiagFault old new h e = absurd h
+
+-- a status that can be told has a text
+pub text-of : (files : List SourceFile) (status : Status) → CanReport status → (text : List ℕ) × HasText files status text
+text-of files Done can = (_, refl)
+text-of files (ErrorReturned m) can = (_, refl)
+text-of files (Panicked m) can = (_, refl)
+text-of files (Refused r) can = (_, refl)
+text-of files (GoesOn n) can = (_, refl)
+text-of files (Stalled r) can = (_, refl)
+text-of files FolderFault can = (_, refl)
+text-of files InputFault can = (_, refl)
+text-of files OutFault can = (_, refl)
+text-of files Memory can = (_, refl)
+text-of files Words can = (_, refl)
+text-of files (Limit Cells) can = (_, refl)
+text-of files (Limit Strands) can = (_, refl)
+text-of files DiagFault can = absurd can
 
 -- ---- facts of a report
 
-module _ (due status : Status) (before after : SinkTells) (r : Reports due status before after) where
-  by-report : {P : Type 0} → (ReportedWhole due status before after → P) → (ReportFailed due status before after → P) → (ReportedMemory due status before after → P) → P
+-- the same where the files are the same
+pub told-of : (files others : List SourceFile) (due status : Status) (before after : SinkTells) → files ≡ others → Reports files due status before after → Reports others due status before after
+told-of files others due status before after e r = subst (λ fs. Reports fs due status before after) e r
+
+module _ (files : List SourceFile) (due status : Status) (before after : SinkTells) (r : Reports files due status before after) where
+  by-report : {P : Type 0} → (ReportedWhole files due status before after → P) → (ReportFailed files due status before after → P) → (ReportedMemory files due status before after → P) → P
   by-report f g h = ⊎_elim f (λ q. ⊎_elim g h q) r
 
-  pub comes : ComesTo due status
+  comes : ComesTo due status
   comes = by-report (λ w. inl w.answer) (λ f. inr (inr (f.answer, f.not_done))) (λ m. inr (inl m.answer))
 
-  pub was-due : status ≢ DiagFault → status ≢ Memory → due ≡ status
+  was-due : status ≢ DiagFault → status ≢ Memory → due ≡ status
   was-due diag memory = by-report (λ w. sym w.answer) (λ f. absurd (diag f.answer)) (λ m. absurd (memory m.answer))
 
   pub memory-stays : due ≡ Memory → status ≡ Memory
   memory-stays e = by-report (λ w. absurd (w.no_memory e)) (λ f. absurd (f.no_memory e)) (λ m. m.answer)
 
-  pub counts : CountsDiagFaults status before.faults after.faults
+  counts : CountsDiagFaults status before.faults after.faults
   counts =
       by-report
-      (λ w. subst (λ s. CountsDiagFaults s before.faults after.faults) (sym w.answer) (counts-same due before.faults after.faults (w.written.0, w.written.1) w.faults))
+      (λ w. subst (λ s. CountsDiagFaults s before.faults after.faults) (sym w.answer) (counts-same files w.written.0 due before.faults after.faults w.written.1 w.faults))
       (λ f. subst (λ s. CountsDiagFaults s before.faults after.faults) (sym f.answer) f.faults)
       (λ m. subst (λ s. CountsDiagFaults s before.faults after.faults) (sym m.answer) m.faults)
 
-  pub done-text : status ≡ Done → after.written ≡ before.written
+  done-text : status ≡ Done → after.written ≡ before.written
   done-text e =
       by-report
-      (λ w. nothing-told w.written.0 before.written after.written (subst (λ s. HasText s w.written.0) (sym w.answer ∙ e) w.written.1) w.written.2)
+      (λ w. nothing-told w.written.0 before.written after.written (subst (λ s. HasText files s w.written.0) (sym w.answer ∙ e) w.written.1) w.written.2)
       (λ f. absurd (let k = f.answer in let bad : ⊥ = cc in bad))
       (λ m. absurd (let k = m.answer in let bad : ⊥ = cc in bad))
 
-  pub whole-text : IsToldWhole status → WroteText status before.written after.written
-  whole-text h =
-      by-report
-      (λ w. subst (λ s. WroteText s before.written after.written) (sym w.answer) w.written)
-      (λ f. absurd (h.1 f.answer))
-      (λ m. absurd (h.0 m.answer))
-
-  pub diag-fault-text : status ≡ DiagFault → WroteFrontOfSomeText before.written after.written
-  diag-fault-text e =
-      by-report
-      (λ w. absurd (subst (λ s. HasText s w.written.0) (sym w.answer ∙ e) w.written.1))
-      (λ f. (due, f.not_done, f.no_memory, f.written))
-      (λ m. absurd (let k = m.answer in let bad : ⊥ = cc in bad))
-
-  fronts : ReportedMemory due status before after → WroteFrontsOfTexts due before.written after.written
+  fronts : ReportedMemory files due status before after → WroteFrontsOfTexts files due before.written after.written
   fronts m =
       ⊎_elim
-      (λ h. let front = h.1 in (front.0, front.0, subst (λ s. HasText s front.0) (sym h.0) front.1, front.1, front-behind-nothing front.0 front.0 before.written after.written front.2))
+      (λ h. let front = h.1 in (front.0, front.0, subst (λ s. HasText files s front.0) (sym h.0) front.1, front.1, front-behind-nothing front.0 front.0 before.written after.written front.2))
       (λ h. h.1)
       m.written
 
-  pub memory-text : status ≡ Memory → WroteFrontsOfSomeTexts before.written after.written
-  memory-text e =
-      by-report
-      (λ w. absurd (w.no_memory (sym w.answer ∙ e)))
-      (λ f. absurd (let k = f.answer in let bad : ⊥ = cc in bad))
-      (λ m. (due, m.not_done, fronts m))
+  -- what they gained, where these are the files that are shown
+  module _ (words : List (String Global)) (folder : Option Files) (shown : AreShown words folder due files) where
+    whole-text : IsToldWhole status → IsTextWritten words folder status before after
+    whole-text h =
+        by-report
+        (λ w. subst (λ s. IsTextWritten words folder s before after) (sym w.answer) (files, shown, w.written))
+        (λ f. absurd (h.1 f.answer))
+        (λ m. absurd (h.0 m.answer))
+
+    cut-text : status ≡ DiagFault → IsTextCut words folder before after
+    cut-text e =
+        by-report
+        (λ w. absurd (subst (λ s. HasText files s w.written.0) (sym w.answer ∙ e) w.written.1))
+        (λ f. (due, files, shown, f.not_done, f.no_memory, f.written))
+        (λ m. absurd (let k = m.answer in let bad : ⊥ = cc in bad))
+
+    memory-text : status ≡ Memory → AreTextsCut words folder before after
+    memory-text e =
+        by-report
+        (λ w. absurd (w.no_memory (sym w.answer ∙ e)))
+        (λ f. absurd (let k = f.answer in let bad : ⊥ = cc in bad))
+        (λ m. (due, files, shown, m.not_done, fronts m))
+
+    pub diagnostics-told : AreDiagnosticsTold words folder status before after
+    diagnostics-told = record { counts = counts; done = done-text; text = whole-text; cut = cut-text; memory = memory-text }
 
   pub comes-from : (other : Status) → due ≡ other → ComesTo other status
   comes-from other e = subst (λ d. ComesTo d status) e comes
@@ -131,10 +160,3 @@ module _ (due status : Status) (before after : SinkTells) (r : Reports due statu
   -- a status other than those of failed reports was due
   pub due-is : (other : Status) → (other ≡ DiagFault → ⊥) → (other ≡ Memory → ⊥) → status ≡ other → due ≡ other
   due-is other diag memory e = was-due (λ k. diag (sym e ∙ k)) (λ k. memory (sym e ∙ k)) ∙ e
-
-  pub before-run-due : IsBeforeRun status → IsBeforeRun due
-  before-run-due h = subst IsBeforeRun (sym (was-due (λ k. subst IsBeforeRun k h) (λ k. subst IsBeforeRun k h))) h
-
-  pub end-comes : (o : Option Built) (E : Built → Outcome → Type 0) → IfSome o (λ b. (outcome : Outcome) → E b outcome → (due ≡ status_of outcome.end) ⊎ (due ≡ Memory)) → IfSome o (λ b. (outcome : Outcome) → E b outcome → ComesTo (status_of outcome.end) status)
-  end-comes None E h = tt
-  end-comes (Some b) E h = λ outcome means. come-or-memory (status_of outcome.end) (h outcome means)

@@ -16,27 +16,16 @@ use Rattle.bal_tree.specs.Reads.{Reads}
 use Rattle.bal_tree.specs.Spells.{kinds_of}
 use Rattle.parse_types.specs.Nesting.{first_too_deep}
 use Rattle.parse_types.specs.Starts.{refusal}
-use Rattle.bal_base.specs.declared.fault.FaultCode.TheVariants.{Depth, NoMain, NotBuilt}
+use Rattle.bal_base.specs.declared.fault.FaultCode.TheVariants.{Depth}
 use Rattle.bal_tree.specs.Spells.{first_place}
 use Rattle.parse_stmt.specs.Chosen.{IsChosen, IsSameFile}
 use Rattle.parse_stmt.specs.Starts.{IsBroken, IsFileTooDeep, IsNotRefused, IsRefused, IsWrong, begun_pieces, front_pieces}
-use Rattle.bal_run.specs.Source.{HasFault, HasNoTree, HasTokens, IsPlaced, IsText, LacksMain, NotText, NotTokens, ReadsAs, TooLong, fault_at, fault_of}
-use Rattle.bal_tree.specs.declared.def.Def.{Def}
-use Rattle.bal_tree.specs.declared.def.Def.TheVariants.{Function}
-use Rattle.bal_run.specs.Sums.{DefinePrints, HasMain, IsPublicMain, IsSumProgram}
-use Rattle.bal_run.specs.Work.{IsReading, IsTreeReading}
+use Rattle.bal_run.specs.Source.{HasNoTree, HasTokens, IsPlaced, IsText, NotText, NotTokens, ReadsAs, TooLong, fault_at}
+use Rattle.bal_run.specs.Mains.{HasMain}
+use Rattle.bal_run.specs.Work.{IsTreeReading}
 use Rattle.parse_stmt.proofs.OneTree.{chosen-one}
-use Rattle.bal_run.proofs.FileWritten.{main-in-both, sums-in-both}
+use Rattle.bal_run.proofs.FileWritten.{main-in-both}
 use Rattle.bal_run.proofs.TokenPlaces.{AreTokens, of-spans, behind-pieces, behind-some, first-placed}
-
--- ---- programs of sums have a public `main`
-
-main-first : (defs : List Def) → DefinePrints defs → Any IsPublicMain defs
-main-first (Function f ∷ []) h = (0, Function f, omega arith, refl, h.0)
-main-first defs h = absurd h
-
-sums-have-main : (tree : FileTree) → IsSumProgram tree → HasMain tree
-sums-have-main tree h = main-first tree.defs.items h.1
 
 -- ---- texts are read in one way
 
@@ -157,75 +146,12 @@ module _ (text : List ℕ) (t : IsText text) where
           tree_due = λ other h. let here = read-here other h in complete other here.0 here.1;
         }
 
--- ---- and then as a program
+-- ---- one file
 
 -- two chosen trees of a text are written out alike
 same-file : (text : List ℕ) (t u : FileTree) → ReadsAs text t → ReadsAs text u → IsSameFile t u
 same-file text t u h k = chosen-one 0 h.tokens t u h.reads (subst (λ l. Reads 0 l u) (lexes-same k.are.1 h.are.1) k.reads) h.chosen k.chosen
 
-module _ (text : List ℕ) where
-  stopped : (stop : Stop FaultOf) → IsTreeReading text (Err stop) → IsReading text (Err stop)
-  stopped Memory h = record { program = tt; fault = tt; placed = tt; fault_due = λ g due. tt; program_due = λ tree is. tt }
-  stopped (Fault f) h =
-      record {
-        program = tt;
-        fault = inl h.fault;
-        placed = h.placed;
-        fault_due = due;
-        program_due = λ tree is. h.tree_due tree is.0;
-      }
-    where
-      due : (g : FaultOf) → HasFault text g → f ≡ g
-      due g (inl none) = h.fault_due g none
-      due g (inr (inl (read, e))) = absurd (h.tree_due read.0 read.1)
-      due g (inr (inr (read, e))) = absurd (h.tree_due read.0 read.1)
-
-  -- the same where the answers are the same stop
-  pub stopped-so : (r q : Result FileTree (Stop FaultOf)) (stop : Stop FaultOf) → r ≡ Err stop → q ≡ Err stop → IsTreeReading text r → IsReading text q
-  stopped-so r q stop e k h = subst (IsReading text) (sym k) (stopped stop (subst (IsTreeReading text) e h))
-
-  module _ (tree : FileTree) (h : IsTreeReading text (Ok tree)) where
-    pub lacks-main : LacksMain tree → IsReading text (Err (Fault (fault_of NoMain)))
-    lacks-main lacks =
-        record {
-          program = tt;
-          fault = inr (inl ((tree, h.reads, lacks), refl));
-          placed = tt;
-          fault_due = due;
-          program_due = λ other is. lacks (main-in-both other tree (same-file text other tree is.0 h.reads) (sums-have-main other is.1));
-        }
-      where
-        due : (g : FaultOf) → HasFault text g → fault_of NoMain ≡ g
-        due g (inl none) = absurd (h.fault_due g none)
-        due g (inr (inl (read, e))) = sym e
-        due g (inr (inr (read, e))) = absurd (lacks (main-in-both read.0 tree (same-file text read.0 tree read.1 h.reads) read.2.0))
-
-    pub not-built : HasMain tree → (IsSumProgram tree → ⊥) → IsReading text (Err (Fault (fault_of NotBuilt)))
-    not-built main other =
-        record {
-          program = tt;
-          fault = inr (inr ((tree, h.reads, (main, other)), refl));
-          placed = tt;
-          fault_due = due;
-          program_due = λ u is. other (sums-in-both u tree (same-file text u tree is.0 h.reads) is.1);
-        }
-      where
-        due : (g : FaultOf) → HasFault text g → fault_of NotBuilt ≡ g
-        due g (inl none) = absurd (h.fault_due g none)
-        due g (inr (inl (read, e))) = absurd (read.2 (main-in-both tree read.0 (same-file text tree read.0 h.reads read.1) main))
-        due g (inr (inr (read, e))) = sym e
-
-    pub is-program : IsSumProgram tree → IsReading text (Ok tree)
-    is-program sums =
-        record {
-          program = (h.reads, sums);
-          fault = tt;
-          placed = tt;
-          fault_due = due;
-          program_due = λ other is. tt;
-        }
-      where
-        due : (g : FaultOf) → HasFault text g → ⊥
-        due g (inl none) = h.fault_due g none
-        due g (inr (inl (read, e))) = read.2 (main-in-both tree read.0 (same-file text tree read.0 h.reads read.1) (sums-have-main tree sums))
-        due g (inr (inr (read, e))) = read.2.1 (sums-in-both tree read.0 (same-file text tree read.0 h.reads read.1) sums)
+-- and so one has a public `main` where the other has one
+pub main-of-both : (text : List ℕ) (t u : FileTree) → ReadsAs text t → ReadsAs text u → HasMain t → HasMain u
+main-of-both text t u h k main = main-in-both t u (same-file text t u h k) main

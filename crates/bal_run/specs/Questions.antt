@@ -1,20 +1,17 @@
 -- The question whether one type is below another: what the folder has for it, and what comes of it.
-use Rattle.std.specs.Prelude.{◌≡◌, ◌⊎◌, ⊤, ℕ, List, [], ◌∷◌, All, IfSome, Option, Some, None, Result, Ok, Err, String, codes, chars, encode_utf8_all}
+use Rattle.std.specs.Prelude.{◌≡◌, ◌⊎◌, ⊤, ℕ, List, [], All, Option, Some, Result, Ok, Err, String, encode_utf8_all}
 use Rattle.std.specs.Global.{Global}
-use Rattle.bal_base.specs.declared.fault.Fault.{Fault as FaultOf}
 use Rattle.bal_base.specs.declared.fault.Refusal.{Refusal}
 use Rattle.bal_base.specs.declared.shape.Shape.{Shape}
 use Rattle.bal_base.specs.declared.stop.Stop.{Stop}
 use Rattle.bal_base.specs.declared.stop.Stop.TheVariants.{Memory, Fault}
 use Rattle.bal_io.specs.Content.{Told, Appends, AppendsFront}
-use Rattle.bal_run.specs.declared.compile.LoadFault.{LoadFault}
-use Rattle.bal_run.specs.declared.compile.LoadFault.TheVariants.{Folder, Source}
-use Rattle.bal_run.specs.Files.{Files, HasNoMain, MainHas, main_name}
-use Rattle.bal_run.specs.Source.{HasNoTree, ReadsAs, not_built, refusal_of}
-use Rattle.bal_run.specs.Sums.{IsOfIo}
-use Rattle.bal_tree.specs.declared.def.Import.{Import}
-use Rattle.bal_tree.specs.declared.def.FileTree.{FileTree}
-use Rattle.bal_tree.specs.declared.package.Module.{Module}
+use Rattle.bal_run.specs.declared.load.LoadFault.{LoadFault}
+use Rattle.bal_run.specs.declared.load.LoadFault.TheVariants.{Folder, Source}
+use Rattle.bal_run.specs.Files.{Files, MainHas}
+use Rattle.bal_run.specs.Packages.{ImportsIo, package_of}
+use Rattle.bal_run.specs.Readings.{IsMainSource, IsSource, IsUnread}
+use Rattle.bal_run.specs.Source.{not_built}
 use Rattle.bal_tree.specs.declared.package.Package.{Package}
 use Rattle.bal_tree.specs.declared.package.SourceFile.{SourceFile}
 use Rattle.package_questions.specs.PackageAnswers.{HasAnswer, IsRefusedWith, home_files}
@@ -27,27 +24,6 @@ use Rattle.type_questions.specs.Answers.{answer_text}
 -- the bytes of an answer, with the line end
 abbrev pub answer_bytes : Answer → List ℕ
 answer_bytes answer = encode_utf8_all (answer_text answer)
-
--- ---- the package: one module, of `main.bal` alone, or of no file
-
-abbrev pub files_of : Option SourceFile → List SourceFile
-files_of None = []
-files_of (Some file) = file ∷ []
-
-abbrev pub only_module : Option SourceFile → Module
-only_module file = record { name = codes "main"; imports = []; files = files_of file }
-
-abbrev pub package_of : Option SourceFile → Package
-package_of file = record { name = codes "main"; org = None; modules = only_module file ∷ []; main = 0 }
-
--- ---- its imports
-
--- of the module `ballerina/io`, under whatever prefix
-abbrev pub IsOnlyIo : Import → Type 0
-IsOnlyIo i = IsOfIo i × (i.more.items ≡ [])
-
-abbrev pub ImportsIo : SourceFile → Type 0
-ImportsIo file = All IsOnlyIo file.tree.imports.items
 
 -- ---- the question in a package
 
@@ -69,21 +45,6 @@ module _ (whole : Package) (s t : List ℕ) where
 
 -- ---- reading `main.bal`
 
--- these bytes read as this file, and so it has no fault that comes to no tree
-pub record IsMainSource (bytes : List ℕ) (file : SourceFile) : Type 0 where
-  pub named : file.name ≡ main_name
-  pub text : file.text ≡ chars bytes
-  pub reads : ReadsAs bytes file.tree
-  pub sound : (fault : FaultOf) → HasNoTree bytes fault → ⊥
-
--- these bytes come to no tree, and are refused for the one fault that they have
-pub record IsUnread (bytes : List ℕ) (r : Refusal) : Type 0 where
-  pub fault : FaultOf
-  pub has : HasNoTree bytes fault
-  pub only : (other : FaultOf) → HasNoTree bytes other → other ≡ fault
-  pub no_tree : (tree : FileTree) → ReadsAs bytes tree → ⊥
-  pub is : r ≡ refusal_of bytes fault
-
 -- what comes of a file with these bytes
 abbrev pub AnswersBytes : List ℕ → List ℕ → List ℕ → Result (String Global) (Stop Refusal) → Type 0
 AnswersBytes bytes s t (Ok text) = (file : SourceFile) × IsMainSource bytes file × AnswersPackage (package_of (Some file)) s t (Ok text)
@@ -92,11 +53,6 @@ AnswersBytes bytes s t (Err (Fault r)) =
 AnswersBytes bytes s t (Err Memory) = ⊤
 
 -- ---- the folder, as far as it tells its files
-
--- the package's one file is the folder's `main.bal`, or there is none
-abbrev pub IsSource : Option Files → Option SourceFile → Type 0
-IsSource files None = IfSome files HasNoMain
-IsSource files (Some file) = (bytes : List ℕ) × MainHas files bytes × IsMainSource bytes file
 
 module _ (files : Option Files) (s t : List ℕ) where
   -- the question comes to this answer

@@ -6,12 +6,14 @@ use Rattle.bal_io.specs.Faults.{Rises}
 use Rattle.bal_base.specs.declared.fault.Refusal.{Refusal}
 use Rattle.bal_run.specs.declared.status.Status.{Status}
 use Rattle.bal_run.specs.declared.status.Status.TheVariants.{Done, ErrorReturned, Panicked, Refused, GoesOn, Stalled, FolderFault, InputFault, OutFault, Memory, Words, Limit, DiagFault}
-use Rattle.bal_run.specs.Due.{SinkTells}
+use Rattle.bal_tree.specs.declared.package.SourceFile.{SourceFile}
+use Rattle.bal_run.specs.Outside.{SinkTells}
 use Rattle.bal_run.specs.Status.{HasText}
 
 -- the status has a text
 abbrev pub CanReport : Status → Type 0
-CanReport status = (text : List ℕ) × HasText status text
+CanReport DiagFault = ⊥
+CanReport _ = ⊤
 
 -- the statuses that say the same each time
 abbrev pub HasFixedText : Status → Type 0
@@ -22,58 +24,76 @@ HasFixedText (Refused r) = ⊥
 HasFixedText (GoesOn n) = ⊥
 HasFixedText (Stalled r) = ⊥
 HasFixedText FolderFault = ⊤
-HasFixedText InputFault = ⊥
+HasFixedText InputFault = ⊤
 HasFixedText OutFault = ⊤
 HasFixedText Memory = ⊤
 HasFixedText Words = ⊤
-HasFixedText (Limit k) = ⊥
+HasFixedText (Limit k) = ⊤
 HasFixedText DiagFault = ⊥
+
+-- the statuses that say what came
+abbrev pub HasMadeText : Status → Type 0
+HasMadeText Done = ⊥
+HasMadeText (ErrorReturned m) = ⊤
+HasMadeText (Panicked m) = ⊤
+HasMadeText (Refused r) = ⊤
+HasMadeText (GoesOn n) = ⊤
+HasMadeText (Stalled r) = ⊤
+HasMadeText FolderFault = ⊥
+HasMadeText InputFault = ⊥
+HasMadeText OutFault = ⊥
+HasMadeText Memory = ⊥
+HasMadeText Words = ⊥
+HasMadeText (Limit k) = ⊥
+HasMadeText DiagFault = ⊥
 
 -- some first part of the one text, and then some first part of the other were appended
 abbrev pub AppendsFronts : List ℕ → List ℕ → List ℕ → List ℕ → Type 0
 AppendsFronts text other old new =
     (first : List ℕ) × (second : List ℕ) × IsPrefixOf first text × IsPrefixOf second other × (new ≡ old ++ (first ++ second))
 
--- the whole text of the status was written
-abbrev pub WroteText : Status → Option (List ℕ) → Option (List ℕ) → Type 0
-WroteText status before after = (text : List ℕ) × HasText status text × Told (Appends text) before after
+-- the files in which the events are found that a text shows
+module _ (files : List SourceFile) where
+  -- the whole text of the status was written
+  abbrev pub WroteText : Status → Option (List ℕ) → Option (List ℕ) → Type 0
+  WroteText status before after = (text : List ℕ) × HasText files status text × Told (Appends text) before after
 
--- some first part of the text of the status was written
-abbrev pub WroteFrontOfText : Status → Option (List ℕ) → Option (List ℕ) → Type 0
-WroteFrontOfText status before after = (text : List ℕ) × HasText status text × Told (AppendsFront text) before after
+  -- some first part of the text of the status was written
+  abbrev pub WroteFrontOfText : Status → Option (List ℕ) → Option (List ℕ) → Type 0
+  WroteFrontOfText status before after = (text : List ℕ) × HasText files status text × Told (AppendsFront text) before after
 
--- some first part of the text of the status was written, and then some first part of that of want of memory
-abbrev pub WroteFrontsOfTexts : Status → Option (List ℕ) → Option (List ℕ) → Type 0
-WroteFrontsOfTexts status before after =
-    (text : List ℕ) × (other : List ℕ) × HasText status text × HasText Memory other × Told (AppendsFronts text other) before after
+  -- some first part of the text of the status was written, and then some first part of that of want of memory
+  abbrev pub WroteFrontsOfTexts : Status → Option (List ℕ) → Option (List ℕ) → Type 0
+  WroteFrontsOfTexts status before after =
+      (text : List ℕ) × (other : List ℕ) × HasText files status text × HasText files Memory other × Told (AppendsFronts text other) before after
 
--- the text was written, and the due status is the answer
-pub record ReportedWhole (due status : Status) (before after : SinkTells) : Type 0 where
-  pub answer : status ≡ due
-  pub no_memory : due ≢ Memory
-  pub faults : after.faults ≡ before.faults
-  pub written : WroteText due before.written after.written
+  -- the text was written, and the due status is the answer
+  pub record ReportedWhole (due status : Status) (before after : SinkTells) : Type 0 where
+    pub answer : status ≡ due
+    pub no_memory : due ≢ Memory
+    pub faults : after.faults ≡ before.faults
+    pub written : WroteText due before.written after.written
 
--- the diagnostics failed in the text; that of want of memory makes no difference, and a program that is done has none
-pub record ReportFailed (due status : Status) (before after : SinkTells) : Type 0 where
-  pub answer : status ≡ DiagFault
-  pub no_memory : due ≢ Memory
-  pub not_done : due ≢ Done
-  pub faults : Rises before.faults after.faults
-  pub written : WroteFrontOfText due before.written after.written
+  -- the diagnostics failed in the text; that of want of memory makes no difference, and a program that is done has none
+  pub record ReportFailed (due status : Status) (before after : SinkTells) : Type 0 where
+    pub answer : status ≡ DiagFault
+    pub no_memory : due ≢ Memory
+    pub not_done : due ≢ Done
+    pub faults : Rises before.faults after.faults
+    pub written : WroteFrontOfText due before.written after.written
 
--- memory ran out, before the text or in it, which was told as far as the diagnostics took it
-pub record ReportedMemory (due status : Status) (before after : SinkTells) : Type 0 where
-  pub answer : status ≡ Memory
-  pub not_done : due ≢ Done
-  pub faults : (after.faults ≡ before.faults) ⊎ Rises before.faults after.faults
-  pub written :
-      ((due ≡ Memory) × WroteFrontOfText Memory before.written after.written)
-      ⊎ ((due ≢ Memory) × WroteFrontsOfTexts due before.written after.written)
+  -- memory ran out, before the text or in it, which was told as far as the diagnostics took it
+  pub record ReportedMemory (due status : Status) (before after : SinkTells) : Type 0 where
+    pub answer : status ≡ Memory
+    pub not_done : due ≢ Done
+    pub faults : (after.faults ≡ before.faults) ⊎ Rises before.faults after.faults
+    pub written :
+        ((due ≡ Memory) × WroteFrontOfText Memory before.written after.written)
+        ⊎ ((due ≢ Memory) × WroteFrontsOfTexts due before.written after.written)
 
-abbrev pub Reports : Status → Status → SinkTells → SinkTells → Type 0
-Reports due status before after =
-    ReportedWhole due status before after ⊎ (ReportFailed due status before after ⊎ ReportedMemory due status before after)
+  abbrev pub Reports : Status → Status → SinkTells → SinkTells → Type 0
+  Reports due status before after =
+      ReportedWhole due status before after ⊎ (ReportFailed due status before after ⊎ ReportedMemory due status before after)
 
 -- ---- single facts of it
 
@@ -105,12 +125,3 @@ CountsDiagFaults (Limit k) old new = new ≡ old
 -- the statuses whose text is always told whole
 abbrev pub IsToldWhole : Status → Type 0
 IsToldWhole status = (status ≢ Memory) × (status ≢ DiagFault)
-
--- the status of whose text some first part was written, which is neither want of memory nor that of a program that is done
-abbrev pub WroteFrontOfSomeText : Option (List ℕ) → Option (List ℕ) → Type 0
-WroteFrontOfSomeText before after =
-    (due : Status) × (due ≢ Done) × (due ≢ Memory) × WroteFrontOfText due before after
-
--- memory ran out: some first part of the text of a status, and then some first part of that of want of memory
-abbrev pub WroteFrontsOfSomeTexts : Option (List ℕ) → Option (List ℕ) → Type 0
-WroteFrontsOfSomeTexts before after = (due : Status) × (due ≢ Done) × WroteFrontsOfTexts due before after

@@ -17,7 +17,6 @@ use Rattle.bal_tree.specs.Spells.{kinds_of}
 use Rattle.parse_types.specs.Nesting.{first_too_deep}
 use Rattle.parse_stmt.specs.Chosen.{IsChosen}
 use Rattle.parse_stmt.specs.Starts.{IsBroken, IsFileTooDeep}
-use Rattle.bal_run.specs.Sums.{HasMain, IsSumProgram}
 
 -- ---- what the bytes are
 
@@ -76,25 +75,6 @@ abbrev pub HasNoTree : List ℕ → Fault → Type 0
 HasNoTree bytes fault =
     TooLong bytes fault ⊎ (NotText bytes fault ⊎ (NotTokens bytes fault ⊎ (TooDeep bytes fault ⊎ Broken bytes fault)))
 
-abbrev pub LacksMain : FileTree → Type 0
-LacksMain tree = ¬ (HasMain tree)
-
--- a public function `main` is there, and the program is none of sums
-abbrev pub IsNotBuilt : FileTree → Type 0
-IsNotBuilt tree = HasMain tree × (¬ (IsSumProgram tree))
-
--- the file has this fault; 209 and 199 have no place
-abbrev pub HasFault : List ℕ → Fault → Type 0
-HasFault bytes fault =
-    HasNoTree bytes fault
-    ⊎ ((ReadsWith bytes LacksMain × (fault ≡ fault_of NoMain)) ⊎ (ReadsWith bytes IsNotBuilt × (fault ≡ fault_of NotBuilt)))
-
--- ---- programs
-
--- the bytes read as this tree, which is that of a program of sums
-abbrev pub IsProgram : List ℕ → FileTree → Type 0
-IsProgram bytes tree = ReadsAs bytes tree × IsSumProgram tree
-
 -- ---- faults with their places as people read them
 
 abbrev pub told_at : List ℕ → Fault → Option Place → Refusal
@@ -111,11 +91,11 @@ told_at bytes fault None = record { fault = fault; file = []; line = 0; column =
 abbrev pub refusal_of : List ℕ → Fault → Refusal
 refusal_of bytes fault = told_at bytes fault fault.at
 
--- there is no file `main.bal`
+-- there is no file `main.bal`, or no public function `main` in it
 abbrev pub no_main : Refusal
 no_main = refusal_of [] (fault_of NoMain)
 
--- a form stands there that the compiler can't compile yet: it has no place
+-- something else than `ballerina/io` is imported: it has no place
 abbrev pub not_built : Refusal
 not_built = refusal_of [] (fault_of NotBuilt)
 

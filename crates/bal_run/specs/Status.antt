@@ -1,6 +1,9 @@
 -- The numbers and the texts of the statuses.
-use Rattle.std.specs.Prelude.{◌≡◌, ◌++◌, ℕ, List, [], ◌∷◌, codes, encode_utf8_all}
+use Rattle.std.specs.Prelude.{◌≡◌, ◌++◌, ℕ, List, [], ◌∷◌, codes, decimal, encode_utf8_all}
+use Rattle.std.specs.List.{join_by}
+use Rattle.bal_base.specs.declared.fault.LimitKind.TheVariants.{Cells, Strands}
 use Rattle.bal_report.specs.RefusalText.{refusal_text}
+use Rattle.bal_tree.specs.declared.package.SourceFile.{SourceFile}
 use Rattle.bal_run.specs.declared.status.Status.{Status}
 use Rattle.bal_run.specs.declared.status.Status.TheVariants.{Done, ErrorReturned, Panicked, Refused, GoesOn, Stalled, FolderFault, InputFault, OutFault, Memory, Words, Limit, DiagFault}
 
@@ -21,19 +24,30 @@ exit_status DiagFault = 12
 
 -- ---- texts
 
--- the text for the diagnostics of a status that comes so far, with its line end; a program that is done says nothing, and no
--- refusal that comes so far shows events of workers, which would be found in the files
-abbrev pub HasText : Status → List ℕ → Type 0
-HasText Done text = text ≡ []
-HasText (ErrorReturned m) text = ⊥
-HasText (Panicked m) text = text ≡ codes "panic: " ++ (encode_utf8_all m ++ 10 ∷ [])
-HasText (Refused r) text = text ≡ encode_utf8_all (refusal_text [] r)
-HasText (GoesOn n) text = ⊥
-HasText (Stalled r) text = ⊥
-HasText FolderFault text = text ≡ codes "cannot read the folder\n"
-HasText InputFault text = ⊥
-HasText OutFault text = text ≡ codes "cannot write the output\n"
-HasText Memory text = text ≡ codes "out of memory\n"
-HasText Words text = text ≡ codes "usage: bal_run DIR [WORDS] [--mode run|check|pairs|code|subtype|make] [--ticks N] [--seed N]\n"
-HasText (Limit k) text = ⊥
-HasText DiagFault text = ⊥
+-- the numbers of strands, each behind the one before
+abbrev pub ring_text : List ℕ → List ℕ
+ring_text ring = join_by decimal (codes " -> ") ring
+
+abbrev pub stalled_text : List ℕ → List ℕ
+stalled_text ring = codes "stalled: " ++ ring_text ring ++ codes "\n"
+
+abbrev pub goes_on_text : ℕ → List ℕ
+goes_on_text ticks = codes "goes on after " ++ decimal ticks ++ codes " ticks\n"
+
+-- the text for the diagnostics of a status, with its line end; a program that is done says nothing, and failed diagnostics have none.
+-- The files are those in which the events of workers are found that a refusal shows.
+abbrev pub HasText : List SourceFile → Status → List ℕ → Type 0
+HasText files Done text = text ≡ []
+HasText files (ErrorReturned m) text = text ≡ codes "error: " ++ (encode_utf8_all m ++ 10 ∷ [])
+HasText files (Panicked m) text = text ≡ codes "panic: " ++ (encode_utf8_all m ++ 10 ∷ [])
+HasText files (Refused r) text = text ≡ encode_utf8_all (refusal_text files r)
+HasText files (GoesOn n) text = text ≡ encode_utf8_all (goes_on_text n)
+HasText files (Stalled ring) text = text ≡ encode_utf8_all (stalled_text ring)
+HasText files FolderFault text = text ≡ codes "cannot read the folder\n"
+HasText files InputFault text = text ≡ codes "cannot read the input\n"
+HasText files OutFault text = text ≡ codes "cannot write the output\n"
+HasText files Memory text = text ≡ codes "out of memory\n"
+HasText files Words text = text ≡ codes "usage: bal_run DIR [WORDS] [--mode run|check|pairs|code|subtype|make] [--ticks N] [--seed N]\n"
+HasText files (Limit Cells) text = text ≡ codes "limit: heap cells\n"
+HasText files (Limit Strands) text = text ≡ codes "limit: strands\n"
+HasText files DiagFault text = ⊥

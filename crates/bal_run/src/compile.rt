@@ -1,153 +1,175 @@
-//! Compiling: from the folder's files to code.
-ghost use Rattle.std.specs.Prelude.{◌≡◌, ◌↔◌, IfOk, IfSome, IsTrue};
-ghost use Rattle.bal_io.specs.Content.{CanOpen};
-ghost use Rattle.bal_io.specs.Faults.{CountsFaults};
-ghost use Rattle.bal_run.specs.Files.{CountsFolderFaults, Compiled, IsBuiltFrom, IsFrontOfMain, IsSearched, main_name};
-ghost use Rattle.bal_run.specs.Source.{IsPlaced, IsText, refusal_of};
-ghost use Rattle.bal_run.specs.Work.{HasNoFile, IsOfSource, IsStopOf};
+//! Compiling: from the folder's `main.bal` to a package that the front accepts, with the types over which it was checked.
+ghost use Rattle.std.specs.Prelude.{◌≡◌, IfOk, Ok, Some, chars};
+ghost use Rattle.bal_run.specs.Compiling.{ComesOfPackage, CountsCompileFaults, IsOfSource, IsStopRefused, IsStopShown, IsStopUnread};
+ghost use Rattle.bal_run.specs.Files.{main_name};
+ghost use Rattle.bal_run.specs.Packages.{package_of as package_with};
+ghost use Rattle.bal_run.specs.Programs.{Compiled, IsProgramOf};
+ghost use Rattle.bal_run.specs.Source.{IsText, no_main};
+ghost use Rattle.bal_run.specs.Work.{IsTreeReading};
 
-use crate::form::is_word;
-use crate::lower::lower;
-use crate::source::{program_of, text_of, unplaced};
+use crate::load::{main_front, refusal, refusal_within};
+use crate::main_function::has_main;
+use crate::package::{all_import_io, package_of, source_file};
+use crate::source::{text_of, tree_of, unplaced};
 use crate::status::Built;
-use bal_base::{
-    Failed, Fault, FaultCode, MOST_FILE_BYTES, Memory, Name, Refusal, Stop, line_column,
-};
+use bal_base::{Failed, Fault, FaultCode, Memory, Refusal, Stop};
 use bal_io::Folder;
+use bal_tree::{FileTree, Package};
+use compile_front::{Answered, accept};
+use package_questions::home_files;
 use std::alloc::Global;
+use subtype_decider::Decider;
+
+/// A package that was accepted, and the types over which it was checked.
+#[derive(Drop)]
+pub struct Ready {
+    pub types: Decider,
+    pub built: Built,
+}
+
+/// Why a program is refused, and its package where that came to be looked at: the events that a refusal shows are found in its files.
+#[derive(Drop)]
+pub struct Refusing {
+    pub refusal: Refusal,
+    pub source: Option<Package>,
+}
 
 /// Why a folder does not compile.
 #[derive(Drop)]
-pub enum LoadFault {
+pub enum CompileFault {
     /// The folder could not be read.
     Folder,
     /// The program is refused.
-    Source(Refusal),
+    Source(Refusing),
 }
 
-/// The program of the folder's first file that is named `main.bal`.
-pub fn compile<F: Folder>(alloc: Global, folder: &mut F) -> Result<Built, Stop<LoadFault>>
-    ensures faults { CountsFolderFaults (F.faults folder.old) (F.faults folder.new) result }
+/// The program of the folder's first file that is named `main.bal`, accepted.
+pub fn compile<F: Folder>(alloc: Global, folder: &mut F) -> Result<Ready, Stop<CompileFault>>
+    ensures faults { CountsCompileFaults (F.faults folder.old) (F.faults folder.new) result }
     ensures compiled { Compiled (F.files folder.old) result }
 {
     match main_front(alloc, folder) {
         Ok(Some(bytes)) => of_source(program(alloc, bytes.as_slice())),
-        Ok(None) => no_file(alloc),
+        Ok(None) => of_source(Err(unread(no_main(alloc)))),
         Err(Stop::Memory) => Err(Stop::Memory),
-        Err(Stop::Fault(Failed)) => Err(Stop::Fault(LoadFault::Folder)),
+        Err(Stop::Fault(Failed)) => Err(Stop::Fault(CompileFault::Folder)),
     }
 }
 
 /// The answer for a folder by that for its source.
-fn of_source(built: Result<Built, Stop<Refusal>>) -> Result<Built, Stop<LoadFault>>
-    ensures { IsOfSource built result }
+fn of_source(ready: Result<Ready, Stop<Refusing>>) -> Result<Ready, Stop<CompileFault>>
+    ensures { IsOfSource ready result }
 {
-    match built {
-        Ok(built) => Ok(built),
+    match ready {
+        Ok(ready) => Ok(ready),
         Err(Stop::Memory) => Err(Stop::Memory),
-        Err(Stop::Fault(refusal)) => Err(Stop::Fault(LoadFault::Source(refusal))),
+        Err(Stop::Fault(refusing)) => Err(Stop::Fault(CompileFault::Source(refusing))),
     }
 }
 
-/// The answer for a folder that has no file `main.bal`.
-fn no_file(alloc: Global) -> Result<Built, Stop<LoadFault>>
-    ensures { HasNoFile result }
+/// The refusal of a program without a public function `main`.
+fn no_main(alloc: Global) -> Result<Refusal, Memory>
+    ensures { IfOk result (λ r. r ≡ no_main) }
 {
-    match refusal(alloc, "", unplaced(FaultCode::NoMain)) {
-        Ok(refusal) => Err(Stop::Fault(LoadFault::Source(refusal))),
-        Err(Memory) => Err(Stop::Memory),
-    }
+    refusal(alloc, "", unplaced(FaultCode::NoMain))
 }
 
 /// The program of a file with these bytes, which may be one more than a file may have.
-fn program(alloc: Global, bytes: &[u8]) -> Result<Built, Stop<Refusal>>
-    ensures { IsBuiltFrom bytes.now result }
+fn program(alloc: Global, bytes: &[u8]) -> Result<Ready, Stop<Refusing>>
+    ensures { IsProgramOf bytes.now result }
 {
     match text_of(bytes) {
-        Ok(text) => built_of(alloc, text),
-        Err(fault) => Err(stop(refusal(alloc, "", fault))),
+        Ok(text) => text_program(alloc, text),
+        Err(fault) => Err(unread(refusal(alloc, "", fault))),
     }
 }
 
 /// The program of a file with this text.
-fn built_of(alloc: Global, text: &str) -> Result<Built, Stop<Refusal>>
+fn text_program(alloc: Global, text: &str) -> Result<Ready, Stop<Refusing>>
     requires { IsText text.now }
-    ensures { IsBuiltFrom text.now result }
+    ensures { IsProgramOf text.now result }
 {
-    match program_of(alloc, text) {
-        Ok(tree) => {
-            let code = lower(alloc, &tree)?;
-            Ok(Built { tree, code })
-        }
+    match tree_of(alloc, text) {
+        Ok(tree) => tree_program(alloc, text, tree),
         Err(Stop::Memory) => Err(Stop::Memory),
-        Err(Stop::Fault(fault)) => Err(stop(refusal(alloc, text, fault))),
+        Err(Stop::Fault(fault)) => Err(unread(refusal(alloc, text, fault))),
     }
 }
 
-/// A fault of `main.bal` with its place as people read it: the text is that of the file, at least up to the place.
-pub fn refusal(alloc: Global, text: &str, fault: Fault) -> Result<Refusal, Memory>
-    requires { IsPlaced text.now fault }
-    ensures { IfOk result (λ r. r ≡ refusal_of text.now fault) }
+/// The program of a file with this text and this tree.
+fn tree_program(alloc: Global, text: &str, tree: FileTree) -> Result<Ready, Stop<Refusing>>
+    requires { IsTreeReading text.now (Ok tree) }
+    ensures { IsProgramOf text.now result }
 {
-    match fault.at {
-        Some(place) => {
-            let (line, column) = line_column(text, place.at);
-            let file = Name::new(alloc, "main.bal")?;
-            Ok(Refusal {
-                fault,
-                file,
-                line,
-                column,
-            })
-        }
-        None => Ok(Refusal {
-            fault,
-            file: Name::new(alloc, "")?,
-            line: 0,
-            column: 0,
-        }),
+    if !has_main(&tree) {
+        return Err(unread(no_main(alloc)));
+    }
+    match source_package(alloc, text, tree) {
+        Ok(source) => package_program(alloc, text, source),
+        Err(Memory) => Err(Stop::Memory),
     }
 }
 
-/// The stop by a refusal, if there was memory for it.
-pub fn stop(refusal: Result<Refusal, Memory>) -> Stop<Refusal>
-    ensures { IsStopOf refusal result }
+/// The package of a file with this text and this tree.
+fn source_package(alloc: Global, text: &str, tree: FileTree) -> Result<Package, Memory>
+    ensures { IfOk result (λ p. p ≡ package_with (Some (record { name = main_name; text = chars text.now; tree = tree }))) }
+{
+    let file = source_file(alloc, text, tree)?;
+    package_of(alloc, Some(file))
+}
+
+/// The program of this package, whose one file has the text and a public function `main`.
+fn package_program(alloc: Global, text: &str, source: Package) -> Result<Ready, Stop<Refusing>>
+    ensures { ComesOfPackage text.now source result }
+{
+    if !all_import_io(home_files(&source)) {
+        return Err(unread(refusal(alloc, "", unplaced(FaultCode::NotBuilt))));
+    }
+    let Answered { types, answer } = accept(alloc, Decider::new(alloc), &source);
+    match answer {
+        Ok(accepted) => Ok(Ready {
+            types,
+            built: Built {
+                source,
+                typed: accepted.package,
+            },
+        }),
+        Err(stop) => Err(refused(alloc, text, stop, source)),
+    }
+}
+
+/// The stop by a fault of the front in this package, whose one file has the text.
+fn refused(alloc: Global, text: &str, stop: Stop<Fault>, source: Package) -> Stop<Refusing>
+    ensures { IsStopRefused text.now source stop result }
+{
+    match stop {
+        Stop::Memory => Stop::Memory,
+        Stop::Fault(fault) => shown(refusal_within(alloc, text, fault), source),
+    }
+}
+
+/// The stop by a refusal that shows nothing of a package, if there was memory for it.
+fn unread(refusal: Result<Refusal, Memory>) -> Stop<Refusing>
+    ensures { IsStopUnread refusal result }
 {
     match refusal {
-        Ok(refusal) => Stop::Fault(refusal),
+        Ok(refusal) => Stop::Fault(Refusing {
+            refusal,
+            source: None,
+        }),
         Err(Memory) => Stop::Memory,
     }
 }
 
-/// The bytes of the first file that is named `main.bal`, as far as one byte more than a file may have.
-pub fn main_front<F: Folder>(alloc: Global, folder: &mut F) -> Result<Option<Vec<u8>>, Stop<Failed>>
-    ensures faults { CountsFaults (F.faults folder.old) (F.faults folder.new) result }
-    ensures front { IfOk result (λ front. IfSome (F.files folder.old) (λ files. IsFrontOfMain files front)) }
+/// The stop by a refusal of this package, if there was memory for it.
+fn shown(refusal: Result<Refusal, Memory>, source: Package) -> Stop<Refusing>
+    ensures { IsStopShown refusal source result }
 {
-    match find_main(alloc, folder)? {
-        Some(main) => Ok(Some(folder.read(alloc, main, MOST_FILE_BYTES as u64)?)),
-        None => Ok(None),
+    match refusal {
+        Ok(refusal) => Stop::Fault(Refusing {
+            refusal,
+            source: Some(source),
+        }),
+        Err(Memory) => Stop::Memory,
     }
-}
-
-/// The number of the first file that is named `main.bal`.
-fn find_main<F: Folder>(alloc: Global, folder: &mut F) -> Result<Option<u32>, Stop<Failed>>
-    ensures faults { CountsFaults (F.faults folder.old) (F.faults folder.new) result }
-    ensures unchanged { F.files folder.new ≡ F.files folder.old }
-    ensures found { IfOk result (λ main. IfSome (F.files folder.old) (λ files. IsSearched files main)) }
-    ensures there { IfOk result (λ main. IfSome main (CanOpen (F.files folder.old))) }
-{
-    for i in 0..folder.count(alloc)? {
-        let name = folder.name(alloc, i)?;
-        if is_main(&name) {
-            return Ok(Some(i));
-        }
-    }
-    Ok(None)
-}
-
-fn is_main(name: &Name) -> bool
-    ensures { IsTrue result ↔ (name.now ≡ main_name) }
-{
-    is_word(name, "main.bal")
 }

@@ -1,17 +1,18 @@
 //! The question whether one type is below another: from the folder's file and two words to the text of the answer.
-ghost use Rattle.std.specs.Prelude.{◌≡◌, ◌≤◌, ◌↔◌, [], All, IfOk, IfSome, IsTrue, MatchOption, length, chars};
-ghost use Rattle.bal_run.specs.Files.{CountsFolderFaults, HasNoMain, main_name};
-ghost use Rattle.bal_run.specs.Questions.{Answers, AnswersBytes, AnswersPackage, ImportsIo, IsLoaded, IsOnlyIo, package_of as package_with, files_of, only_module};
+ghost use Rattle.std.specs.Prelude.{◌≤◌, length, chars};
+ghost use Rattle.bal_run.specs.Files.{CountsFolderFaults, main_name};
+ghost use Rattle.bal_run.specs.Packages.{package_of as package_with};
+ghost use Rattle.bal_run.specs.Questions.{Answers, AnswersBytes, AnswersPackage, IsLoaded};
 ghost use Rattle.bal_run.specs.Source.{IsText};
 ghost use Rattle.bal_run.specs.declared.words.TheConstants.{MOST_WORD_BYTES};
 ghost use Rattle.package_questions.specs.PackageAnswers.{home_files as files_at_home};
 
-use crate::compile::{LoadFault, main_front, refusal, stop};
-use crate::form::is_of_io;
+use crate::load::{LoadFault, main_front, refusal, stop};
+use crate::package::{all_import_io, package_of, source_file};
 use crate::source::{text_of, tree_of, unplaced};
-use bal_base::{Failed, FaultCode, Memory, Name, Numbers, Refusal, Stop, Text};
+use bal_base::{Failed, FaultCode, Memory, Refusal, Stop};
 use bal_io::Folder;
-use bal_tree::{FileTree, Files, Import, Module, Modules, Package, SourceFile};
+use bal_tree::{FileTree, Package, SourceFile};
 use package_questions::{answer_for, home_files};
 use std::alloc::Global;
 use subtype_decider::Decider;
@@ -92,15 +93,6 @@ fn tree_answer(
     }
 }
 
-/// The file `main.bal` with this text and this tree.
-fn source_file(alloc: Global, text: &str, tree: FileTree) -> Result<SourceFile, Memory>
-    ensures { IfOk result (λ file. file ≡ record { name = main_name; text = chars text.now; tree = tree }) }
-{
-    let name = Name::new(alloc, "main.bal")?;
-    let text = Text::new(alloc, text)?;
-    Ok(SourceFile { name, text, tree })
-}
-
 /// The same in the package of this file, or of none.
 fn file_answer(
     alloc: Global,
@@ -116,42 +108,6 @@ fn file_answer(
         Ok(package) => package_answer(alloc, &package, s, t),
         Err(Memory) => Err(Stop::Memory),
     }
-}
-
-/// The package of this file, or of none.
-fn package_of(alloc: Global, file: Option<SourceFile>) -> Result<Package, Memory>
-    ensures { IfOk result (λ p. p ≡ package_with file) }
-{
-    let home = home_of(alloc, file)?;
-    Ok(Package {
-        name: Name::new(alloc, "main")?,
-        org: None,
-        modules: Modules::of(vec![in alloc; home]?),
-        main: 0,
-    })
-}
-
-/// Its one module.
-fn home_of(alloc: Global, file: Option<SourceFile>) -> Result<Module, Memory>
-    ensures { IfOk result (λ m. m ≡ only_module file) }
-{
-    let files = files_with(alloc, file)?;
-    Ok(Module {
-        name: Name::new(alloc, "main")?,
-        imports: Numbers::of(Vec::new(alloc)),
-        files,
-    })
-}
-
-/// This file alone, or none.
-fn files_with(alloc: Global, file: Option<SourceFile>) -> Result<Files, Memory>
-    ensures { IfOk result (λ files. files ≡ files_of file) }
-{
-    let mut files = Vec::new(alloc);
-    if let Some(file) = file {
-        files.push(file)?;
-    }
-    Ok(Files::of(files))
 }
 
 /// The same in this package.
@@ -171,23 +127,4 @@ fn package_answer(
     }
     let mut types = Decider::new(alloc);
     answer_for(alloc, &mut types, package, s, t)
-}
-
-/// Whether the files import nothing but `ballerina/io`.
-fn all_import_io(files: &[SourceFile]) -> bool
-    ensures { IsTrue result ↔ All ImportsIo files.now }
-{
-    files.iter().all(|file| imports_io(file))
-}
-
-fn imports_io(file: &SourceFile) -> bool
-    ensures { IsTrue result ↔ ImportsIo file.now }
-{
-    file.tree.imports.iter().all(|import| is_only_io(import))
-}
-
-fn is_only_io(import: &Import) -> bool
-    ensures { IsTrue result ↔ IsOnlyIo import.now }
-{
-    is_of_io(import) && import.more.is_empty()
 }

@@ -1,9 +1,8 @@
-//! A source file: the tree of a program of sums, or the fault for which the file is refused.
+//! A source file: its tree, or the fault for which the file is refused.
 ghost use Rattle.std.specs.Prelude.{◌≡◌, ◌⊎◌, IfOk, IfErr};
 ghost use Rattle.bal_run.specs.Source.{IsText, NotText, TooLong, fault_at, fault_of};
-ghost use Rattle.bal_run.specs.Work.{IsReading, IsTreeReading};
+ghost use Rattle.bal_run.specs.Work.{IsTreeReading};
 
-use crate::form::{has_main, is_sum_program};
 use bal_base::{Fault, FaultCode, Kept, MOST_FILE_BYTES, Place, Stop};
 use bal_lexer::lex;
 use bal_tree::FileTree;
@@ -28,22 +27,6 @@ pub fn text_of(bytes: &[u8]) -> Result<&str, Fault>
         Ok(text) => Ok(text),
         Err(_) => Err(at_start(FaultCode::NotUtf8)),
     }
-}
-
-/// The tree of the program of sums that this text is. `NoMain` is answered where the file has no public function
-/// `main`, and `NotBuilt` where it has one and is no program of sums.
-pub fn program_of(alloc: Global, text: &str) -> Result<FileTree, Stop<Fault>>
-    requires { IsText text.now }
-    ensures { IsReading text.now result }
-{
-    let tree = tree_of(alloc, text)?;
-    if !has_main(&tree) {
-        return Err(Stop::Fault(unplaced(FaultCode::NoMain)));
-    }
-    if !is_sum_program(&tree) {
-        return Err(Stop::Fault(unplaced(FaultCode::NotBuilt)));
-    }
-    Ok(tree)
 }
 
 /// The tree of this text, or the fault of `lex` or of `parse_file`.

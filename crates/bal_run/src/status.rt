@@ -3,8 +3,8 @@ ghost use Rattle.std.specs.Prelude.{◌≡◌};
 ghost use Rattle.bal_run.specs.Status.{exit_status};
 
 use bal_base::{LimitKind, Refusal, Ring, Text};
-use bal_tree::FileTree;
-use sum_code::Code;
+use bal_tree::Package;
+use typed_tree::TypedPackage;
 
 /// What a call of the top came to.
 #[derive(Drop)]
@@ -13,25 +13,25 @@ pub struct Run {
     pub status: Status,
     /// What was compiled, if compiling succeeded.
     pub built: Option<Built>,
-    /// How often a strand was picked to run, modulo 2 to the power 64.
+    /// How often a strand was picked to run, modulo 2 to the power 64, and 0 where no run came to an outcome.
     pub turns: u64,
-    /// How many steps the code made, modulo 2 to the power 64, and 0 where no code ran.
-    pub steps: u64,
+    /// How many ticks were spent, and 0 where no run came to an outcome.
+    pub spent: u64,
 }
 
 /// A compiled program.
 #[derive(Drop)]
 pub struct Built {
-    /// The tree of its source file.
-    pub tree: FileTree,
-    /// Its code.
-    pub code: Code,
+    /// The package that was read.
+    pub source: Package,
+    /// Its bodies, typed, by which it runs.
+    pub typed: TypedPackage,
 }
 
 /// How a call of the top ended.
 #[derive(Drop)]
 pub enum Status {
-    /// Main returned nil.
+    /// Main returned nil, and no strand can run; or a question was answered.
     Done,
     /// Main or an initialiser returned an error with this message.
     ErrorReturned(Text),

@@ -1,6 +1,6 @@
 use Rattle.std.proofs.Common.{IsTrue, rules, subst}
 use Rattle.std.specs.Prelude.{All}
-use Rattle.bal_run.specs.Questions.{ImportsIo}
+use Rattle.bal_run.specs.Packages.{ImportsIo}
 use Rattle.bal_run.proofs.QuestionAnswers.{package-answers}
 use Rattle.bal_run.proofs.question.package_answer.Goals as goal
 

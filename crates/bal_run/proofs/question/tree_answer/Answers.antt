@@ -1,6 +1,7 @@
 use Rattle.std.proofs.Common.{Some, subst}
 use Rattle.bal_tree.specs.declared.package.SourceFile.{SourceFile}
-use Rattle.bal_run.specs.Questions.{AnswersPackage, package_of}
+use Rattle.bal_run.specs.Packages.{package_of}
+use Rattle.bal_run.specs.Questions.{AnswersPackage}
 use Rattle.bal_run.proofs.question.tree_answer.Goals as goal
 
 pub returns-in-Ok : goal.returns-in-Ok

@@ -1,0 +1,27 @@
+use Rattle.std.proofs.Common.{refl, subst}
+use Rattle.std.specs.Prelude.{All}
+use Rattle.checks.specs.Checks.{Comes}
+use Rattle.compile_front.specs.Front.{front_of}
+use Rattle.type_diagrams.specs.Reach.{Passes}
+use Rattle.bal_run.specs.Packages.{ImportsIo}
+use Rattle.bal_run.proofs.ProgramAnswers.{front-gives, front-stops}
+use Rattle.bal_run.proofs.compile.package_program.Goals as goal
+
+pub returns-in-Ok : goal.returns-in-Ok
+returns-in-Ok c =
+    record {
+      io = subst (All ImportsIo) c.home_files.ensures (c.all_import_io.ensures.0 c.if-not-all_import_io.false);
+      source = refl;
+      accepted = c.in-Ok.accepted;
+      gives = front-gives c.args.source c.new.result.atoms c.accept-types.result.types.atoms c.in-Ok.accepted c.new.ensures.atoms
+          (subst (λ a. Comes (front_of Passes c.args.source) c.new.result.atoms a c.accept-types.result.types.atoms) c.in-Ok.is c.accept-types.ensures.comes);
+      typed = refl;
+    }
+
+pub returns-in-Err : goal.returns-in-Err
+returns-in-Err c =
+    front-stops c.args.text.now c.args.source c.new.result.atoms c.accept-types.result.types.atoms c.in-Err.stop c.refused.result
+    (subst (All ImportsIo) c.home_files.ensures (c.all_import_io.ensures.0 c.if-not-all_import_io.false))
+    c.new.ensures.atoms
+    (subst (λ a. Comes (front_of Passes c.args.source) c.new.result.atoms a c.accept-types.result.types.atoms) c.in-Err.is c.accept-types.ensures.comes)
+    c.refused.ensures

@@ -1,0 +1,140 @@
+//! Running what was compiled, against the input and the output.
+ghost use Rattle.std.specs.Prelude.{◌≡◌, IfOk, Ok, Some};
+ghost use Rattle.input_calls.specs.Calls.{CallsReadln};
+ghost use Rattle.bal_run.specs.Outside.{IsAsBefore, sides, sink_tells, source_tells};
+ghost use Rattle.bal_run.specs.Report.{CanReport};
+ghost use Rattle.bal_run.specs.Runs.{IsStalledBy, IsStatusOf, IsLargeOr, IsRunOf, IsStatusOfStop, RunEnded};
+ghost use Rattle.plain_steps.specs.Ended.{ending_of};
+
+use crate::compile::Ready;
+use crate::load::refusal;
+use crate::source::unplaced;
+use crate::status::{Built, Run, Status};
+use bal_base::{FaultCode, Memory, Ring, Stop};
+use bal_io::{Sink, Source};
+use package_runs::{Bounds, RunFault, run_accepted};
+use plain_steps::{Ending, Outcome};
+use std::alloc::Global;
+
+/// How many ticks a run may spend.
+pub const MOST_TICKS: u64 = 1_000_000_000_000;
+
+/// By which the strands that run are picked: always the first one that is ready.
+pub const SEED: u64 = 0;
+
+/// Runs the program that was compiled.
+pub fn execute<I: Source, O: Sink>(alloc: Global, ready: Ready, input: &mut I, out: &mut O) -> Run
+    ensures kept { result.built ≡ Some ready.built }
+    ensures ended { RunEnded ready.types.atoms ready.built.typed
+        (sides (source_tells (I.faults input.old) (I.rest input.old)) (sink_tells (O.faults out.old) (O.written out.old)))
+        (sides (source_tells (I.faults input.new) (I.rest input.new)) (sink_tells (O.faults out.new) (O.written out.new)))
+        result result.status }
+    ensures untouched { ¬ CallsReadln ready.built.typed → IsAsBefore (source_tells (I.faults input.old) (I.rest input.old)) (source_tells (I.faults input.new) (I.rest input.new)) }
+    ensures text { CanReport result.status }
+{
+    let Ready { types, built } = ready;
+    let mut types = types;
+    let bounds = Bounds {
+        words: &[],
+        ticks: MOST_TICKS,
+        seed: SEED,
+    };
+    let ended = run_accepted(alloc, &mut types, &built.typed, bounds, input, out);
+    run_of(alloc, built, ended)
+}
+
+/// The run of a program that ended so.
+fn run_of(alloc: Global, built: Built, ended: Result<Outcome, Stop<RunFault>>) -> Run
+    ensures { IsRunOf built ended result }
+{
+    match ended {
+        Ok(outcome) => came(alloc, built, outcome),
+        Err(stop) => Run {
+            status: stopped(alloc, stop),
+            built: Some(built),
+            turns: 0,
+            spent: 0,
+        },
+    }
+}
+
+/// The run of a program that came to this outcome.
+fn came(alloc: Global, built: Built, outcome: Outcome) -> Run
+    ensures { IsRunOf built (Ok outcome) result }
+{
+    let turns = outcome.picks;
+    let spent = outcome.spent;
+    Run {
+        status: status_of(alloc, outcome.ending),
+        built: Some(built),
+        turns,
+        spent,
+    }
+}
+
+/// The status of a run that ends so, if there is memory for it.
+fn status_of(alloc: Global, ending: Ending) -> Status
+    ensures { IsStatusOf (ending_of ending) result }
+{
+    match ending {
+        Ending::ReturnsNil => Status::Done,
+        Ending::ReturnsError(message) => Status::ErrorReturned(message),
+        Ending::Panics(message) => Status::Panicked(message),
+        Ending::Stalls(strands) => stalled(alloc, strands.as_slice()),
+        Ending::GoesOn => Status::GoesOn { ticks: MOST_TICKS },
+        Ending::Passes(limit) => Status::Limit(limit),
+    }
+}
+
+/// The status of a run in which these strands wait for one another.
+fn stalled(alloc: Global, strands: &[u64]) -> Status
+    ensures { IsStalledBy strands.now result }
+{
+    match ring_of(alloc, strands) {
+        Ok(ring) => Status::Stalled { ring },
+        Err(Memory) => Status::Memory,
+    }
+}
+
+/// The ring of these strands, whose numbers are below 2 to the power 32 in any run for which there is memory.
+fn ring_of(alloc: Global, strands: &[u64]) -> Result<Ring, Memory>
+    ensures { IfOk result (λ ring. ring ≡ strands.now) }
+{
+    let mut ring = Vec::new(alloc);
+    for n in strands.iter() {
+        ring.push(narrow(*n)?)?;
+    }
+    Ok(Ring::of(ring))
+}
+
+/// The number of a strand as that of a ring.
+fn narrow(n: u64) -> Result<u32, Memory>
+    ensures { IfOk result (λ m. m ≡ n) }
+{
+    if n > u32::MAX as u64 {
+        return Err(Memory);
+    }
+    Ok(n as u32)
+}
+
+/// The status of a run that came to no outcome, if there is memory for it.
+fn stopped(alloc: Global, stop: Stop<RunFault>) -> Status
+    ensures { IsStatusOfStop stop result }
+{
+    match stop {
+        Stop::Memory => Status::Memory,
+        Stop::Fault(RunFault::Input) => Status::InputFault,
+        Stop::Fault(RunFault::Output) => Status::OutFault,
+        Stop::Fault(RunFault::Types(_)) => too_large(alloc),
+    }
+}
+
+/// The status of a program whose lists lead to a question about types that is too large.
+fn too_large(alloc: Global) -> Status
+    ensures { IsLargeOr result }
+{
+    match refusal(alloc, "", unplaced(FaultCode::TypeLimit)) {
+        Ok(refusal) => Status::Refused(refusal),
+        Err(Memory) => Status::Memory,
+    }
+}
