@@ -2,34 +2,41 @@
 use Rattle.std.proofs.Common.{◌≡◌, List, Option, Some, Result, Ok, Err, String, subst, sym}
 use Rattle.std.specs.Global.{Global}
 use Rattle.std.specs.Prelude.{IfOk, IfSome, IsSome, ◌↔◌, string_bytes}
-use Rattle.bal_io.specs.Held.{HeldFolder, HeldOutput}
-use Rattle.bal_run.specs.Due.{FolderTells, SinkTells, StatusIsDue, folder_tells, outside}
+use Rattle.bal_io.specs.Held.{HeldFolder, HeldInput, HeldOutput}
+use Rattle.bal_tree.specs.declared.package.SourceFile.{SourceFile}
+use Rattle.bal_run.specs.Due.{StatusIsDue}
+use Rattle.bal_run.specs.Outside.{FolderTells, SinkTells, SourceTells, folder_tells, outside, source_tells}
 use Rattle.bal_run.specs.Report.{Reports}
 use Rattle.bal_run.specs.Words.{IsCommand, IsGood}
 use Rattle.bal_run.specs.declared.status.Run.{Run}
 use Rattle.bal_run.specs.declared.status.Status.{Status}
-use Rattle.run_cases.specs.Came.{IsAnswerTo, IsNamed, folder_told, nothing_told, sink_told}
+use Rattle.run_cases.specs.Came.{IsAnswerTo, IsNamed, folder_told, nothing_told, sink_told, source_told}
 use Rattle.run_cases.specs.declared.case.Call.{Call}
 
 -- the objects told before the call what the case says
-pub answer-to : (call : Call) (words : List (String Global)) (before : FolderTells) (out diag : SinkTells)
-    (run : Run) (folder' : HeldFolder) (out' diag' : HeldOutput)
+pub answer-to : (call : Call) (words : List (String Global)) (before : FolderTells) (source : SourceTells) (out diag : SinkTells)
+    (run : Run) (folder' : HeldFolder) (input' : HeldInput) (out' diag' : HeldOutput)
     → words ≡ call.words.items
     → before ≡ folder_tells 0 (Some call.files.items)
+    → source ≡ source_tells 0 (Some call.input.items)
     → out ≡ nothing_told
     → diag ≡ nothing_told
-    → (due : Status) × StatusIsDue words (outside before out) (outside (folder_told folder') (sink_told out')) run due
-    × Reports due run.status diag (sink_told diag')
+    → (due : Status) × (shown : List SourceFile)
+    × StatusIsDue words (outside before source out) (outside (folder_told folder') (source_told input') (sink_told out')) run shown due
+    × Reports shown due run.status diag (sink_told diag')
     → IsAnswerTo call run out' diag'
-answer-to call words before out diag run folder' out' diag' w b o d (due, cause, told) =
+answer-to call words before source out diag run folder' input' out' diag' w b i o d (due, shown, cause, told) =
     record {
       folder = folder';
+      input = input';
+      shown = shown;
       due = due;
       cause =
-          subst (λ (x : SinkTells). StatusIsDue call.words.items (outside (folder_tells 0 (Some call.files.items)) x) (outside (folder_told folder') (sink_told out')) run due) o
-          (subst (λ (x : FolderTells). StatusIsDue call.words.items (outside x out) (outside (folder_told folder') (sink_told out')) run due) b
-          (subst (λ (x : List (String Global)). StatusIsDue x (outside before out) (outside (folder_told folder') (sink_told out')) run due) w cause));
-      told = subst (λ (x : SinkTells). Reports due run.status x (sink_told diag')) d told;
+          subst (λ (x : SinkTells). StatusIsDue call.words.items (outside (folder_tells 0 (Some call.files.items)) (source_tells 0 (Some call.input.items)) x) (outside (folder_told folder') (source_told input') (sink_told out')) run shown due) o
+          (subst (λ (x : SourceTells). StatusIsDue call.words.items (outside (folder_tells 0 (Some call.files.items)) x out) (outside (folder_told folder') (source_told input') (sink_told out')) run shown due) i
+          (subst (λ (x : FolderTells). StatusIsDue call.words.items (outside x source out) (outside (folder_told folder') (source_told input') (sink_told out')) run shown due) b
+          (subst (λ (x : List (String Global)). StatusIsDue x (outside before source out) (outside (folder_told folder') (source_told input') (sink_told out')) run shown due) w cause)));
+      told = subst (λ (x : SinkTells). Reports shown due run.status x (sink_told diag')) d told;
     }
 
 -- the words, as they are passed, are those of the case, and so is the folder that is kept

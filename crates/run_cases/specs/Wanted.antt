@@ -14,10 +14,7 @@ IsCountWanted (Some wanted) came = came ≡ wanted
 IsCountWanted None came = ⊤
 
 abbrev pub AreCountsWanted : WantedCounts → Counts → Type 0
-AreCountsWanted wanted came =
-    IsCountWanted wanted.steps came.steps
-    × IsCountWanted wanted.turns came.turns
-    × IsCountWanted wanted.places came.places
+AreCountsWanted wanted came = IsCountWanted wanted.spent came.spent × IsCountWanted wanted.turns came.turns
 
 -- the words name the folder that is wanted, or none where none is, if one is told
 abbrev pub IsDirWanted : WantedDir → Option (String Global) → Type 0

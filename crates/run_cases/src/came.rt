@@ -1,6 +1,6 @@
 //! What comes of a call, and whether it is what is wanted.
 ghost use Rattle.std.specs.Prelude.{◌≡◌, ◌↔◌, IfOk, IsTrue};
-ghost use Rattle.run_cases.specs.Came.{IsCameOf, IsSeenOf, places_of};
+ghost use Rattle.run_cases.specs.Came.{IsCameOf, IsSeenOf};
 ghost use Rattle.run_cases.specs.Wanted.{AsWanted, AreCountsWanted, IsCountWanted, IsDirWanted};
 
 use crate::case::{Call, Wanted, WantedCounts, WantedDir};
@@ -24,10 +24,9 @@ pub struct Came {
 /// The counts of a run.
 #[derive(Clone, Copy)]
 pub struct Counts {
-    pub steps: u64,
+    /// How many ticks were spent.
+    pub spent: u64,
     pub turns: u64,
-    /// How many places the code has that is kept, and 0 where none is.
-    pub places: u64,
 }
 
 /// Makes the call.
@@ -67,21 +66,10 @@ fn seen(
         stderr: Vec::from_slice(alloc, diag.written())?,
         dir,
         counts: Counts {
-            steps: run.steps,
+            spent: run.spent,
             turns: run.turns,
-            places: places(run),
         },
     })
-}
-
-/// How many places the code has that is kept, and 0 where none is.
-fn places(run: &Run) -> u64
-    ensures { result ≡ places_of run.now.built }
-{
-    match &run.built {
-        Some(built) => built.code.instrs.as_slice().len() as u64,
-        None => 0,
-    }
 }
 
 /// Whether all is as it is wanted.
@@ -113,9 +101,7 @@ pub fn is_dir_wanted(wanted: &WantedDir, came: &Option<String>) -> bool
 fn are_counts_as_wanted(wanted: WantedCounts, came: Counts) -> bool
     ensures { IsTrue result ↔ AreCountsWanted wanted came }
 {
-    is_wanted(wanted.steps, came.steps)
-        && is_wanted(wanted.turns, came.turns)
-        && is_wanted(wanted.places, came.places)
+    is_wanted(wanted.spent, came.spent) && is_wanted(wanted.turns, came.turns)
 }
 
 /// Whether a count is as it is wanted, which it is where nothing is said of it.

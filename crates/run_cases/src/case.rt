@@ -63,10 +63,9 @@ pub enum WantedDir {
 /// What is wanted of the counts of a run, of each only where the case says it.
 #[derive(Clone, Copy)]
 pub struct WantedCounts {
-    pub steps: Option<u64>,
+    /// How many ticks were spent.
+    pub spent: Option<u64>,
     pub turns: Option<u64>,
-    /// How many places the code has that is kept, and 0 where none is.
-    pub places: Option<u64>,
 }
 
 /// What stands before the statements of `main` and behind them, where a case tells these alone.

@@ -12,8 +12,8 @@
 //! - `status N`: the status that is wanted
 //! - `stdout` and `stderr`: the outputs that are wanted, whose texts follow. Where they don't stand, nothing
 //! - `dir NAME`: the folder that the words name, or `nodir` where they name none. Where neither stands, any
-//! - `steps N`, `turns N` and `places N`: the steps, the turns, and the places of the code that is kept. Where
-//!   they don't stand, any
+//! - `spent N` and `turns N`: the ticks that were spent, and how often a strand was picked. Where they don't
+//!   stand, any
 //!
 //! A text is lines that the module `piece` tells; one that is opened again goes on.
 
@@ -62,9 +62,8 @@ impl Draft {
             stderr: Vec::new(alloc),
             dir: WantedDir::Any,
             counts: WantedCounts {
-                steps: None,
+                spent: None,
                 turns: None,
-                places: None,
             },
             open: Part::Nothing,
             text: Vec::new(alloc),
@@ -144,7 +143,7 @@ impl Draft {
             "file" | "main" | "stdin" | "stdout" | "stderr" => self.open(word, rest),
             "dir" => self.dir(WantedDir::Named(String::from_str(self.alloc, rest)?)),
             "nodir" => self.dir(WantedDir::Missing),
-            "status" | "steps" | "turns" | "places" => self.count(word, rest),
+            "status" | "spent" | "turns" => self.count(word, rest),
             _ => refuse(Misread::NotALine),
         }
     }
@@ -212,9 +211,8 @@ impl Draft {
         let count = one_number(rest)?;
         match word {
             "status" => set_once(&mut self.status, count),
-            "steps" => set_once(&mut self.counts.steps, count),
-            "turns" => set_once(&mut self.counts.turns, count),
-            _ => set_once(&mut self.counts.places, count),
+            "spent" => set_once(&mut self.counts.spent, count),
+            _ => set_once(&mut self.counts.turns, count),
         }
     }
 }

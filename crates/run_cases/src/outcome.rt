@@ -64,9 +64,8 @@ fn tell_differences(wanted: &Wanted, came: &Came, told: &mut Told) {
     told.bytes("stdout", &wanted.stdout, &came.stdout);
     told.bytes("stderr", &wanted.stderr, &came.stderr);
     tell_dir(wanted, came, told);
-    tell_count("steps", wanted.counts.steps, came.counts.steps, told);
+    tell_count("spent", wanted.counts.spent, came.counts.spent, told);
     tell_count("turns", wanted.counts.turns, came.counts.turns, told);
-    tell_count("places", wanted.counts.places, came.counts.places, told);
 }
 
 fn tell_count(name: &str, wanted: Option<u64>, came: u64, told: &mut Told) {
