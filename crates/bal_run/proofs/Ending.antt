@@ -1,5 +1,5 @@
 -- The status that is due of a run, by what became of it.
-use Rattle.std.proofs.Common.{◌≡◌, ℕ, List, [], Option, Some, None, refl, sym, subst, inl, inr, ⊎_elim}
+use Rattle.std.proofs.Common.{ℕ, List, [], Option, Some, None, refl, sym, subst, inl, inr, ⊎_elim}
 use Rattle.std.specs.Prelude.{Result, Ok, Err}
 use Rattle.bal_base.specs.declared.stop.Stop.{Stop}
 use Rattle.bal_base.specs.declared.stop.Stop.TheVariants.{Memory as OutOfMemory, Fault}
@@ -18,7 +18,7 @@ use Rattle.type_diagrams.specs.Reach.{Passes as PassesLimit}
 use Rattle.type_model.specs.declared.answers.TypeLimit.{TypeLimit}
 use Rattle.typed_tree.specs.declared.package.TypedPackage.{TypedPackage}
 use Rattle.bal_run.specs.Report.{CanReport}
-use Rattle.bal_run.specs.Runs.{IsLargeOr, IsRunOf, IsStatusOf, IsStatusOfStop, RunEnded, status_of}
+use Rattle.bal_run.specs.Runs.{IsRunOf, IsStatusOfStop, RunEnded, status_of}
 use Rattle.bal_run.specs.declared.running.TheConstants.{MOST_TICKS, SEED}
 use Rattle.bal_run.specs.declared.status.Built.{Built}
 use Rattle.bal_run.specs.declared.status.Run.{Run}

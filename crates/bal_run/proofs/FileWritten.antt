@@ -1,14 +1,14 @@
 -- What is written tells whether a file has a public `main`: what is so of one tree is so of each that is written out alike, wherever its
 -- parts lie in memory.
-use Rattle.std.proofs.Common.{◌≡◌, ℕ, zero, suc, ◌<◌, Bool, true, false, List, [], ◌∷◌, map, refl, sym, subst, ◌∙◌, arith}
-use Rattle.std.specs.Prelude.{Any, IsTrue}
+use Rattle.std.proofs.Common.{◌≡◌, zero, suc, Bool, true, false, List, [], ◌∷◌, map, refl, sym, subst, ◌∙◌, arith}
+use Rattle.std.specs.Prelude.{Any}
 use Rattle.bal_base.specs.declared.token.Keyword.{Keyword}
 use Rattle.bal_base.specs.declared.token.Keyword.TheVariants.{Public as PublicKey, Isolated as IsolatedKey, Const as ConstKey}
 use Rattle.bal_tree.specs.declared.def.Def.{Def}
 use Rattle.bal_tree.specs.declared.def.Def.TheVariants.{«Type» as TypeOf, Const, Variable, Function}
 use Rattle.bal_tree.specs.declared.def.FileTree.{FileTree}
 use Rattle.bal_tree.specs.declared.def.FunctionDef.{FunctionDef}
-use Rattle.bal_tree.specs.DefPieces.{def_pieces, file_pieces}
+use Rattle.bal_tree.specs.DefPieces.{def_pieces}
 use Rattle.bal_tree.specs.Pieces.{Pieces, joined, key, key_if}
 use Rattle.parse_stmt.specs.Chosen.{IsSameFile}
 use Rattle.bal_run.specs.Mains.{HasMain, IsNamedMain, IsPublicMain}

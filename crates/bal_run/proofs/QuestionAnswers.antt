@@ -18,7 +18,7 @@ use Rattle.bal_run.specs.declared.load.LoadFault.{LoadFault}
 use Rattle.bal_run.specs.Files.{Files, HasNoMain, IsFrontOfMain, IsMainFile}
 use Rattle.bal_run.specs.Packages.{ImportsIo, package_of}
 use Rattle.bal_run.specs.Questions.{Answers, AnswersBytes, AnswersPackage, IsLoaded}
-use Rattle.bal_run.specs.Readings.{IsMainSource, IsUnread}
+use Rattle.bal_run.specs.Readings.{IsUnread}
 use Rattle.bal_run.specs.Source.{NotText, TooLong, refusal_of}
 use Rattle.bal_run.specs.Work.{IsStopOf, IsTreeReading}
 use Rattle.bal_run.proofs.FindingMain.{short-front, whole-bytes}

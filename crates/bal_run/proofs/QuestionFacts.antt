@@ -1,6 +1,6 @@
 -- What is so of a call whose words are a question.
-use Rattle.std.proofs.Common.{◌≡◌, ◌⊎◌, ℕ, ◌<◌, List, [], Option, Some, None, refl, sym, ap, subst, ◌∙◌, inl, inr, ⊎_elim, arith}
-use Rattle.std.specs.Prelude.{All, IfSome, String}
+use Rattle.std.proofs.Common.{◌≡◌, ◌⊎◌, ℕ, ◌<◌, List, [], Option, Some, None, sym, ap, subst, ◌∙◌, inl, inr, ⊎_elim, arith}
+use Rattle.std.specs.Prelude.{All, String}
 use Rattle.std.specs.Global.{Global}
 use Rattle.std.proofs.lemmas.List.{append-nil}
 use Rattle.std.proofs.lemmas.List.Elements.{All-head}
@@ -16,7 +16,7 @@ use Rattle.bal_run.specs.declared.status.Run.{Run}
 use Rattle.bal_run.specs.declared.status.Status.{Status}
 use Rattle.bal_run.specs.declared.status.Status.TheVariants.{Done, Refused, FolderFault, OutFault, Memory, DiagFault}
 use Rattle.bal_run.specs.Due.{NothingRan, QuestionEnded, StatusIsDue}
-use Rattle.bal_run.specs.Files.{Files, HasNoMain, MainHas}
+use Rattle.bal_run.specs.Files.{Files, MainHas}
 use Rattle.bal_run.specs.OfQuestions.{QuestionIsTold}
 use Rattle.bal_run.specs.Outside.{IsAsBefore, Outside, SinkTells}
 use Rattle.bal_run.specs.Packages.{ImportsIo, package_of}

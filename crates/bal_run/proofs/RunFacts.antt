@@ -1,6 +1,6 @@
 -- What is so of a call whose words run a program.
-use Rattle.std.proofs.Common.{◌≡◌, ◌⊎◌, ℕ, ◌<◌, List, Option, Some, None, refl, sym, ap, subst, ◌∙◌, inl, inr, ⊎_elim, arith}
-use Rattle.std.specs.Prelude.{IfSome, IfNone, IsSome, IsSomeAnd, String}
+use Rattle.std.proofs.Common.{◌≡◌, ◌⊎◌, ℕ, ◌<◌, List, Option, Some, refl, sym, ap, subst, ◌∙◌, inl, inr, ⊎_elim, arith}
+use Rattle.std.specs.Prelude.{IfNone, IsSome, String}
 use Rattle.std.specs.Global.{Global}
 use Rattle.bal_base.specs.declared.fault.Fault.{Fault}
 use Rattle.bal_base.specs.declared.fault.Refusal.{Refusal}
@@ -8,26 +8,25 @@ use Rattle.bal_io.specs.Faults.{Rises}
 use Rattle.bal_tree.specs.declared.package.SourceFile.{SourceFile}
 use Rattle.descriptors.specs.Described.{Atoms}
 use Rattle.machine_model.specs.Outcomes as model
-use Rattle.machine_model.specs.Outcomes.{Ending, ReturnsNil, ReturnsError, Panics, Stalls, Passes}
+use Rattle.machine_model.specs.Outcomes.{Ending}
 use Rattle.bal_run.specs.declared.status.Built.{Built}
 use Rattle.bal_run.specs.declared.status.Run.{Run}
 use Rattle.bal_run.specs.declared.status.Status.{Status}
-use Rattle.bal_run.specs.declared.status.Status.TheVariants.{Done, Refused, FolderFault, InputFault, OutFault, Memory, DiagFault}
+use Rattle.bal_run.specs.declared.status.Status.TheVariants.{Refused, FolderFault, InputFault, OutFault, Memory, DiagFault}
 use Rattle.bal_run.specs.Due.{NothingRan, ProgramRan, StatusIsDue}
 use Rattle.bal_run.specs.Files.{Files, HasNoMain, MainHas}
 use Rattle.bal_run.specs.Mains.{LacksMain}
-use Rattle.bal_run.specs.OfRuns.{EndedSo, FailedInInput, FailedInOutput, HasNoProgram, IfBuilt, ImportsMore, IsEndTold, IsNeverRefused, IsRefusedFor, OfBuilt, ReadsWith, RefusedLate, RefusedSoon, RunIsTold, WroteOfRun}
+use Rattle.bal_run.specs.OfRuns.{EndedSo, FailedInInput, FailedInOutput, HasNoProgram, IfBuilt, ImportsMore, IsEndTold, IsNeverRefused, IsRefusedFor, OfBuilt, RefusedLate, RefusedSoon, RunIsTold, WroteOfRun}
 use Rattle.bal_run.specs.Outside.{Outside, SinkTells, sides}
-use Rattle.bal_run.specs.Programs.{IsBuiltOf, IsProgramRefused, IsRefusalOf}
+use Rattle.bal_run.specs.Programs.{IsProgramRefused, IsRefusalOf}
 use Rattle.bal_run.specs.Readings.{IsMainSource, IsUnread, TellsMain}
 use Rattle.bal_run.specs.Report.{ComesTo, ComesToRefusal, Reports}
-use Rattle.bal_run.specs.Runs.{WrotePart, status_of, too_large}
-use Rattle.bal_run.specs.Source.{HasNoTree, no_main, not_built, refusal_of}
+use Rattle.bal_run.specs.Runs.{status_of, too_large}
+use Rattle.bal_run.specs.Source.{HasNoTree, ReadsWith, no_main, not_built, refusal_of}
 use Rattle.bal_run.specs.Words.{IsRun}
 use Rattle.bal_run.proofs.DueStatus.{by-cause, by-stage, not-end, one-end}
 use Rattle.bal_run.proofs.Ending.{large-unbegun}
 use Rattle.bal_run.proofs.MainFiles.{its-main, its-there, main-there}
-use Rattle.bal_run.proofs.QuestionWords.{run-alone, run-good}
 use Rattle.bal_run.proofs.Reporting.{come-or-fail, come-or-memory, comes-from, due-is, memory-stays}
 use Rattle.bal_run.proofs.SourceReadings.{main-of-both}
 

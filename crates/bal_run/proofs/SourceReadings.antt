@@ -1,6 +1,6 @@
 -- What `lex` and `parse_file` say, as the reading of a text.
-use Rattle.std.proofs.Common.{◌≡◌, ◌<◌, ◌⊎◌, ℕ, List, [], ◌∷◌, Option, Some, None, refl, sym, ap, subst, ◌∙◌, inl, inr, ⊎_elim, arith, chars}
-use Rattle.std.specs.Prelude.{IfOk, IfSome, IsSomeAnd, Result, Ok, Err, Any, drop, length}
+use Rattle.std.proofs.Common.{◌≡◌, ◌<◌, ◌⊎◌, ℕ, List, Option, Some, None, sym, ap, subst, ◌∙◌, inl, inr, ⊎_elim, arith, chars}
+use Rattle.std.specs.Prelude.{IfOk, IfSome, IsSomeAnd, Result, Ok, Err, drop, length}
 use Rattle.std.specs.Str.{IsCharBoundary}
 use Rattle.bal_base.specs.Stops.{IfFault}
 use Rattle.bal_base.specs.declared.fault.Fault.{Fault as FaultOf}

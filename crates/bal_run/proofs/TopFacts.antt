@@ -1,7 +1,7 @@
 -- What is so of each call of the top: of its words, of the input, and of the files in which events are found; and how a folder that comes to
 -- no program ends a call.
-use Rattle.std.proofs.Common.{◌≡◌, ◌⊎◌, ℕ, List, [], Option, Some, None, refl, sym, ap, subst, ◌∙◌, inl, inr, ⊎_elim}
-use Rattle.std.specs.Prelude.{IsSomeAnd, Result, Err, String}
+use Rattle.std.proofs.Common.{◌≡◌, ◌⊎◌, List, Option, Some, None, refl, sym, ap, subst, ◌∙◌, inl, inr, ⊎_elim}
+use Rattle.std.specs.Prelude.{IsSomeAnd, Err, String}
 use Rattle.std.specs.Global.{Global}
 use Rattle.bal_base.specs.declared.stop.Stop.{Stop}
 use Rattle.bal_base.specs.declared.stop.Stop.TheVariants.{Memory as OutOfMemory, Fault}
@@ -15,7 +15,7 @@ use Rattle.bal_run.specs.declared.compile.CompileFault.TheVariants as compile
 use Rattle.bal_run.specs.declared.compile.Ready.{Ready}
 use Rattle.bal_run.specs.declared.status.Run.{Run}
 use Rattle.bal_run.specs.declared.status.Status.{Status}
-use Rattle.bal_run.specs.declared.status.Status.TheVariants.{FolderFault, InputFault, Memory, OutFault, Refused, Words, DiagFault}
+use Rattle.bal_run.specs.declared.status.Status.TheVariants.{FolderFault, Memory, Refused, Words}
 use Rattle.bal_run.specs.declared.top.Worked.{Worked}
 use Rattle.bal_run.specs.Compiling.{CountsCompileFaults}
 use Rattle.bal_run.specs.Due.{NothingRan, StatusIsDue}
@@ -26,7 +26,7 @@ use Rattle.bal_run.specs.Outside.{IsAsBefore, Outside, SinkTells, sides}
 use Rattle.bal_run.specs.Packages.{source_files}
 use Rattle.bal_run.specs.Programs.{Compiled, IsBuiltOf, IsRefusalOf}
 use Rattle.bal_run.specs.Report.{CanReport, Reports}
-use Rattle.bal_run.specs.Runs.{RunEnded, status_of, too_large}
+use Rattle.bal_run.specs.Runs.{RunEnded, status_of}
 use Rattle.bal_run.specs.Words.{IsGood, IsRun}
 use Rattle.bal_run.specs.Work.{IsWorkOf, not_run}
 use Rattle.bal_run.proofs.DueStatus.{by-answer, by-stage, not-end}

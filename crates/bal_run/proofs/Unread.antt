@@ -1,13 +1,12 @@
 -- Files that come to no tree, and the file and its front: of its bytes only so many are read as a file may have, and one more.
-use Rattle.std.proofs.Common.{◌≡◌, ◌≤◌, ◌<◌, ◌+◌, ℕ, List, [], length, take, chars, Option, Some, None, refl, sym, ap, subst, ◌∙◌, inl, inr, arith}
-use Rattle.std.specs.Prelude.{Result, Ok, Err, ◌⊎◌}
+use Rattle.std.proofs.Common.{◌≡◌, ◌≤◌, ◌<◌, ◌+◌, ℕ, List, [], length, take, chars, refl, sym, ap, ◌∙◌, inl, inr, arith}
+use Rattle.std.specs.Prelude.{Ok, Err, ◌⊎◌}
 use Rattle.std.proofs.lemmas.List.{length-take}
 use Rattle.bal_base.specs.declared.fault.Fault.{Fault as FaultOf}
 use Rattle.bal_base.specs.declared.fault.FaultCode.{FaultCode}
 use Rattle.bal_base.specs.declared.fault.FaultCode.TheVariants.{NotUtf8, Syntax}
 use Rattle.bal_base.specs.declared.fault.Refusal.{Refusal}
 use Rattle.bal_base.specs.declared.limits.TheConstants.{MOST_FILE_BYTES}
-use Rattle.bal_base.specs.declared.stop.Stop.{Stop}
 use Rattle.bal_base.specs.declared.stop.Stop.TheVariants.{Fault}
 use Rattle.bal_tree.specs.declared.def.FileTree.{FileTree}
 use Rattle.bal_tree.specs.declared.package.SourceFile.{SourceFile}

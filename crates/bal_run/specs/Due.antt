@@ -1,6 +1,6 @@
 -- The status that is due of a call of the top: why, what was built and written, and the files in which the events are found that it
 -- shows. A call comes to its end at the words, at the folder, in the run or with a question, and there is a record for each of the four.
-use Rattle.std.specs.Prelude.{◌≡◌, ◌⊎◌, ℕ, List, [], Option, Some, None, String}
+use Rattle.std.specs.Prelude.{◌≡◌, ◌⊎◌, ℕ, List, [], Some, None, String}
 use Rattle.std.specs.Global.{Global}
 use Rattle.bal_base.specs.declared.fault.Refusal.{Refusal}
 use Rattle.bal_io.specs.Content.{Told, Appends, AppendsFront}
@@ -13,7 +13,7 @@ use Rattle.bal_run.specs.declared.status.Built.{Built}
 use Rattle.bal_run.specs.declared.status.Run.{Run}
 use Rattle.bal_run.specs.declared.status.Status.{Status}
 use Rattle.bal_run.specs.declared.status.Status.TheVariants.{Done, Refused, FolderFault, OutFault, Memory, Words}
-use Rattle.bal_run.specs.Outside.{FolderTells, IsAsBefore, Outside, SinkTells, SourceTells, sides}
+use Rattle.bal_run.specs.Outside.{FolderTells, IsAsBefore, Outside, SinkTells, sides}
 use Rattle.bal_run.specs.Programs.{IsBuiltOf, IsRefusalOf}
 use Rattle.bal_run.specs.Questions.{IsAnswerOf, IsQuestionRefused, answer_bytes}
 use Rattle.bal_run.specs.Runs.{RunEnded}

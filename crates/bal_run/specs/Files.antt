@@ -1,9 +1,9 @@
 -- Which file of a folder is read, and how much of it.
-use Rattle.std.specs.Prelude.{◌≡◌, ◌⊎◌, ◌<◌, ◌+◌, ℕ, List, Option, Some, None, IfSome, Result, Ok, Err, map, slice_get, codes, ⊤, Vec}
+use Rattle.std.specs.Prelude.{◌≡◌, ◌<◌, ◌+◌, ℕ, List, Option, Some, None, IfSome, Result, Err, map, slice_get, codes, Vec}
 use Rattle.std.specs.Global.{Global}
 use Rattle.bal_base.specs.declared.limits.TheConstants.{MOST_FILE_BYTES}
 use Rattle.bal_base.specs.declared.stop.Stop.{Stop}
-use Rattle.bal_base.specs.declared.stop.Stop.TheVariants.{Memory, Fault}
+use Rattle.bal_base.specs.declared.stop.Stop.TheVariants.{Fault}
 use Rattle.bal_io.specs.Content.{IsNameAt, IsFrontAt}
 use Rattle.bal_io.specs.Faults.{Rises}
 use Rattle.bal_run.specs.declared.load.LoadFault.{LoadFault}

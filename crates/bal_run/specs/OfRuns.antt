@@ -1,16 +1,14 @@
 -- What a call of the top says of a program that is run: single facts, each cause with its status and each status with its cause. A
 -- cause comes to its status, unless the diagnostics fail or memory runs out.
-use Rattle.std.specs.Prelude.{◌≡◌, ◌<◌, ◌⊎◌, ℕ, List, [], IfNone, IfSome, IsSome, IsSomeAnd, Option, Some}
+use Rattle.std.specs.Prelude.{◌≡◌, ◌<◌, ◌⊎◌, ℕ, List, IfNone, IfSome, IsSome, IsSomeAnd, Option, Some}
 use Rattle.bal_base.specs.declared.fault.Fault.{Fault}
 use Rattle.bal_base.specs.declared.fault.Refusal.{Refusal}
 use Rattle.bal_io.specs.Faults.{Rises}
-use Rattle.bal_tree.specs.declared.def.FileTree.{FileTree}
 use Rattle.bal_tree.specs.declared.package.SourceFile.{SourceFile}
 use Rattle.descriptors.specs.Described.{Atoms}
 use Rattle.machine_model.specs.Outcomes.{Ending, Outcome}
 use Rattle.bal_run.specs.declared.status.Built.{Built}
 use Rattle.bal_run.specs.declared.status.Run.{Run}
-use Rattle.bal_run.specs.declared.status.Status.{Status}
 use Rattle.bal_run.specs.declared.status.Status.TheVariants.{Refused, FolderFault, InputFault, OutFault, Memory}
 use Rattle.bal_run.specs.Due.{NothingRan}
 use Rattle.bal_run.specs.Files.{Files, HasNoMain}
@@ -21,13 +19,9 @@ use Rattle.bal_run.specs.Programs.{IsBuiltOf, IsProgramRefused, IsRefusalOf}
 use Rattle.bal_run.specs.Readings.{IsMainSource, TellsMain}
 use Rattle.bal_run.specs.Report.{ComesTo, ComesToRefusal}
 use Rattle.bal_run.specs.Runs.{IsTypesLimit, InputFailed, OutputFailed, RanTo, WrotePart, status_of, too_large}
-use Rattle.bal_run.specs.Source.{HasNoTree, ReadsAs, no_main, not_built, refusal_of}
+use Rattle.bal_run.specs.Source.{HasNoTree, ReadsWith, no_main, not_built, refusal_of}
 
 -- ---- the folder, as far as it tells its files
-
--- the bytes of `main.bal` read, and this is so of the tree
-abbrev pub ReadsWith : List ℕ → (FileTree → Type 0) → Type 0
-ReadsWith bytes P = (tree : FileTree) × ReadsAs bytes tree × P tree
 
 -- `main.bal` reads, and whatever it reads as, it has a public `main` and imports something else
 abbrev pub ImportsMore : List ℕ → Type 0

@@ -2,10 +2,8 @@
 use Rattle.std.specs.Prelude.{◌≡◌, ◌⊎◌, ⊤, ℕ, List, [], ◌∷◌, IfSome, Option, Some, Result, Ok, Err}
 use Rattle.bal_base.specs.declared.fault.Fault.{Fault as FaultOf}
 use Rattle.bal_base.specs.declared.fault.Refusal.{Refusal}
-use Rattle.bal_base.specs.declared.stop.Memory.{Memory as NoMemory}
 use Rattle.bal_base.specs.declared.stop.Stop.{Stop}
 use Rattle.bal_base.specs.declared.stop.Stop.TheVariants.{Memory, Fault}
-use Rattle.bal_tree.specs.declared.package.Package.{Package}
 use Rattle.bal_tree.specs.declared.package.SourceFile.{SourceFile}
 use Rattle.checks.specs.Checks.{Gives, Refuses}
 use Rattle.compile_front.specs.Front.{front_of}

@@ -1,4 +1,4 @@
-use Rattle.std.proofs.Common.{refl, sym, ap, subst, ◌∙◌}
+use Rattle.std.proofs.Common.{refl, sym, ap, subst}
 use Rattle.bal_run.specs.declared.top.Worked.{Worked}
 use Rattle.bal_run.specs.Report.{CanReport}
 use Rattle.bal_run.proofs.QuestionEnds.{asked-so}
