@@ -6,12 +6,11 @@ use Rattle.bal_io.specs.Content.{Appends, IsPrefixOf, Told}
 use Rattle.value_model.specs.Meaning.{Answers}
 use Rattle.run_model.specs.Common.{Common}
 use Rattle.machine_model.specs.Following.{AreFine, FramesFollow, Settles}
-use Rattle.machine_model.specs.Laws.{HaveSameOutcomes}
 use Rattle.machine_model.specs.Machine.{Machine}
 use Rattle.machine_model.specs.Outcomes.{Outcome}
 use Rattle.machine_model.specs.Runs.{AreWords, Phase, Picking}
 use Rattle.machine_model.proofs.SameOutcomes.{followers-do-the-same}
-use Rattle.seeded_runs.specs.Laws.{FollowersRunAlike, ReachesAlike, RunsAlike}
+use Rattle.seeded_runs.specs.Laws.{EndsAlike, FollowersRunAlike, ReachesAlike, RunsAlike}
 use Rattle.seeded_runs.specs.Runs.{AppendsFrontOfRun, Comes, HasOutcome, IsCut, IsFrontOfRun, IsWrittenByThen, RunsTo}
 use Rattle.seeded_runs.specs.Seeds.{IsBySeed, IsPickedAt, place_named}
 use Rattle.seeded_runs.proofs.Beside.{followers-reach-alike}
@@ -22,7 +21,7 @@ told-to P Q f None None h = tt
 told-to P Q f (Some old) None h = absurd h
 told-to P Q f None (Some new) h = absurd h
 
-module _ {A B : Type 0} (natives : Answers) (M : Machine A) (N : Machine B) (alike : ReachesAlike natives M N) (same : HaveSameOutcomes natives M N) where
+module _ {A B : Type 0} (natives : Answers) (M : Machine A) (N : Machine B) (alike : ReachesAlike natives M N) (same : EndsAlike natives M N) where
   module _ (words : List Text) (input : List ℕ) (ticks seed : ℕ) (texts : AreWords words) where
     picked-alike : (order : List ℕ) (turn place : ℕ) → IsPickedAt natives N words input ticks seed order turn place → IsPickedAt natives M words input ticks seed order turn place
     picked-alike order turn place h =
@@ -33,7 +32,7 @@ module _ {A B : Type 0} (natives : Answers) (M : Machine A) (N : Machine B) (ali
     seed-alike order h turn place e = picked-alike order turn place (h turn place e)
 
     outcome-alike : (o : Outcome) → HasOutcome natives N words input ticks seed o → HasOutcome natives M words input ticks seed o
-    outcome-alike o h = record { order = h.order; picks = seed-alike h.order h.picks; allowed = (same words input h.order ticks o texts).1 h.allowed }
+    outcome-alike o h = record { order = h.order; picks = seed-alike h.order h.picks; allowed = same words input h.order ticks o texts h.allowed }
 
     written-alike : (front : List ℕ) → IsWrittenByThen natives N words input ticks seed front → IsWrittenByThen natives M words input ticks seed front
     written-alike front h =
@@ -63,4 +62,5 @@ module _ {A B : Type 0} (natives : Answers) (M : Machine A) (N : Machine B) (ali
 
 pub followers-run-alike : {A B : Type 0} (natives : Answers) (M : Machine A) (N : Machine B) (Follows : A → B → Type 0) (Fine : Common → A → Type 0) → FollowersRunAlike natives M N Follows Fine
 followers-run-alike natives M N Follows Fine sim fine settle =
-    runs-alike natives M N (followers-reach-alike natives M N Follows Fine sim fine settle) (followers-do-the-same natives M N Follows Fine sim fine settle)
+    runs-alike natives M N (followers-reach-alike natives M N Follows Fine sim fine settle)
+    (λ words input order ticks o texts. (followers-do-the-same natives M N Follows Fine sim fine settle words input order ticks o texts).1)

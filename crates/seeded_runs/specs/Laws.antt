@@ -5,7 +5,7 @@ use Rattle.value_model.specs.Meaning.{Answers}
 use Rattle.run_model.specs.Common.{Common}
 use Rattle.machine_model.specs.Following.{AreFine, FramesFollow, Settles}
 use Rattle.machine_model.specs.Machine.{Machine, State}
-use Rattle.machine_model.specs.Outcomes.{Outcome}
+use Rattle.machine_model.specs.Outcomes.{IsAllowed, Outcome}
 use Rattle.machine_model.specs.Runs.{AreWords, Phase, Reaches}
 use Rattle.seeded_runs.specs.Runs.{IsCut, RunsTo}
 
@@ -22,6 +22,12 @@ module _ {A B : Type 0} (natives : Answers) (M : Machine A) (N : Machine B) wher
   ReachesAlike =
       (words : List Text) (input : List ℕ) (ticks : ℕ) (phase : Phase) (n : ℕ) (order : List ℕ) (t : State B) → AreWords words
       → Reaches natives N words input ticks phase n order t → IsBeside words input ticks phase order t
+
+  -- whatever outcome the second machine has under an order, the first has under the same
+  abbrev pub EndsAlike : Type 0
+  EndsAlike =
+      (words : List Text) (input order : List ℕ) (ticks : ℕ) (o : Outcome) → AreWords words → (n : ℕ) × IsAllowed natives N words input order ticks n o
+      → (n : ℕ) × IsAllowed natives M words input order ticks n o
 
   -- what comes of runs of the second machine, and what is written of them, comes of runs of the first
   pub record RunsAlike : Type 0 where
