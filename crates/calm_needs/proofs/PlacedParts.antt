@@ -3,14 +3,15 @@ use Rattle.std.proofs.Common.{◌≡◌, ◌∙◌, ◌++◌, ℕ, Bool, List, [
 use Rattle.std.specs.Global.{Box}
 use Rattle.bal_base.specs.declared.place.Place.{Place}
 use Rattle.operations.specs.declared.operation.Constant.{Constant}
+use Rattle.typed_tree.specs.declared.expr.AnonymousFunction.{AnonymousFunction}
 use Rattle.typed_tree.specs.declared.expr.TypedExpr.{TypedExpr, TypedExpr-F, map-TypedExpr, out-TypedExpr, para-TypedExpr}
 use Rattle.typed_tree.specs.declared.expr.TypedExpr.TheOpen as layer
 use Rattle.typed_tree.specs.declared.form.StrictForm.{StrictForm}
 use Rattle.typed_tree.specs.Listed.{joined, members}
 use Rattle.typed_tree.specs.SharedTypes.{Shared}
-use Rattle.typed_tree.specs.Views.{IsAnd, IsCheck, IsConditional, IsElvis, IsImplied, IsLocal, IsOr, IsParens, IsStrict, IsTrap}
+use Rattle.typed_tree.specs.Views.{IsAnd, IsCheck, IsConditional, IsElvis, IsFunctionOf, IsImplied, IsLocal, IsOr, IsParens, IsStrict, IsTrap}
 use Rattle.typed_tree.proofs.SeenParts.{para_out, seconds}
-use Rattle.tree_promises.specs.Placed.{Placed, expr_placed}
+use Rattle.tree_promises.specs.Placed.{Placed, anonymous, expr_placed}
 use Rattle.typed_needs.specs.Between.{units_in}
 
 para-at : (A : Type 0) (step : TypedExpr-F (TypedExpr × A) → A) (e : TypedExpr) (x : TypedExpr-F TypedExpr) → out-TypedExpr e ≡ x
@@ -73,6 +74,13 @@ trap-units {a} {t} {at} e (b, o, is) = ap members (para-at _ _ e (layer.Trap b t
 
 pub parens-units : {a : TypedExpr} {t : Shared} {at : Place} (e : TypedExpr) → IsParens a t at e → Made e (a ∷ [])
 parens-units {a} {t} {at} e (b, o, is) = ap members (para-at _ _ e (layer.Parens b t at) o) ∙ boxed b a is ∙ sym (one-units a)
+
+-- a function is a unit of its own, before those in its value
+pub function-units : {f : AnonymousFunction} {value : TypedExpr} {t : Shared} {at : Place} (e : TypedExpr) → IsFunctionOf f value t at e
+    → units_of e ≡ anonymous f value ∷ units_of value
+function-units {f} {value} {t} {at} e (g, v, o, same, is) =
+    ap members (para-at _ _ e (layer.Function g v t at) o) ∙ ap (λ (x : AnonymousFunction). anonymous x v.value ∷ units_of v.value) same
+    ∙ ap (λ (x : TypedExpr). anonymous f x ∷ units_of x) is
 
 -- where the parts are known to be these
 pub of-these : (e : TypedExpr) {parts these : List TypedExpr} → parts ≡ these → Made e these → Made e parts

@@ -1,23 +1,23 @@
-mod Acting
-mod Aside
-mod Blocks
-mod Branches
-mod Choosing
-mod Clauses
-mod Declaring
-mod Foreach
-mod Law
-mod Loops
-mod MatchLine
-mod Matches
-mod MemberUpdates
-mod Members
-mod Names
-mod Onward
-mod Plain
-mod Puts
-mod StmtUnits
-mod Targets
-mod Trails
-mod Values
-mod Walks
+pub mod Acting
+pub mod Aside
+pub mod Blocks
+pub mod Branches
+pub mod Choosing
+pub mod Clauses
+pub mod Declaring
+pub mod Foreach
+pub mod Law
+pub mod Loops
+pub mod MatchLine
+pub mod Matches
+pub mod MemberUpdates
+pub mod Members
+pub mod Names
+pub mod Onward
+pub mod Plain
+pub mod Puts
+pub mod StmtUnits
+pub mod Targets
+pub mod Trails
+pub mod Values
+pub mod Walks

@@ -30,7 +30,7 @@ use Rattle.typed_needs.proofs.Opened.{as-before}
 use Rattle.typed_needs.proofs.Placed.{last-same}
 
 -- the function of a unit whose atoms begin with this one
-abbrev function_of : Bool → UnitAtWork → ℕ → AnonymousFunction
+abbrev pub function_of : Bool → UnitAtWork → ℕ → AnonymousFunction
 function_of isolated u first = record { isolated = isolated; unit = typed_unit u (first + 1) (first + 2); args = first; captured = u.captured }
 
 abbrev FunctionMade : Bool → UnitAtWork → ℕ → Place → Atoms → List TypedExpr → TypedExpr → Type 0

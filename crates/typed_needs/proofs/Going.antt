@@ -8,20 +8,38 @@ use Rattle.checks.specs.Checks.{Check, Gives, either, gives_some, refuses, ◌�
 use Rattle.needs.specs.Needs.{asks, does}
 use Rattle.type_model.specs.declared.basic.Ty.{Ty}
 use Rattle.typed_tree.specs.declared.expr.TypedExpr.{TypedExpr}
+use Rattle.typed_tree.specs.declared.unit.Captured.{Captured}
 use Rattle.typed_tree.specs.SharedTypes.{Shared, sem_of}
 use Rattle.flow_narrowing.specs.declared.flow.Flow.{Flow}
-use Rattle.check_words.specs.Sharing.{SameShared, SameUnit}
+use Rattle.check_words.specs.Sharing.{SameCaptured, SameShared, SameUnit}
 use Rattle.check_words.specs.State.{ChoiceAtWork, ConstructorAtWork, IsLast, State, UnitAtWork, Ways, all_but, replaced}
 use Rattle.check_words.specs.Words.{Atoms, asking, becomes, by_handles, closes_choice, closes_constructor, done, fails, flow_now, makes, new_slot, opens_choice, opens_constructor, sets_constructor, sets_flow, sets_unit, sets_ways, unless, wants as wanting, wants_no_more, wants_some, ways_now}
 use Rattle.typed_needs.specs.Going.{GoesOn, IsSameUnit}
 use Rattle.typed_needs.proofs.Placed.{all-but-last}
 use Rattle.typed_needs.proofs.Questions.{AddsBehind}
 
+-- ---- what is captured
+
+captured-itself : (cs : List Captured) → AllZip SameCaptured cs cs
+captured-itself [] = tt
+captured-itself (c ∷ cs) = (record { slot = refl; narrowed = refl; ty = refl; at = refl }, captured-itself cs)
+
+pub captured-then : (bs cs ds : List Captured) → AllZip SameCaptured bs cs → AllZip SameCaptured cs ds → AllZip SameCaptured bs ds
+captured-then [] [] [] f g = tt
+captured-then (b ∷ bs) (c ∷ cs) (d ∷ ds) f g = (one b c d f.0 g.0, captured-then bs cs ds f.1 g.1)
+  where
+    one : (b c d : Captured) → SameCaptured b c → SameCaptured c d → SameCaptured b d
+    one b c d f g = record { slot = g.slot ∙ f.slot; narrowed = g.narrowed ∙ f.narrowed; ty = g.ty ∙ f.ty; at = g.at ∙ f.at }
+captured-then [] (c ∷ cs) ds f g = absurd f
+captured-then (b ∷ bs) [] ds f g = absurd f
+captured-then [] [] (d ∷ ds) f g = absurd g
+captured-then (b ∷ bs) (c ∷ cs) [] f g = absurd g
+
 -- ---- one unit
 
 pub unit-itself : (u : UnitAtWork) → IsSameUnit u u
 unit-itself u =
-    record { number = refl; worker = refl; params = refl; rest = refl; arrow = refl; future = refl; result = refl; more = []; slots = sym (append-nil (map sem_of u.slots)) }
+    record { number = refl; worker = refl; params = refl; rest = refl; arrow = refl; future = refl; result = refl; more = []; slots = sym (append-nil (map sem_of u.slots)); captured = captured-itself u.captured }
 
 pub unit-then : (u v w : UnitAtWork) → IsSameUnit u v → IsSameUnit v w → IsSameUnit u w
 unit-then u v w f g =
@@ -35,9 +53,10 @@ unit-then u v w f g =
       result = g.result ∙ f.result;
       more = f.more ++ g.more;
       slots = g.slots ∙ ap (λ ts. ts ++ g.more) f.slots ∙ append_assoc (map sem_of u.slots) f.more g.more;
+      captured = captured-then u.captured v.captured w.captured f.captured g.captured;
     }
 
-types-same : (us vs : List Shared) → AllZip SameShared us vs → map sem_of vs ≡ map sem_of us
+pub types-same : (us vs : List Shared) → AllZip SameShared us vs → map sem_of vs ≡ map sem_of us
 types-same [] [] h = refl
 types-same (u ∷ us) (v ∷ vs) h = ap (λ t. t ∷ map sem_of vs) (ap (λ (t : Ty). t.sem) h.0) ∙ ap (λ ts. sem_of u ∷ ts) (types-same us vs h.1)
 types-same [] (v ∷ vs) h = absurd h
@@ -56,6 +75,7 @@ unit-by-handles u v w f h =
       result = ap (λ (t : Ty). t.sem) h.result ∙ f.result;
       more = f.more;
       slots = types-same v.slots w.slots h.slots ∙ f.slots;
+      captured = captured-then u.captured v.captured w.captured f.captured h.captured;
     }
 
 -- ---- units
@@ -203,7 +223,7 @@ unit-goes was next u old new last same (v, mid, (handles, first), is) =
 
 pub with-flow : (w : UnitAtWork) (f : Flow) → IsSameUnit w (record w { flow = f })
 with-flow w f =
-    record { number = refl; worker = refl; params = refl; rest = refl; arrow = refl; future = refl; result = refl; more = []; slots = sym (append-nil (map sem_of w.slots)) }
+    record { number = refl; worker = refl; params = refl; rest = refl; arrow = refl; future = refl; result = refl; more = []; slots = sym (append-nil (map sem_of w.slots)); captured = captured-itself w.captured }
 
 pub goes-sets-flow : (f : Flow) → Goes (sets_flow f)
 unfolding ◌▷◌ gives_some does
@@ -214,7 +234,7 @@ goes-sets-flow f old new u (v, mid, (w, a, (last, first), set), is) =
 
 pub with-slot : (w : UnitAtWork) (t : Shared) → IsSameUnit w (record w { slots = w.slots ++ t ∷ [] })
 with-slot w t =
-    record { number = refl; worker = refl; params = refl; rest = refl; arrow = refl; future = refl; result = refl; more = sem_of t ∷ []; slots = slots-more w.slots }
+    record { number = refl; worker = refl; params = refl; rest = refl; arrow = refl; future = refl; result = refl; more = sem_of t ∷ []; slots = slots-more w.slots; captured = captured-itself w.captured }
   where
     slots-more : (ts : List Shared) → map sem_of (ts ++ t ∷ []) ≡ map sem_of ts ++ sem_of t ∷ []
     slots-more [] = refl

@@ -61,7 +61,7 @@ use Rattle.typed_needs.proofs.Strict.{StrictMade, never, one-typed, unless-leave
 -- ---- what names stand for
 
 -- what holds of all variables holds of the one that is found by its name
-found-has : (P : Variable → Type 0) (vs : List Variable) (name : Name) → All P vs → IfSome (find_variable vs name) P
+pub found-has : (P : Variable → Type 0) (vs : List Variable) (name : Name) → All P vs → IfSome (find_variable vs name) P
 found-has P [] name h = tt
 found-has P (v ∷ vs) name h = by (is_same_text v.name name) (All-head P v vs h) (found-has P vs name (All-tail P v vs h))
   where

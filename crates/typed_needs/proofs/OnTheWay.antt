@@ -5,8 +5,8 @@ use Rattle.type_model.specs.declared.atoms.AtomDef.{AtomDef}
 use Rattle.type_model.specs.Calls.{KeepsTypes}
 use Rattle.type_model.proofs.Kept.{KeepsTypes-append}
 use Rattle.typed_tree.specs.SharedTypes.{sem_of}
-use Rattle.check_words.specs.State.{IsLast, UnitAtWork}
-use Rattle.typed_needs.specs.Going.{IsSameUnit}
+use Rattle.check_words.specs.State.{IsLast, State, UnitAtWork}
+use Rattle.typed_needs.specs.Going.{GoesOn, IsSameUnit}
 use Rattle.typed_needs.specs.OnTheWay.{PlacesAreKept, StatesAreBefore}
 use Rattle.typed_needs.proofs.Going.{each-long}
 use Rattle.typed_needs.proofs.Placed.{last-same}
@@ -29,7 +29,7 @@ tail-last w x vs v last = by last.kept last.is
     by (k ∷ kept) is = record { kept = kept; is = ap (λ l. drop 1 l) is }
 
 -- of units that go on the last one goes on to the last one
-record Came (us : List UnitAtWork) (v : UnitAtWork) : Type 0 where
+pub record Came (us : List UnitAtWork) (v : UnitAtWork) : Type 0 where
   pub was : UnitAtWork
   pub at_hand : IsLast us was
   pub same : IsSameUnit was v
@@ -51,13 +51,18 @@ none-above : (xs : List UnitAtWork) → length xs ≡ 0 → xs ≡ []
 none-above [] e = refl
 none-above (x ∷ xs) e = absurd (omega (arith, e))
 
-pub places-are-kept : PlacesAreKept
-places-are-kept place old new goes many placed =
+-- no unit came, so the last one is the last one as it went on
+pub unit-came : (old new : State) (v : UnitAtWork) → GoesOn old new → length new.units ≡ length old.units → IsLast new.units v → Came old.units v
+unit-came old new v goes many last =
     let long : length new.units ≡ length goes.going + length goes.above = ap length goes.units ∙ length-append goes.going goes.above in
     let same-long = each-long old.units goes.going goes.each in
     let none : goes.above ≡ [] = none-above goes.above (omega (arith, many, long, same-long)) in
     let units : new.units ≡ goes.going = goes.units ∙ ap (λ l. goes.going ++ l) none ∙ append-nil goes.going in
-    let c = last-came old.units goes.going placed.unit goes.each (subst (λ us. IsLast us placed.unit) units placed.at_hand) in
+    last-came old.units goes.going v goes.each (subst (λ us. IsLast us v) units last)
+
+pub places-are-kept : PlacesAreKept
+places-are-kept place old new goes many placed =
+    let c = unit-came old new placed.unit goes many placed.at_hand in
     record {
       unit = c.was;
       at_hand = c.at_hand;

@@ -10,11 +10,12 @@ use Rattle.type_model.specs.Calls.{Asked}
 use Rattle.typed_tree.specs.SharedTypes.{sem_of}
 use Rattle.expr_needs.specs.Needs.{Need}
 use Rattle.check_words.specs.Meets.{meets}
+use Rattle.check_words.specs.Sharing.{SameCaptured}
 use Rattle.check_words.specs.State.{State, UnitAtWork}
 use Rattle.check_laws.specs.Effects.{effect}
 use Rattle.check_laws.specs.Laws.{Finds}
 
--- The same unit: slots come behind those that it has, and of its variables other things may be known.
+-- The same unit: slots come behind those that it has, and of its variables other things may be known. It captures the same variables.
 pub record IsSameUnit (u v : UnitAtWork) : Type 0 where
   pub number : v.number ≡ u.number
   pub worker : v.worker ≡ u.worker
@@ -25,6 +26,7 @@ pub record IsSameUnit (u v : UnitAtWork) : Type 0 where
   pub result : sem_of v.result ≡ sem_of u.result
   pub more : List SemType
   pub slots : map sem_of v.slots ≡ map sem_of u.slots ++ more
+  pub captured : AllZip SameCaptured u.captured v.captured
 
 -- Each unit that was there is there, and more may stand on them.
 pub record GoesOn (old new : State) : Type 0 where

@@ -1,2 +1,3 @@
-mod Runs
+pub mod Leaving
+pub mod Runs
 mod Trees

@@ -23,7 +23,7 @@ use Rattle.expr_needs.specs.declared.expected.Expected.{Expected}
 use Rattle.expr_needs.specs.ExprTable.{read_call, read_expr}
 use Rattle.expr_needs.specs.Needs.{WaitsForAny}
 use Rattle.check_laws.specs.Laws.{IsOneMore, IsReady, KeepsPositions, KeptPositions}
-use Rattle.typed_needs.specs.TypedRuns.{NamesOfAction, RunIsTyped, RunsAreTyped, IsReadyToAct}
+use Rattle.typed_needs.specs.TypedRuns.{AllRunsAreTyped, NamesOfAction, RunIsTyped, RunsAreTyped, IsReadyToAct}
 use Rattle.typed_needs.specs.WholeRuns.{RunsGoOn}
 use Rattle.typed_exprs.specs.Actions.{ActClaim, AllActionsAreTyped}
 use Rattle.typed_exprs.specs.Calls.{AllCallsAreTyped}
@@ -33,18 +33,19 @@ use Rattle.typed_exprs.specs.Elements.{AllElementsAreTyped}
 use Rattle.typed_exprs.specs.Lines.{Leaves, TheseLinesAreTyped}
 use Rattle.typed_exprs.specs.Prefixes.{AllPrefixesAreTyped}
 use Rattle.typed_exprs.proofs.Steps.{more-path}
-use Rattle.typed_trees.specs.Runs.{RunsAreTypedWith}
-use Rattle.typed_trees.proofs.Trees.{AllLines, CallClaim, call-typed, expr-leaves, expr-typed, only-met, postfix-typed, primary-typed}
+use Rattle.typed_functions.specs.Functions.{AllFunctionsAreTyped}
+use Rattle.typed_trees.proofs.Leaving.{action-leaves, expr-leaves}
+use Rattle.typed_trees.proofs.Trees.{AllLines, CallClaim, call-typed, expr-typed, postfix-typed, primary-typed}
 
 neither : {A : Type 0} → ⊥ ⊎ ⊥ → A
 neither (inl h) = absurd h
 neither (inr h) = absurd h
 
 -- a type of the booleans
-truth : SemType
+pub truth : SemType
 truth = Or' (record { ptr = null_ptr; alloc = record { memory = _ }; value = tt }) (Basic (BoolOne true)) (record { ptr = null_ptr; alloc = record { memory = _ }; value = tt }) (Basic (BoolOne false))
 
-booleans : (env : List AtomDef) → HasExactly env truth IsBoolean
+pub booleans : (env : List AtomDef) → HasExactly env truth IsBoolean
 unfolding truth
 booleans env (BoolShape true) valid = ((λ i. (true, refl)), (λ i. inl refl))
 booleans env (BoolShape false) valid = ((λ i. (false, refl)), (λ i. inr refl))
@@ -58,31 +59,21 @@ booleans env (Function isolated graph) valid = ((λ h. neither h), (λ (b, e). a
 booleans env (Future' _ results) valid = ((λ h. neither h), (λ (b, e). absurd (let bad : ⊥ = cc in bad)))
 
 module _ (passes : List AtomDef → Asked → TypeLimit → Type 0) (names : Names) (env : List AtomDef) (l : AllLines passes names env) where
-  rhs-leaves : (x : Rhs) → Leaves passes names env (λ e. (read_rhs x).needs e)
-  rhs-leaves x e old new ready run =
-      let met = only-met passes names env l ((read_rhs x).needs e) old new run in
-      let positions : KeepsPositions passes names (IsReady e) IsOneMore ((read_rhs x).needs e) = l.positions.rhs x e in
-      let more : IsOneMore old new = positions.comes old new ready met in
-      record { more = more; path = more-path old new (l.goes.rhs x e old new ready met) more }
-
-  action-leaves : (a : Action) → Leaves passes names env (action_needs a)
-  action-leaves a = rhs-leaves (ActionRhs (record { ptr = null_ptr; alloc = record { memory = _ }; value = a }))
-
   -- a name at least is waited for
   any-of : (qs : List QualifiedName) (at : Place) → 1 ≤ length qs → ActClaim passes names env (λ s. ⊤) (λ e. in_turn await_needs qs & one (WaitsForAny qs at))
   any-of (q ∷ more) at there = l.actions.any q more at
   any-of [] at there = absurd (omega (arith, there))
 
   action-typed : (a : Action) → ActClaim passes names env (NamesOfAction a) (action_needs a)
-  action-typed (Prefix' op _ a at) = l.actions.behind op a (action_needs a) at (action-leaves a) (action-typed a)
+  action-typed (Prefix' op _ a at) = l.actions.behind op a (action_needs a) at (action-leaves passes names env l.positions l.goes a) (action-typed a)
   action-typed (Start call at) = λ e place old new ready peers results run kept far named.
       let c : CallClaim passes names env l (read_call call) = call-typed passes names env l call in c.started (read_call call).at at e place old new ready run kept far named
   action-typed (WaitAny qs at) = λ e place old new ready peers results run kept far named. any-of qs.items at peers e place old new ready tt results run kept far named
   action-typed (WaitAll ms at) = λ e place old new ready peers results run kept far named. l.actions.all ms.items at e place old new ready tt results run kept far named
   action-typed (Flush peer at) = l.actions.flushes peer at
   action-typed (Receive peer at) = l.actions.receives peer at
-  action-typed (Send value peer at) = l.actions.sends (read_expr value.value) peer at (record { claim = expr-typed passes names env l value.value; leaves = expr-leaves passes names env l value.value })
-  action-typed (SyncSend value peer at) = l.actions.waiting (read_expr value.value) peer at (record { claim = expr-typed passes names env l value.value; leaves = expr-leaves passes names env l value.value })
+  action-typed (Send value peer at) = l.actions.sends (read_expr value.value) peer at (record { claim = expr-typed passes names env l value.value; leaves = expr-leaves passes names env l.positions l.goes value.value })
+  action-typed (SyncSend value peer at) = l.actions.waiting (read_expr value.value) peer at (record { claim = expr-typed passes names env l value.value; leaves = expr-leaves passes names env l.positions l.goes value.value })
 
   rhs-typed : (x : Rhs) (e : Expected) → RunIsTyped passes names env (IsReadyToAct passes names env x e) ((read_rhs x).needs e)
   rhs-typed (ExprRhs x) e place old new h run kept far named = expr-typed passes names env l x.value e place old new h.ready run kept far named
@@ -101,8 +92,8 @@ module _ (passes : List AtomDef → Asked → TypeLimit → Type 0) (names : Nam
 
 pub all-runs-are-typed : (passes : List AtomDef → Asked → TypeLimit → Type 0) → KeptPositions passes → RunsGoOn passes → TheseLinesAreTyped passes → AllPrefixesAreTyped passes
     → AllElementsAreTyped passes → AllConditionsAreTyped passes → AllConstructorsAreTyped passes → AllCallsAreTyped passes → AllActionsAreTyped passes
-    → RunsAreTypedWith passes
-all-runs-are-typed passes positions goes lines prefixes elements conditions constructors calls actions anonymous names env =
+    → AllFunctionsAreTyped passes → AllRunsAreTyped passes
+all-runs-are-typed passes positions goes lines prefixes elements conditions constructors calls actions functions names env =
     runs-typed passes names env
     (record {
       positions = positions names;
@@ -115,5 +106,5 @@ all-runs-are-typed passes positions goes lines prefixes elements conditions cons
       constructors = constructors names env;
       calls = calls names env;
       actions = actions names env truth (booleans env);
-      anonymous = anonymous names env;
+      functions = functions names env;
     })

@@ -36,8 +36,9 @@ use Rattle.typed_exprs.specs.Constructors.{ConstructorsAreTyped, KnowsDetail, Kn
 use Rattle.typed_exprs.specs.Elements.{AllElementsAreTyped}
 use Rattle.typed_exprs.specs.Lines.{Claim, Knows, Leaves, LinesAreTyped, Run}
 use Rattle.typed_exprs.specs.Prefixes.{PrefixesAreTyped}
-use Rattle.typed_trees.specs.Runs.{AnonymousLine}
 use Rattle.typed_exprs.proofs.Steps.{more-path}
+use Rattle.typed_functions.specs.Functions.{FunctionIsTyped}
+use Rattle.typed_trees.proofs.Leaving.{expr-leaves, postfix-leaves, rolled-expr}
 
 -- all that the lines say, of one package and the atoms at its end
 pub record AllLines (passes : List AtomDef → Asked → TypeLimit → Type 0) (names : Names) (env : List AtomDef) : Type 0 where
@@ -51,31 +52,17 @@ pub record AllLines (passes : List AtomDef → Asked → TypeLimit → Type 0) (
   pub constructors : ConstructorsAreTyped passes names env
   pub calls : CallsAreTyped passes names env
   pub actions : ActionsAreTyped passes names env
-  pub anonymous : AnonymousLine passes names env
+  pub functions : FunctionIsTyped passes names env
 
 module _ (passes : List AtomDef → Asked → TypeLimit → Type 0) (names : Names) (env : List AtomDef) (l : AllLines passes names env) where
-  -- ---- what is left behind
+  abbrev LeavesOf : Reading → Type 0
+  LeavesOf a = Leaves passes names env (λ e. a.needs e)
 
-  -- that each state stands is more than that all needs are met
-  pub only-met : (needs : Listed Need) (old new : State) → Run passes names env needs old new → all_met (meets passes names) needs old (Gives tt) new
-  unfolding ◌▷◌
-  only-met nothing old new run = run
-  only-met (one need) old new run = run.0
-  only-met (p & q) old new (u, mid, a, b) = (u, mid, only-met p old mid a, only-met q mid new b)
+  expr-leaves-so : (x : Expr) → LeavesOf (read_expr x)
+  expr-leaves-so x = expr-leaves passes names env l.positions l.goes x
 
-  pub expr-leaves : (x : Expr) → Leaves passes names env (λ e. (read_expr x).needs e)
-  expr-leaves x e old new ready run =
-      let met = only-met ((read_expr x).needs e) old new run in
-      let positions : KeepsPositions passes names (IsReady e) IsOneMore ((read_expr x).needs e) = l.positions.expr x e in
-      let more : IsOneMore old new = positions.comes old new ready met in
-      record { more = more; path = more-path old new (l.goes.expr x e old new ready met) more }
-
-  rolled-expr : (x : Expr-F Call Expr Key Postfix Primary Detail Member) → read_expr (roll-Expr x)
-      ≡ reading.expr (map-Expr Call Expr Key Postfix Primary Detail Member Reading Reading Reading Reading Reading Reading Reading read_call read_expr read_key read_postfix read_primary read_detail read_member x)
-  rolled-expr x = fold-roll-Expr Reading Reading Reading Reading Reading Reading Reading reading.call reading.expr reading.key reading.postfix reading.primary reading.detail reading.member x
-
-  postfix-leaves : (x : Postfix) → Leaves passes names env (λ e. (read_postfix x).needs e)
-  postfix-leaves x = subst (λ (r : Reading). Leaves passes names env (λ e. r.needs e)) (rolled-expr (layer.Postfix x)) (expr-leaves (roll-Expr (layer.Postfix x)))
+  postfix-leaves-so : (x : Postfix) → LeavesOf (read_postfix x)
+  postfix-leaves-so x = postfix-leaves passes names env l.positions l.goes x
 
   abbrev ClaimOf : Reading → Type 0
   ClaimOf a = Claim passes names env (λ e. a.needs e)
@@ -126,7 +113,7 @@ module _ (passes : List AtomDef → Asked → TypeLimit → Type 0) (names : Nam
   expr-of (layer.TypeTest a type at) k = l.prefixes.tests type.value a.value a.value.name at k
   expr-of (layer.Conditional c a b at) k = l.conditions.conditional c.value a.value b.value at k.0 k.1 k.2
   expr-of (layer.Trap a at) k = l.lines.trapped a.value at k
-  expr-of (layer.«Expr::Function» isolated ps result v at) k = l.anonymous isolated ps result.value v.value at k
+  expr-of (layer.«Expr::Function» isolated ps result v at) k = l.functions isolated ps result.value v.value at k
 
   abbrev GoodPostfix : PostfixOf Reading → Type 0
   GoodPostfix (layer.Primary a) = ClaimOf a
@@ -223,10 +210,10 @@ module _ (passes : List AtomDef → Asked → TypeLimit → Type 0) (names : Nam
   AMember = (e : Member) × ClaimMember e
 
   known-expr : (e : AnExpr) → Known (read_expr e.0)
-  known-expr e = record { claim = e.1; leaves = expr-leaves e.0 }
+  known-expr e = record { claim = e.1; leaves = expr-leaves-so e.0 }
 
   known-postfix : (e : APostfix) → Known (read_postfix e.0)
-  known-postfix e = record { claim = e.1; leaves = postfix-leaves e.0 }
+  known-postfix e = record { claim = e.1; leaves = postfix-leaves-so e.0 }
 
   known-exprs : (es : List AnExpr) → All Known (map read_expr (map (λ e. e.0) es))
   known-exprs [] = All-nil _

@@ -1,0 +1,6 @@
+mod Begun
+mod Beside
+mod Captures
+mod Ended
+mod Line
+mod Signatures
