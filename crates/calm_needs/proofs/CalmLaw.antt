@@ -46,7 +46,7 @@ module _ (passes : List AtomDef → Asked → TypeLimit → Type 0) (names : Nam
   calm-need (Encloses at) calm = absurd calm
   calm-need (IsAccessed texts at) calm = calm-accessed passes texts at
   calm-need (IsIndex at) calm = calm-then _ _ (calm-some _) (λ a. calm-is-of passes _ at)
-  calm-need (ReadsElement at) calm = calm-then _ _ (calm-then _ _ (calm-some _) (λ a. calm-then _ _ (calm-becomes _ (λ s. calm-beside s _ refl refl refl refl)) (λ u. calm-some _))) (λ a. calm-reads passes a at)
+  calm-need (ReadsElement at) calm = calm-then _ _ (calm-then _ _ (calm-some _) (λ a. calm-then _ _ (calm-becomes _ (λ s. calm-beside s _ refl refl refl refl refl)) (λ u. calm-some _))) (λ a. calm-reads passes a at)
   calm-need (ReadsField w at) calm = calm-then _ _ (calm-some _) (λ e. calm-then _ _ (calm-field-type passes _ _ at) (λ m. calm-makes 1 _ (λ env parts e h. strict-units e h.2)))
   calm-need (ReadsOptional w at) calm = calm-then _ _ (calm-some _) (λ e. calm-then _ _ (calm-some-member passes _ _ at) (λ m. calm-makes 1 _ (λ env parts e h. strict-units e h.2)))
   calm-need (ChoosesList e items at) calm = calm-constructor passes (λ t. t.lists) (ListFits items) e at

@@ -65,10 +65,10 @@ pub calm-looks-up : (names : Names) (q : QualifiedName) → Calm (looks_up names
 calm-looks-up names q = calm-then _ _ (calm-some _) (λ u. calm-some _)
 
 pub calm-takes-sort : Calm takes_sort
-calm-takes-sort = calm-then _ _ (calm-some _) (λ c. calm-then _ _ (calm-becomes _ (λ s. calm-beside s _ refl refl refl refl)) (λ u. calm-some _))
+calm-takes-sort = calm-then _ _ (calm-some _) (λ c. calm-then _ _ (calm-becomes _ (λ s. calm-beside s _ refl refl refl refl refl)) (λ u. calm-some _))
 
 pub calm-sorts : (ints : Bool) → Calm (sorts ints)
-calm-sorts ints = calm-becomes _ (λ s. calm-beside s _ refl refl refl refl)
+calm-sorts ints = calm-becomes _ (λ s. calm-beside s _ refl refl refl refl refl)
 
 pub calm-checked : (panics : Bool) (at : Place) → Calm (checked panics at)
 calm-checked panics at = calm-then _ _ (calm-some _) (λ a. calm-then _ _ (calm-new-slot _) (λ own. calm-makes 1 _ (λ env parts e (b, is, (t, k, view)). of-these e is (check-units e view))))
@@ -80,13 +80,13 @@ calm-beside-error (Some t) = calm-wants-some _
 -- ---- calls
 
 pub calm-opens-call : (c : CallAtWork) → Calm (opens_call c)
-calm-opens-call c = calm-becomes _ (λ s. calm-beside s _ refl refl refl refl)
+calm-opens-call c = calm-becomes _ (λ s. calm-beside s _ refl refl refl refl refl)
 
 pub calm-sets-call : (c : CallAtWork) → Calm (sets_call c)
-calm-sets-call c = calm-becomes _ (λ s. calm-beside s _ refl refl refl refl)
+calm-sets-call c = calm-becomes _ (λ s. calm-beside s _ refl refl refl refl refl)
 
 pub calm-closes-call : Calm closes_call
-calm-closes-call = calm-then _ _ (calm-some _) (λ c. calm-then _ _ (calm-becomes _ (λ s. calm-beside s _ refl refl refl refl)) (λ u. calm-some _))
+calm-closes-call = calm-then _ _ (calm-some _) (λ c. calm-then _ _ (calm-becomes _ (λ s. calm-beside s _ refl refl refl refl refl)) (λ u. calm-some _))
 
 pub calm-function : (f : Signature) (count : ℕ) (at : Place) → Calm (calls_function f count at)
 calm-function f count at = calm-then _ _ (calm-unless _ _ at) (λ u. calm-opens-call _)
@@ -185,7 +185,7 @@ module _ (passes : List AtomDef → Asked → TypeLimit → Type 0) where
   -- ---- members
 
   pub calm-accessed-as : (a : Access) (at : Place) → Calm (is_accessed_as passes a at)
-  calm-accessed-as a at = calm-then _ _ (calm-is-of _ at) (λ u. calm-becomes _ (λ s. calm-beside s _ refl refl refl refl))
+  calm-accessed-as a at = calm-then _ _ (calm-is-of _ at) (λ u. calm-becomes _ (λ s. calm-beside s _ refl refl refl refl refl))
 
   pub calm-has-part : (P : Shape → Type 0) (at : Place) → Calm (has_part passes P at)
   calm-has-part P at = calm-then _ _ (calm-some _) (λ e. calm-whether-some _ at)

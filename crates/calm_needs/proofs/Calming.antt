@@ -25,6 +25,8 @@ use Rattle.typed_needs.specs.Going.{IsSameUnit}
 use Rattle.typed_needs.proofs.Going.{each-itself, each-last, each-then, unit-by-handles, with-slot}
 use Rattle.typed_needs.proofs.Questions.{AddsBehind}
 use Rattle.calm_needs.specs.Calm.{IsCalm, StaysOn}
+use Rattle.calm_needs.proofs.Flows.{keeps-itself, keeps-on, keeps-telling-none, keeps-unit, keeps-with}
+use Rattle.check_words.proofs.Same.{same-flow}
 use Rattle.calm_needs.proofs.PlacedParts.{one-units, units-append, units_of}
 
 -- ---- states
@@ -48,29 +50,36 @@ pub on-beside : (s t : State) → t.atoms ≡ s.atoms → t.units ≡ s.units �
 on-beside s t atoms units = on-with s t [] (atoms ∙ sym (append-nil s.atoms)) units
 
 pub calm-itself : (s : State) → IsCalm s s
-calm-itself s = record { on = on-itself s; units = refl; stored = λ place h. h }
+calm-itself s = record { on = on-itself s; units = refl; stored = λ place h. h; keeps = keeps-itself s }
 
 pub calm-same : (s t : State) → t ≡ s → IsCalm s t
 calm-same s t e = subst (λ (x : State). IsCalm s x) (sym e) (calm-itself s)
 
 pub calm-on : (r s t : State) → IsCalm r s → IsCalm s t → IsCalm r t
-calm-on r s t f g = record { on = on-on r s t f.on g.on; units = g.units ∙ f.units; stored = λ place h. g.stored place (f.stored place h) }
+calm-on r s t f g =
+    record {
+      on = on-on r s t f.on g.on;
+      units = g.units ∙ f.units;
+      stored = λ place h. g.stored place (f.stored place h);
+      keeps = keeps-on r s t f.keeps g.keeps;
+    }
 
 -- the same units at hand
 pub stored-by : (place : Surroundings) (s t : State) → t.units ≡ s.units → AreStored place s → AreStored place t
 stored-by place s t units h = record { unit = h.unit; at_hand = subst (λ us. IsLast us h.unit) (sym units) h.at_hand; variables = h.variables }
 
 -- with other atoms behind those that are there
-pub calm-with : (s t : State) → StaysOn s t → t.found ≡ s.found → t.units ≡ s.units → t.ways ≡ s.ways → IsCalm s t
-calm-with s t on found units ways =
+pub calm-with : (s t : State) → StaysOn s t → t.found ≡ s.found → t.units ≡ s.units → t.ways ≡ s.ways → t.choices ≡ s.choices → IsCalm s t
+calm-with s t on found units ways choices =
     record {
       on = on;
       units = ap (λ (xs : List TypedExpr). units_in xs) found;
       stored = λ place h. record { stored = stored-by place s t units h.stored; ways = subst (λ w. IfSome w (WaysAreStored place)) (sym ways) h.ways };
+      keeps = keeps-with s t units choices ways;
     }
 
-pub calm-beside : (s t : State) → t.atoms ≡ s.atoms → t.found ≡ s.found → t.units ≡ s.units → t.ways ≡ s.ways → IsCalm s t
-calm-beside s t atoms found units ways = calm-with s t (on-beside s t atoms units) found units ways
+pub calm-beside : (s t : State) → t.atoms ≡ s.atoms → t.found ≡ s.found → t.units ≡ s.units → t.ways ≡ s.ways → t.choices ≡ s.choices → IsCalm s t
+calm-beside s t atoms found units ways choices = calm-with s t (on-beside s t atoms units) found units ways choices
 
 -- ---- checks
 
@@ -112,7 +121,7 @@ pub calm-asking : {A : Type 0} (q : Check Atoms A) → AddsBehind q → Calm (as
 unfolding asks
 calm-asking q behind old new a (asked, e) =
     let (more, is) = behind old.atoms new.atoms a asked in
-    calm-with old new (on-with old new more is (ap (λ (s : State). s.units) e)) (ap (λ (s : State). s.found) e) (ap (λ (s : State). s.units) e) (ap (λ (s : State). s.ways) e)
+    calm-with old new (on-with old new more is (ap (λ (s : State). s.units) e)) (ap (λ (s : State). s.found) e) (ap (λ (s : State). s.units) e) (ap (λ (s : State). s.ways) e) (ap (λ (s : State). s.choices) e)
 
 -- ---- parts and what is wanted
 
@@ -136,6 +145,7 @@ calm-makes count P view old new a (parts, last, e, x, is) =
             stored = stored-by place old new (ap (λ (s : State). s.units) is) h.stored;
             ways = subst (λ w. IfSome w (WaysAreStored place)) (sym (ap (λ (s : State). s.ways) is)) tt;
           };
+      keeps = keeps-telling-none old new (ap (λ (s : State). s.units) is) (ap (λ (s : State). s.choices) is) (ap (λ (s : State). s.ways) is);
     }
 
 -- of nothing
@@ -150,6 +160,7 @@ calm-none P view old new a (parts, last, e, x, is) =
             stored = stored-by place old new (ap (λ (s : State). s.units) is) h.stored;
             ways = subst (λ w. IfSome w (WaysAreStored place)) (sym (ap (λ (s : State). s.ways) is)) tt;
           };
+      keeps = keeps-telling-none old new (ap (λ (s : State). s.units) is) (ap (λ (s : State). s.choices) is) (ap (λ (s : State). s.ways) is);
     }
   where
     no-parts : (xs : List TypedExpr) → length xs ≡ 0 → xs ≡ []
@@ -157,22 +168,22 @@ calm-none P view old new a (parts, last, e, x, is) =
     no-parts (x ∷ xs) e = absurd (omega (arith, e))
 
 pub calm-wants : (w : Option Shared) → Calm (wanting w)
-calm-wants w = calm-then _ _ (calm-handles _ _) (λ x. calm-becomes _ (λ s. calm-beside s _ refl refl refl refl))
+calm-wants w = calm-then _ _ (calm-handles _ _) (λ x. calm-becomes _ (λ s. calm-beside s _ refl refl refl refl refl))
 
 pub calm-wants-some : (P : Atoms → Ty → Type 0) → Calm (wants_some P)
 calm-wants-some P = calm-then _ _ (calm-some _) (λ t. calm-wants (Some t))
 
 pub calm-no-more : (count : ℕ) → Calm (wants_no_more count)
-calm-no-more count = calm-becomes _ (λ s. calm-beside s _ refl refl refl refl)
+calm-no-more count = calm-becomes _ (λ s. calm-beside s _ refl refl refl refl refl)
 
 pub calm-opens-constructor : (c : ConstructorAtWork) → Calm (opens_constructor c)
-calm-opens-constructor c = calm-becomes _ (λ s. calm-beside s _ refl refl refl refl)
+calm-opens-constructor c = calm-becomes _ (λ s. calm-beside s _ refl refl refl refl refl)
 
 pub calm-sets-constructor : (c : ConstructorAtWork) → Calm (sets_constructor c)
-calm-sets-constructor c = calm-becomes _ (λ s. calm-beside s _ refl refl refl refl)
+calm-sets-constructor c = calm-becomes _ (λ s. calm-beside s _ refl refl refl refl refl)
 
 pub calm-closes-constructor : Calm closes_constructor
-calm-closes-constructor = calm-then _ _ (calm-some _) (λ c. calm-then _ _ (calm-becomes _ (λ s. calm-beside s _ refl refl refl refl)) (λ u. calm-some _))
+calm-closes-constructor = calm-then _ _ (calm-some _) (λ c. calm-then _ _ (calm-becomes _ (λ s. calm-beside s _ refl refl refl refl refl)) (λ u. calm-some _))
 
 -- ---- the unit at hand
 
@@ -238,5 +249,7 @@ calm-new-slot t old new own (w, a, (last, first), (v, mid, set, (is, same))) =
           let all : All (IsStored place) w.flow.variables = subst (λ (u : UnitAtWork). All (IsStored place) u.flow.variables) one h.stored.variables in
           let s = unit-stored place (record w { slots = w.slots ++ t ∷ [] }) v a mid set all in
           record { stored = s.0; ways = subst (λ y. IfSome y (WaysAreStored place)) (sym (ways ∙ ap (λ (s : State). s.ways) first)) h.ways };
+      keeps = keeps-on old a mid (keeps-with old a (ap (λ (s : State). s.units) first) (ap (λ (s : State). s.choices) first) (ap (λ (s : State). s.ways) first))
+          (keeps-unit w (record w { slots = w.slots ++ t ∷ [] }) v a mid (subst (λ (s : State). IsLast s.units w) (sym first) last) (same-flow w.flow) set);
     })
     (calm-same mid new same)

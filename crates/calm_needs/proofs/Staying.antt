@@ -10,12 +10,12 @@ use Rattle.type_model.specs.Calls.{Asked}
 use Rattle.typed_tree.specs.declared.expr.TypedExpr.{TypedExpr}
 use Rattle.flow_narrowing.specs.declared.flow.Flow.{Flow}
 use Rattle.check_words.specs.State.{ChoiceAtWork, IsLast, State, Ways}
-use Rattle.check_words.specs.Words.{Atoms, closes_choice, flow_now, makes, opens_choice, sets_flow, sets_ways, ways_now}
+use Rattle.check_words.specs.Words.{Atoms, becomes, by_handles, closes_choice, flow_now, makes, opens_choice, sets_flow, sets_ways, ways_now}
 use Rattle.typed_needs.specs.Between.{units_in}
 use Rattle.typed_needs.proofs.Going.{with-flow}
 use Rattle.calm_needs.specs.Calm.{IsCalm}
 use Rattle.calm_needs.specs.Staying.{AllWaysStayOn, Stays, WaysStayOn}
-use Rattle.calm_needs.proofs.Calming.{Calm, calm-becomes, calm-beside, calm-flow-now, calm-handles, calm-makes, calm-some, calm-then, on-beside, on-on, unit-on, unit-parts}
+use Rattle.calm_needs.proofs.Calming.{Calm, calm-flow-now, calm-handles, calm-makes, calm-some, calm-then, on-beside, on-on, unit-on, unit-parts}
 use Rattle.calm_needs.proofs.PlacedParts.{and-units, conditional-units, of-these, or-units, units_of}
 use Rattle.calm_needs.proofs.Ways.{ways-set-parts}
 
@@ -33,17 +33,25 @@ stay-calm m f old new a x = let calm : IsCalm old new = f old new a x in record 
 stay-ways-now : Staying ways_now
 stay-ways-now = stay-calm ways_now (calm-then _ _ calm-flow-now (λ f. calm-some _))
 
-stay-opens-choice : (c : ChoiceAtWork) → Staying (opens_choice c)
-stay-opens-choice c = stay-calm (opens_choice c) (calm-then _ _ (calm-handles _ c) (λ d. calm-becomes _ (λ s. calm-beside s _ refl refl refl refl)))
-
-stay-closes-choice : Staying closes_choice
-stay-closes-choice = stay-calm closes_choice (calm-then _ _ (calm-some _) (λ c. calm-then _ _ (calm-becomes _ (λ s. calm-beside s _ refl refl refl refl)) (λ u. calm-some _)))
-
-stay-flow-now : Staying flow_now
-stay-flow-now = stay-calm flow_now calm-flow-now
+stay-becomes : (change : State → State) → ((s : State) → Stays s (change s)) → Staying (becomes change)
+unfolding does
+stay-becomes change f old new a e = subst (λ (x : State). Stays old x) (sym e) (f old)
 
 stay-some : {A : Type 0} (P : State → A → Type 0) → Staying (gives_some P)
 stay-some P = stay-calm (gives_some P) (calm-some P)
+
+stay-handles : {A : Type 0} (Same : A → A → Type 0) (a : A) → Staying (by_handles Same a)
+stay-handles Same a = stay-calm (by_handles Same a) (calm-handles Same a)
+
+stay-opens-choice : (c : ChoiceAtWork) → Staying (opens_choice c)
+stay-opens-choice c = stay-then _ _ (stay-handles _ c) (λ d. stay-becomes _ (λ s. record { on = on-beside s _ refl refl; units = refl }))
+
+stay-closes-choice : Staying closes_choice
+stay-closes-choice =
+    stay-then _ _ (stay-some _) (λ c. stay-then _ _ (stay-becomes _ (λ s. record { on = on-beside s _ refl refl; units = refl })) (λ u. stay-some _))
+
+stay-flow-now : Staying flow_now
+stay-flow-now = stay-calm flow_now calm-flow-now
 
 stay-makes : (count : ℕ) (P : Atoms → List TypedExpr → TypedExpr → Type 0) → ((env : Atoms) (parts : List TypedExpr) (e : TypedExpr) → P env parts e → units_of e ≡ units_in parts)
     → Staying (makes count P)

@@ -28,7 +28,8 @@ use Rattle.typed_needs.specs.Placing.{AreStored, IsStored}
 use Rattle.typed_needs.proofs.Going.{with-flow}
 use Rattle.typed_needs.proofs.Placed.{last-same}
 use Rattle.typed_needs.proofs.Questions.{where-false-behind}
-use Rattle.calm_needs.specs.Calm.{ChangesChoice, ChoiceIsStored, ClosesChoice, IsCalm, IsStoredAt, OpensChoice, StaysOn}
+use Rattle.calm_needs.specs.Calm.{ChangesChoice, ChoiceIsStored, ClosesChoice, HandSees, IsCalm, IsFlowOf, IsStoredAt, KeepsFlows, OpensChoice, StaysOn}
+use Rattle.calm_needs.proofs.Flows.{hand-on, keeps-on, keeps-telling, keeps-with, of-narrowed, ways-of}
 use Rattle.calm_needs.proofs.Calming.{Calm, calm-asking, calm-flow-now, calm-makes, calm-no-more, calm-on, calm-same, calm-some, calm-then, on-beside, on-on, same-stored, stored-by, unit-on, unit-stored}
 use Rattle.calm_needs.proofs.PlacedParts.{and-units, conditional-units, of-these, or-units, parens-units, strict-units}
 
@@ -292,6 +293,13 @@ module _ (place : Surroundings) where
 
 -- ---- what says something of variables
 
+keeps-same : (s t : State) → t ≡ s → KeepsFlows s t
+keeps-same s t is = keeps-with s t (ap (λ (x : State). x.units) is) (ap (λ (x : State). x.choices) is) (ap (λ (x : State). x.ways) is)
+
+flow-of : (vs : List Variable) (f : Flow) (old new : State) → flow_now old (Gives f) new → HandSees vs old → IsFlowOf vs f
+unfolding ◌▷◌ gives_some
+flow-of vs f old new (u, b, (last, first), (is, same)) hand = subst (IsFlowOf vs) (sym is) (hand u last)
+
 -- ways that are put say nothing of parts
 pub ways-set-parts : (w : Option Ways) (u : Unit {0}) (old new : State) → sets_ways w old (Gives u) new → (new.found ≡ old.found) × StaysOn old new
 unfolding ◌▷◌ by_handles does
@@ -317,6 +325,8 @@ turn at old new (w, s1, x1, (u, s2, x2, x3)) =
           let (known, same) = ways-known place w old s1 x1 h in
           let at-2 = calm.stored place (subst (IsStoredAt place) (sym first) h) in
           (ways-put place (Some (record { yes = w.no; no = w.yes })) tt s2 new x3 (record { yes = known.no; no = known.yes }) at-2.stored).0;
+      keeps = keeps-telling (Some (record { yes = w.no; no = w.yes })) tt old s2 new (keeps-on old s1 s2 (keeps-same old s1 first) calm.keeps) x3
+          (λ vs hand h. let (holds, fails) = ways-of vs w old s1 x1 hand h in (fails, holds));
     }
 
 pub enclose : (at : Place) (old new : State) → encloses at old (Gives tt) new → IsCalm old new
@@ -330,15 +340,23 @@ enclose at old new (w, s1, (is, first), (u, s2, x2, x3)) =
       stored = λ place h.
           let at-2 = calm.stored place (subst (IsStoredAt place) (sym first) h) in
           (ways-put place w tt s2 new x3 (subst (λ y. IfSome y (WaysAreStored place)) (sym is) h.ways) at-2.stored).0;
+      keeps = keeps-telling w tt old s2 new (keeps-on old s1 s2 (keeps-same old s1 first) calm.keeps) x3
+          (λ vs hand h. subst (λ y. IfSome y (λ z. IsFlowOf vs z.yes × IsFlowOf vs z.no)) (sym is) h);
     }
 
 module _ (passes : List AtomDef → Asked → TypeLimit → Type 0) where
   -- what a test says of a variable
   abbrev Says : Option Ways → State → State → Type 0
-  Says w old new = IsCalm old new × ((place : Surroundings) → IsStoredAt place old → IfSome w (WaysAreStored place))
+  Says w old new =
+      IsCalm old new × ((place : Surroundings) → IsStoredAt place old → IfSome w (WaysAreStored place))
+      × ((vs : List Variable) → HandSees vs old → IfSome w (λ x. IsFlowOf vs x.yes × IsFlowOf vs x.no))
 
   says-none : (w : Option Ways) (old new : State) → w ≡ None → new ≡ old → Says w old new
-  says-none w old new is same = (calm-same old new same, λ place h. subst (λ y. IfSome y (WaysAreStored place)) (sym is) tt)
+  says-none w old new is same = (
+    calm-same old new same,
+    λ place h. subst (λ y. IfSome y (WaysAreStored place)) (sym is) tt,
+    λ vs hand. subst (λ y. IfSome y (λ x. IsFlowOf vs x.yes × IsFlowOf vs x.no)) (sym is) tt,
+  )
 
   narrows-calm : (s t : Shared) (at : Place) → Calm (narrows_to passes s t at)
   narrows-calm s t at = calm-then _ _ (calm-some _) (λ u. calm-then _ _ (calm-asking _ (where-false-behind passes s.value t.value at)) (λ v. calm-some _))
@@ -351,6 +369,10 @@ module _ (passes : List AtomDef → Asked → TypeLimit → Type 0) where
         let (flow, first) = flow-known place f old a x1 h.stored in
         subst (λ y. IfSome y (WaysAreStored place)) (sym is)
         (record { yes = narrowed-stored place f.variables name (Some types.0) flow; no = narrowed-stored place f.variables name (Some types.1) flow }),
+    λ vs hand.
+        let known : IsFlowOf vs f = flow-of vs f old a x1 hand in
+        subst (λ y. IfSome y (λ z. IsFlowOf vs z.yes × IsFlowOf vs z.no)) (sym is)
+        (of-narrowed vs f.variables name (Some types.0) known, of-narrowed vs f.variables name (Some types.1) known),
   )
 
   if-says : (q : QualifiedName) (v : Option Variable) (t : Shared) (at : Place) (w : Option Ways) (old new : State) → ways_if passes q v t at old (Gives w) new → Says w old new
@@ -363,14 +385,14 @@ module _ (passes : List AtomDef → Asked → TypeLimit → Type 0) where
   test-says None t at w old new (is, same) = says-none w old new is same
   test-says (Some q) t at w old new (f, a, x1, x2) =
       let calm : IsCalm old a = calm-flow-now old a f x1 in
-      let (next, says) = if-says q _ t at w a new x2 in
-      (calm-on old a new calm next, λ place h. says place (calm.stored place h))
+      let (next, says, tells) = if-says q _ t at w a new x2 in
+      (calm-on old a new calm next, λ place h. says place (calm.stored place h), λ vs hand. tells vs (hand-on vs old a calm.keeps.flows hand))
 
   pub test : (name : Option QualifiedName) (at : Place) (old new : State) → tests passes name at old (Gives tt) new → IsCalm old new
   unfolding ◌▷◌ gives_some
   test name at old new (t, s1, (last, first), (u, s2, x2, (w, s3, x3, (v, s4, x4, x5)))) =
       let one : IsCalm old s2 = calm-on old s1 s2 (calm-same old s1 first) (calm-no-more 1 s1 s2 u x2) in
-      let (two, says) = test-says name t at w s2 s3 x3 in
+      let (two, says, tells) = test-says name t at w s2 s3 x3 in
       let three : IsCalm s3 s4 = calm-makes 1 _ (λ env parts e h. strict-units e h.2) s3 s4 v x4 in
       let all = calm-on old s3 s4 (calm-on old s2 s3 one two) three in
       let put = ways-set-parts w tt s4 new x5 in
@@ -381,4 +403,5 @@ module _ (passes : List AtomDef → Asked → TypeLimit → Type 0) where
             let at-2 = one.stored place h in
             let at-4 = all.stored place h in
             (ways-put place w tt s4 new x5 (says place at-2) at-4.stored).0;
+        keeps = keeps-telling w tt old s4 new all.keeps x5 (λ vs hand h. tells vs (hand-on vs old s2 one.keeps.flows hand));
       }

@@ -11,7 +11,11 @@ use Rattle.type_model.specs.declared.atoms.AtomDef.{AtomDef}
 use Rattle.type_model.specs.Calls.{Asked}
 use Rattle.expr_needs.specs.Needs.{Need, Fails, IsOf, IsWanted, Describes, Widens, WantsResult, WantsErrorToo, DropsWant, GivesLiteral, GivesNamed, Forms, Decides, IsSort, Adds, Compares, Splits, Switches, Turns, Conjoins, Disjoins, Chooses, FillsNil, Tests, Casts, Checks, ChecksPanicking, Traps, Encloses, IsAccessed, IsIndex, ReadsElement, ReadsField, ReadsOptional, ChoosesList, ChoosesMapping, BeginsKeys, GivesKey, TakesKey, ComputesKey, ExpectsItem, ExpectsMember, IsItem, IsMember, IsDetail, LacksCause, MakesList, MakesMapping, MakesError, CallsNamed, CallsValue, CallsMethod, ExpectsArgument, IsArgument, MakesCall, Starts, BeginsAnonymous, HasParameter, HasRest, BeginsValue, MakesAnonymous, Awaits, WaitsForAny, WaitsForAll, Receives, Sends, SendsAndWaits, Flushes, IsNew, Declares, IsAssignable, Assigns, HasField, ExpectsStored, Stores, ReadsName, ReadsStored, ReadsStoredField, IsOperand, UpdatesName, UpdatesElement, UpdatesField, IsIgnorable, Performs, Stops, Returns, ReturnsNil, Breaks, Continues, BeginsBlock, EndsBlock, MakesBlock, MakesIf, Heads, OpensLoop, MakesWhile, IsItemOfLoop, WidensItem, IsCounter, WantsCounter, HasItem, MakesForeach, MakesRange, BeginsMatch, HasPattern, BeginsClause, EndsClause, MakesMatch, EntersFile, BeginsFunction, NamesParameter, EndsFunction, EndsValueFunction, BeginsWorker, EndsWorker, BeginsInitial, EndsInitial, EndsModule, IsConstant}
 use Rattle.check_words.specs.Meets.{meets}
-use Rattle.check_words.specs.State.{ChoiceAtWork, IsLast, State, all_but}
+use Rattle.check_words.specs.Sharing.{SameFlow}
+use Rattle.check_words.specs.State.{ChoiceAtWork, IsLast, State, UnitAtWork, all_but}
+use Rattle.flow_narrowing.specs.Flows.{IsSameVariable}
+use Rattle.flow_narrowing.specs.declared.flow.Flow.{Flow}
+use Rattle.flow_narrowing.specs.declared.flow.Variable.{Variable}
 use Rattle.typed_needs.specs.Between.{FlowIsStored, WaysAreStored, units_in}
 use Rattle.typed_needs.specs.Going.{IsSameUnit}
 use Rattle.typed_needs.specs.Placing.{AreStored}
@@ -27,11 +31,37 @@ pub record StaysOn (old new : State) : Type 0 where
   pub atoms : new.atoms ≡ old.atoms ++ more
   pub each : AllZip IsSameUnit old.units new.units
 
--- the units in the parts are the same, in the same order, and what is stored stays so
+-- ---- what is known of variables
+
+-- the flow knows of these variables, in this order
+abbrev pub IsFlowOf : List Variable → Flow → Type 0
+IsFlowOf vs f = AllZip IsSameVariable vs f.variables
+
+abbrev pub SameKnown : UnitAtWork → UnitAtWork → Type 0
+SameKnown u v = SameFlow u.flow v.flow
+
+-- these variables are seen in the unit at hand
+abbrev pub HandSees : List Variable → State → Type 0
+HandSees vs s = (u : UnitAtWork) → IsLast s.units u → IsFlowOf vs u.flow
+
+-- if the last part is a condition, what it says is of these variables
+abbrev pub TellsOf : List Variable → State → Type 0
+TellsOf vs s = IfSome s.ways (λ w. IsFlowOf vs w.yes × IsFlowOf vs w.no)
+
+-- In each unit the same is known of variables, by other handles maybe; the same ways are open; and what the last part says stays of the variables that are seen.
+pub record KeepsFlows (old new : State) : Type 0 where
+  pub flows : AllZip SameKnown old.units new.units
+  pub choices : new.choices ≡ old.choices
+  pub tells : (vs : List Variable) → HandSees vs old → TellsOf vs old → TellsOf vs new
+
+-- ---- calm needs
+
+-- the units in the parts are the same, in the same order, what is stored stays so, and the same is known of variables
 pub record IsCalm (old new : State) : Type 0 where
   pub on : StaysOn old new
   pub units : units_in new.found ≡ units_in old.found
   pub stored : (place : Surroundings) → IsStoredAt place old → IsStoredAt place new
+  pub keeps : KeepsFlows old new
 
 -- The needs of expressions and actions, but for those that enter a way or leave one, and those of anonymous functions.
 abbrev pub IsCalmNeed : Need → Type 0

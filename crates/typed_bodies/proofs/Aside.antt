@@ -9,12 +9,13 @@ use Rattle.bal_tree.specs.declared.name.Word.{Word}
 use Rattle.bal_tree.specs.declared.stmt.AssignOp.TheVariants.{Add, Divide, Multiply, Set, Subtract}
 use Rattle.bal_tree.specs.declared.stmt.AssignOp.{AssignOp}
 use Rattle.calm_needs.proofs.Calming.{calm-asking, on-beside, on-itself, on-on, stored-by}
-use Rattle.calm_needs.specs.Calm.{IsCalm, IsStoredAt, StaysOn}
+use Rattle.calm_needs.proofs.Flows.{hand-on, of-handles, of-narrowed}
+use Rattle.calm_needs.specs.Calm.{HandSees, IsCalm, IsFlowOf, IsStoredAt, StaysOn}
 use Rattle.check_words.specs.Calls.{is_new}
 use Rattle.check_words.specs.Members.{accesses, expects_stored, field_type, has_part, is_accessed_as, is_index, reads_stored, reads_stored_field, is_structure, member_at, some_member_at, stored_type}
 use Rattle.check_words.specs.Seen.{Seen, SeenConstant, SeenLibrary, SeenMeaning, SeenNothing, SeenVariable, SeenWorker, looks_up}
-use Rattle.check_words.specs.State.{State, UnitAtWork, all_but, replaced, stopped}
-use Rattle.check_words.specs.Statements.{is_ignorable, is_operand, stops, Assigned, AssignsModule, AssignsVariable, assigned_by, meaning_assignable, operand_sort, reads_assigned, seen_assignable, variable_assignable}
+use Rattle.check_words.specs.State.{IsLast, State, UnitAtWork, all_but, outside, replaced, stopped, with_type}
+use Rattle.check_words.specs.Statements.{ends_block, is_ignorable, is_operand, stops, Assigned, AssignsModule, AssignsVariable, assigned_by, meaning_assignable, operand_sort, reads_assigned, seen_assignable, variable_assignable}
 use Rattle.bal_tree.specs.declared.types.TypeTree.{TypeTree}
 use Rattle.check_words.specs.Branches.{at_head, heads, is_counter, is_item_of_loop, item_type_at, wants_counter, widens_item}
 use Rattle.check_words.specs.Values.{describes, sorts, wants_result, widened, widens, widens_to}
@@ -39,12 +40,12 @@ use Rattle.type_model.specs.declared.basic.SemType.{SemType}
 use Rattle.type_model.specs.declared.basic.Ty.{Ty}
 use Rattle.typed_needs.proofs.Questions.{AddsBehind, adds-behind, below-behind, has-some-behind, is-below-behind, member-behind, names-behind, whole-behind}
 use Rattle.typed_needs.specs.Between.{FlowIsStored, WaysAreStored}
-use Rattle.typed_stmts.proofs.Keeping.{changed-stored, heads-stored}
+use Rattle.typed_stmts.proofs.Keeping.{changed-stored, first-ones, heads-stored}
 use Rattle.typed_needs.proofs.Going.{each-last, unit-by-handles, with-flow, with-slot}
-use Rattle.typed_needs.proofs.Placed.{all-but-last}
+use Rattle.typed_needs.proofs.Placed.{all-but-last, last-same}
 use Rattle.typed_needs.specs.Going.{IsSameUnit}
 use Rattle.std.specs.List.{AllZip}
-use Rattle.typed_stmts.proofs.Words.{UnitSet, flow-changed, with_flows, with_units}
+use Rattle.typed_stmts.proofs.Words.{UnitSet, flow-changed, last-replaced, with_flows, with_units}
 use Rattle.typed_tree.specs.SharedTypes.{Shared}
 use Rattle.typed_tree.specs.declared.expr.TypedExpr.{TypedExpr}
 
@@ -58,6 +59,13 @@ pub record Stays (old new : State) : Type 0 where
   pub choices : new.choices ≡ old.choices
 
 pub record IsAside (old new : State) : Type 0 where
+  pub stays : Stays old new
+  pub stored : (place : Surroundings) → IsStoredAt place old → IsStoredAt place new
+  -- the same variables are seen in the unit at hand
+  pub sees : (vs : List Variable) → HandSees vs old → HandSees vs new
+
+-- or fewer are seen
+pub record IsEnd (old new : State) : Type 0 where
   pub stays : Stays old new
   pub stored : (place : Surroundings) → IsStoredAt place old → IsStoredAt place new
 
@@ -76,7 +84,7 @@ stays-on r s t f g =
     }
 
 pub aside-itself : (s : State) → IsAside s s
-aside-itself s = record { stays = stays-itself s; stored = λ place h. h }
+aside-itself s = record { stays = stays-itself s; stored = λ place h. h; sees = λ vs h. h }
 
 aside-same : (s t : State) → t ≡ s → IsAside s t
 aside-same s t e = subst (λ (x : State). IsAside s x) (sym e) (aside-itself s)
@@ -90,7 +98,7 @@ pub aside-then : {A B : Type 0} (m : Check State A) (next : A → Check State B)
 unfolding ◌▷◌
 aside-then m next f g old new b (a, mid, x, y) =
     let p = f old mid a x in let q = g a mid new b y in
-    record { stays = stays-on old mid new p.stays q.stays; stored = λ place h. q.stored place (p.stored place h) }
+    record { stays = stays-on old mid new p.stays q.stays; stored = λ place h. q.stored place (p.stored place h); sees = λ vs h. q.sees vs (p.sees vs h) }
 
 pub aside-some : {A : Type 0} (P : State → A → Type 0) → Aside (gives_some P)
 unfolding gives_some
@@ -115,6 +123,7 @@ aside-beside s t atoms units ways site found blocks matches choices =
     record {
       stays = record { on = on-beside s t atoms units; site = site; found = found; blocks = blocks; matches = matches; choices = choices };
       stored = λ place h. record { stored = stored-by place s t units h.stored; ways = subst (λ w. IfSome w (WaysAreStored place)) (sym ways) h.ways };
+      sees = λ vs h u last. h u (subst (λ us. IsLast us u) units last);
     }
 
 pub aside-becomes : (change : State → State) → ((s : State) → IsAside s (change s)) → Aside (becomes change)
@@ -139,6 +148,7 @@ aside-asking q behind old new a (asked, e) =
         choices = ap (λ (s : State). s.choices) e;
       };
       stored = c.stored;
+      sees = λ vs h. hand-on vs old new c.keeps.flows h;
     }
 
 pub aside-wants : (w : Option Shared) → Aside (wanting w)
@@ -197,13 +207,46 @@ slot-stays t old new s =
       choices = ap (λ (x : State). x.choices) s.all;
     }
 
-changed-stays : (change : Flow → Flow) (u : Unit {0}) (old new : State) → changes_flow change old (Gives u) new → Stays old new
+pub changed-stays : (change : Flow → Flow) (u : Unit {0}) (old new : State) → changes_flow change old (Gives u) new → Stays old new
 changed-stays change u old new met = flow-stays (λ w. change w.flow) old new (flow-changed change u old new met)
 
+-- where the flow is set to one of these variables they are seen
+pub set-sees : (vs : List Variable) (f : Flow) (old new : State) → UnitSet old new (λ w. record w { flow = f }) with_flows → IsFlowOf vs f → HandSees vs new
+set-sees vs f old new s of u last =
+    let units : new.units ≡ replaced old.units s.now = ap (λ (x : State). x.units) s.all in
+    let one : u ≡ s.now = last-same new.units u s.now last (subst (λ us. IsLast us s.now) (sym units) (last-replaced old.units s.now)) in
+    let now : IsFlowOf vs s.now.flow = of-handles vs f s.now.flow s.same.flow of in
+    subst (λ (w : UnitAtWork). IsFlowOf vs w.flow) (sym one) now
+
+changed-sees : (vs : List Variable) (change : Flow → Flow) (old new : State) (s : UnitSet old new (λ w. record w { flow = change w.flow }) with_flows)
+    → ((f : Flow) → IsFlowOf vs f → IsFlowOf vs (change f)) → HandSees vs old → HandSees vs new
+changed-sees vs change old new s keeps h =
+    set-sees vs (change s.was.flow) old new (record { was = s.was; now = s.now; before = s.before; same = s.same; all = s.all }) (keeps s.was.flow (h s.was s.before))
+
 -- the flow at hand is another one, by a change that keeps variables where they are
-pub aside-changes : (change : Flow → Flow) → ((place : Surroundings) (f : Flow) → FlowIsStored place f → FlowIsStored place (change f)) → Aside (changes_flow change)
-aside-changes change keeps old new u met =
-    record { stays = changed-stays change u old new met; stored = λ place h. changed-stored place change u old new met (keeps place) h }
+pub aside-changes : (change : Flow → Flow) → ((place : Surroundings) (f : Flow) → FlowIsStored place f → FlowIsStored place (change f))
+    → ((vs : List Variable) (f : Flow) → IsFlowOf vs f → IsFlowOf vs (change f)) → Aside (changes_flow change)
+aside-changes change keeps same old new u met =
+    record {
+      stays = changed-stays change u old new met;
+      stored = λ place h. changed-stored place change u old new met (keeps place) h;
+      sees = λ vs h. changed-sees vs change old new (flow-changed change u old new met) (same vs) h;
+    }
+
+-- a block ends: of its variables none is seen any more
+pub block-ends : (old new : State) → ends_block old (Gives tt) new → IsEnd old new
+unfolding ◌▷◌ gives_some
+block-ends old new (b, mid, (last, e), met) =
+    subst (λ (s : State). IsEnd s new) e
+    (record {
+      stays = changed-stays (outside b.scope) tt mid new met;
+      stored = λ place h. changed-stored place (outside b.scope) tt mid new met (λ f k. first-ones place b.scope f.variables k) h;
+    })
+
+-- variables that are narrowed, or not any more
+of-heads : (vs : List Variable) (words : List Word) (f : Flow) → IsFlowOf vs f → IsFlowOf vs (at_head words f)
+of-heads vs [] f h = h
+of-heads vs (w ∷ words) f h = of-heads vs words (with_type w.name None f) (of-narrowed vs f.variables w.name None h)
 
 -- ---- words
 
@@ -354,7 +397,7 @@ pub aside-describes : (names : Names) (tree : TypeTree) → Aside (describes nam
 aside-describes names tree = aside-then _ _ (aside-some _) (λ scope. aside-then _ _ (aside-asking _ (whole-behind names scope _)) (λ t. aside-wants-some _))
 
 pub aside-heads : (words : List Word) → Aside (heads words)
-aside-heads words = aside-changes (at_head words) (λ place f h. heads-stored place words f h)
+aside-heads words = aside-changes (at_head words) (λ place f h. heads-stored place words f h) (λ vs f h. of-heads vs words f h)
 
 pub aside-stops : Aside stops
-aside-stops = aside-changes stopped (λ place f h. h)
+aside-stops = aside-changes stopped (λ place f h. h) (λ vs f h. h)

@@ -14,12 +14,12 @@ use Rattle.eval_model.specs.Expressions.{nil_type}
 use Rattle.type_model.specs.Calls.{Asked}
 use Rattle.type_model.specs.declared.answers.TypeLimit.{TypeLimit}
 use Rattle.type_model.specs.declared.atoms.AtomDef.{AtomDef}
-use Rattle.typed_bodies.proofs.Aside.{Aside, IsAside, aside-changes, aside-some, aside-then}
+use Rattle.typed_bodies.proofs.Aside.{IsEnd, block-ends}
 use Rattle.typed_bodies.proofs.Choosing.{Begun, block-begun}
 use Rattle.typed_bodies.proofs.Onward.{onward-begins-block, onward-makes-block}
 use Rattle.typed_bodies.proofs.Puts.{behind-waiting, done}
 use Rattle.typed_bodies.proofs.StmtUnits.{HasUnits, block-units, stmts-append}
-use Rattle.typed_bodies.proofs.Trails.{BlockAt, MatchAt, aside-keeps, back-aside, back-put, back-stmt, in-on, in-run, in-same, in-units}
+use Rattle.typed_bodies.proofs.Trails.{BlockAt, MatchAt, back-aside, back-put, back-stmt, in-on, in-run, in-same, in-units}
 use Rattle.typed_bodies.specs.Claims.{AllKnown, AreDone, BlockClaim, IsDone, IsOnTheWay, KnowsBlock, KnowsStmt, StaysIn, StmtClaim}
 use Rattle.typed_bodies.specs.Units.{units_of_stmts}
 use Rattle.typed_exprs.proofs.Steps.{keeps, parted, stored-here}
@@ -178,9 +178,6 @@ module _ (made : MadeStatementsAreTyped) (passes : List AtomDef → Asked → Ty
   unfolding ◌▷◌ gives_some
   with-nothing old new (u, a, begins, ends) = (u, a, begins, (tt, a, (refl, refl), ends))
 
-  aside-ends-block : Aside ends_block
-  aside-ends-block = aside-then _ _ (aside-some _) (λ b. aside-changes (outside b.scope) (λ p f h. first-ones p b.scope f.variables h))
-
   pub record BlockGoes (old new : State) : Type 0 where
     pub first : State
     pub last : State
@@ -188,7 +185,7 @@ module _ (made : MadeStatementsAreTyped) (passes : List AtomDef → Asked → Ty
     pub standing : IsStanding first
     pub in_first : StaysIn old first
     pub stored : (p : Surroundings) → IsStoredAt p old → IsStoredAt p first
-    pub ends : IsAside last new
+    pub ends : IsEnd last new
     pub ended : IsStanding new
 
   block-parts : (needs : Listed Need) (old new : State) → Run passes names env (one BeginsBlock & needs & one EndsBlock) old new
@@ -204,7 +201,7 @@ module _ (made : MadeStatementsAreTyped) (passes : List AtomDef → Asked → Ty
           standing = sb.1;
           in_first = in-units old a h.moved.on h.moved.site;
           stored = h.stored;
-          ends = aside-ends-block z new tt se.0;
+          ends = block-ends z new se.0;
           ended = se.1;
         },
         some,
@@ -235,7 +232,7 @@ module _ (made : MadeStatementsAreTyped) (passes : List AtomDef → Asked → Ty
         block = more.block;
         blocks = more.blocks;
         done = subst (λ (y : BlockAtWork). AreDone env place w.loop y.stmts) same h;
-        kept = aside-keeps env place g.last new g.ends g.ended kept-last;
+        kept = keeps place new g.ended (g.ends.stored place (stored-here place g.last kept-last));
       }
 
   -- a block as a statement

@@ -3,7 +3,8 @@ use Rattle.std.proofs.Common.{Bool, List, [], ap, length, not, refl, subst, sym,
 use Rattle.bal_base.specs.declared.place.Place.{Place}
 use Rattle.calm_needs.proofs.Calming.{on-beside, on-on}
 use Rattle.calm_needs.proofs.Ways.{choice-by-handles, choice-opened, flow-known, joined-stored, ways-seen}
-use Rattle.calm_needs.specs.Calm.{ChoiceIsStored, IsStoredAt}
+use Rattle.calm_needs.proofs.Flows.{join-of, of-handles}
+use Rattle.calm_needs.specs.Calm.{ChoiceIsStored, HandSees, IsFlowOf, IsStoredAt}
 use Rattle.check_words.specs.Branches.{behind, makes_if, makes_while, opens_loop}
 use Rattle.check_words.specs.State.{BlockAtWork, ChoiceAtWork, IsLast, State, all_but}
 use Rattle.check_words.specs.Statements.{adds_stmt, begins_block, closes_block, takes_part}
@@ -12,9 +13,10 @@ use Rattle.check_words.specs.Values.{splits, switches, way_of}
 use Rattle.check_words.specs.Words.{Step}
 use Rattle.checks.specs.Checks.{Gives, gives_some, ◌▷◌}
 use Rattle.flow_narrowing.specs.declared.flow.Flow.{Flow}
+use Rattle.flow_narrowing.specs.declared.flow.Variable.{Variable}
 use Rattle.needs.specs.Needs.{does}
 use Rattle.operations.specs.Rows.{Surroundings}
-use Rattle.typed_bodies.proofs.Aside.{Stays, flow-stays}
+use Rattle.typed_bodies.proofs.Aside.{Stays, flow-stays, set-sees}
 use Rattle.typed_bodies.proofs.Onward.{IsMoved, Moved, Onward, moved-adds, moved-closes-block, moved-closes-choice, moved-flow-now, moved-some, moved-sets-flow, moved-takes-part, moved-then, onward-adds, onward-closes-block, onward-takes-part, onward-then}
 use Rattle.typed_needs.proofs.Placed.{last-same}
 use Rattle.typed_needs.specs.Between.{FlowIsStored}
@@ -72,6 +74,7 @@ pub record LoopOpens (old new : State) : Type 0 where
   pub choice : ChoiceAtWork
   pub all : new ≡ record old { choices = old.choices ++ choice ∷ [] }
   pub stored : (place : Surroundings) → AreStored place old → ChoiceIsStored place choice
+  pub before : (vs : List Variable) → HandSees vs old → IsFlowOf vs choice.before
 
 pub loop-opens : (old new : State) → opens_loop old (Gives tt) new → LoopOpens old new
 unfolding ◌▷◌
@@ -84,6 +87,7 @@ loop-opens old new (f, a, x1, x2) =
       stored = λ place h.
           let known = (flow-known place f old a x1 h).0 in
           choice-by-handles place (record { before = f; other = f; first = f }) d same (record { before = known; other = known; first = known });
+      before = λ vs h. of-handles vs f d.before same.before (subst (λ (g : Flow). IsFlowOf vs g) (sym is) (h unit hand));
     }
 
 -- ---- blocks that begin
@@ -144,3 +148,22 @@ module _ (place : Surroundings) where
       let before : FlowIsStored place d.before = subst (λ (x : ChoiceAtWork). FlowIsStored place x.before) (sym one) known.before in
       let at-4 = set-stored place (behind leaves d.before) u s2 s4 flowed before in
       (while-end at s4 new tt rest).stored place at-4
+
+-- the same variables are seen behind both ways, and behind a loop
+pub if-sees : (vs : List Variable) (at : Place) (old new : State) (c : ChoiceAtWork) → makes_if at old (Gives tt) new → IsLast old.choices c → IsFlowOf vs c.first → HandSees vs new
+unfolding ◌▷◌ gives_some
+if-sees vs at old new c (f, s1, seen, (d, s2, closed, (g, s3, (join, e3), (u, s4, flowed, rest)))) last first =
+    let (unit, hand, is, e1) = flow-seen f old s1 seen in
+    let (l, e2) = choice-closed d s1 s2 closed in
+    let one : d ≡ c = last-same old.choices d c (subst (λ (s : State). IsLast s.choices d) e1 l) last in
+    let here : IsFlowOf vs d.first = subst (λ (x : ChoiceAtWork). IsFlowOf vs x.first) (sym one) first in
+    (if-end at s4 new tt rest).sees vs (set-sees vs g s3 s4 (flow-set g u s3 s4 flowed) (join-of vs s2.atoms d.first f g join here))
+
+pub while-sees : (vs : List Variable) (leaves : Bool) (at : Place) (old new : State) (c : ChoiceAtWork) → makes_while leaves at old (Gives tt) new → IsLast old.choices c
+    → IsFlowOf vs c.before → HandSees vs new
+unfolding ◌▷◌
+while-sees vs leaves at old new c (d, s2, closed, (u, s4, flowed, rest)) last before =
+    let (l, e2) = choice-closed d old s2 closed in
+    let one : d ≡ c = last-same old.choices d c l last in
+    let here : IsFlowOf vs (behind leaves d.before) = subst (λ (x : ChoiceAtWork). IsFlowOf vs x.before) (sym one) before in
+    (while-end at s4 new tt rest).sees vs (set-sees vs (behind leaves d.before) s2 s4 (flow-set (behind leaves d.before) u s2 s4 flowed) here)

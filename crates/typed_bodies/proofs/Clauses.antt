@@ -146,6 +146,8 @@ module _ (made : MadeStatementsAreTyped) (passes : List AtomDef → Asked → Ty
             clauses = refl;
             known = λ p h. h;
             stored = λ p k h. h;
+            seen = λ vs h. h;
+            sees = λ vs h k. k;
           }
 
   on-patterns : (ps : List Pattern) (before : Listed Need) → OnRun before → OnRun (in_turn_from before pattern_needs ps)

@@ -5,7 +5,7 @@ use Rattle.bal_base.specs.declared.place.Place.{Place}
 use Rattle.bal_base.specs.declared.text.Name.{Name}
 use Rattle.bal_tree.specs.declared.stmt.RangeOp.{RangeOp}
 use Rattle.calm_needs.proofs.Calming.{on-beside}
-use Rattle.calm_needs.specs.Calm.{ChoiceIsStored, IsStoredAt}
+use Rattle.calm_needs.specs.Calm.{ChoiceIsStored, HandSees, IsFlowOf, IsStoredAt}
 use Rattle.check_words.specs.Branches.{has_item, kind_slot, makes_foreach, makes_range, range_end}
 use Rattle.check_words.specs.State.{ChoiceAtWork, IsLast, State, all_but, with_variable}
 use Rattle.check_words.specs.Statements.{adds_stmt, closes_block, local_variable, takes_part}
@@ -16,13 +16,13 @@ use Rattle.expr_needs.specs.declared.kind.Kind.TheVariants as kind
 use Rattle.flow_narrowing.specs.Flows.{IsSameVariable}
 use Rattle.flow_narrowing.specs.declared.flow.Variable.{Variable}
 use Rattle.operations.specs.Rows.{Surroundings}
-use Rattle.typed_bodies.proofs.Aside.{Stays, flow-stays, slot-stays, stays-on}
+use Rattle.typed_bodies.proofs.Aside.{Stays, flow-stays, set-sees, slot-stays, stays-on}
 use Rattle.typed_bodies.proofs.Onward.{Moved, Onward, moved-closes-choice, moved-flow-now, moved-sets-flow, moved-some, moved-then, onward-adds, onward-closes-block, onward-kind-slot, onward-new-slot, onward-some, onward-takes, onward-takes-part, onward-then}
 use Rattle.typed_needs.proofs.Placed.{last-same}
 use Rattle.typed_needs.specs.Between.{FlowIsStored}
 use Rattle.typed_stmts.proofs.Keeping.{set-stored}
 use Rattle.typed_stmts.proofs.Looping.{variable-seen, zip-last}
-use Rattle.typed_stmts.proofs.Words.{choice-closed, flow-changed, slot-put, want-taken}
+use Rattle.typed_stmts.proofs.Words.{choice-closed, flow-changed, flow-set, slot-put, want-taken}
 use Rattle.typed_tree.specs.Exprs.{type_of}
 use Rattle.typed_tree.specs.SharedTypes.{Shared}
 
@@ -88,6 +88,26 @@ moved-makes-range op at =
   where
     count-moves : (v : Variable) (op : RangeOp) (at : Place) → Moved (count_end v op at)
     count-moves v op at old new a x = let h = count-end v op at old new a x in h.moved
+
+-- behind the loop the variables are those of its head
+pub foreach-sees : (vs : List Variable) (at : Place) (old new : State) (c : ChoiceAtWork) → makes_foreach at old (Gives tt) new → IsLast old.choices c → IsFlowOf vs c.before → HandSees vs new
+unfolding ◌▷◌
+foreach-sees vs at old new c (v, s1, item, (d, s2, closed, (u, s3, flowed, rest))) last before =
+    let (w, hand, seen, e1) = variable-seen v old s1 item in
+    let (l, e2) = choice-closed d s1 s2 closed in
+    let one : d ≡ c = last-same old.choices d c (subst (λ (s : State). IsLast s.choices d) e1 l) last in
+    let here : IsFlowOf vs d.before = subst (λ (x : ChoiceAtWork). IsFlowOf vs x.before) (sym one) before in
+    (walk-end v at s3 new tt rest).sees vs (set-sees vs d.before s2 s3 (flow-set d.before u s2 s3 flowed) here)
+
+pub range-sees : (vs : List Variable) (op : RangeOp) (at : Place) (old new : State) (c : ChoiceAtWork) → makes_range op at old (Gives tt) new → IsLast old.choices c
+    → IsFlowOf vs c.before → HandSees vs new
+unfolding ◌▷◌
+range-sees vs op at old new c (v, s1, item, (d, s2, closed, (u, s3, flowed, rest))) last before =
+    let (w, hand, seen, e1) = variable-seen v old s1 item in
+    let (l, e2) = choice-closed d s1 s2 closed in
+    let one : d ≡ c = last-same old.choices d c (subst (λ (s : State). IsLast s.choices d) e1 l) last in
+    let here : IsFlowOf vs d.before = subst (λ (x : ChoiceAtWork). IsFlowOf vs x.before) (sym one) before in
+    (count-end v op at s3 new tt rest).sees vs (set-sees vs d.before s2 s3 (flow-set d.before u s2 s3 flowed) here)
 
 module _ (place : Surroundings) where
   -- behind the loop the flow is that of its head

@@ -11,12 +11,13 @@ use Rattle.bal_tree.specs.declared.stmt.Pattern.TheVariants as pattern
 use Rattle.bal_tree.specs.declared.stmt.Pattern.{Pattern}
 use Rattle.calm_needs.proofs.Calming.{on-beside}
 use Rattle.calm_needs.proofs.Ways.{flow-by-handles, flow-known, joined-stored}
-use Rattle.calm_needs.specs.Calm.{IsStoredAt}
+use Rattle.calm_needs.proofs.Flows.{join-of, of-handles, of-narrowed}
+use Rattle.calm_needs.specs.Calm.{HandSees, IsFlowOf, IsStoredAt}
 use Rattle.check_words.specs.Branches.{adds_pattern, begins_clause, begins_match, ends_clause, has_pattern, joins_all, makes_match, matched_as, meaning_pattern, place_of_value, seen_pattern, value_constant, with_no_clause}
 use Rattle.check_words.specs.Joins.{joins_from, narrows_to}
 use Rattle.check_words.specs.Seen.{Seen, SeenConstant, SeenLibrary, SeenMeaning, SeenNothing, SeenVariable, SeenWorker}
 use Rattle.check_words.specs.Sharing.{SameFlow, SameMatch}
-use Rattle.check_words.specs.State.{BlockAtWork, IsLast, MatchAtWork, State, all_but, replaced}
+use Rattle.check_words.specs.State.{BlockAtWork, IsLast, MatchAtWork, State, UnitAtWork, all_but, replaced}
 use Rattle.check_words.specs.Statements.{adds_stmt, takes_part}
 use Rattle.check_words.specs.StmtViews.{IsMatch}
 use Rattle.check_words.specs.Words.{Step, by_handles, fails, new_slot}
@@ -25,13 +26,14 @@ use Rattle.descriptors.specs.declared.names.Meaning.TheVariants as meaning
 use Rattle.descriptors.specs.declared.names.Meaning.{Meaning}
 use Rattle.descriptors.specs.declared.names.Names.{Names}
 use Rattle.flow_narrowing.specs.declared.flow.Flow.{Flow}
+use Rattle.flow_narrowing.specs.declared.flow.Variable.{Variable}
 use Rattle.needs.specs.Needs.{does}
 use Rattle.operations.specs.Rows.{Surroundings}
 use Rattle.operations.specs.declared.operation.Constant.{Constant}
 use Rattle.type_model.specs.Calls.{Asked}
 use Rattle.type_model.specs.declared.answers.TypeLimit.{TypeLimit}
 use Rattle.type_model.specs.declared.atoms.AtomDef.{AtomDef}
-use Rattle.typed_bodies.proofs.Aside.{Aside, Stays, aside-asking, aside-looks-up, aside-some, aside-then, flow-stays}
+use Rattle.typed_bodies.proofs.Aside.{Aside, IsAside, Stays, aside-asking, aside-looks-up, aside-some, aside-then, flow-stays, set-sees}
 use Rattle.typed_bodies.specs.Claims.{MatchIsKept}
 use Rattle.typed_bodies.proofs.Onward.{IsMoved, Onward, moved-on, moved-sets-flow, onward-adds, onward-new-slot, onward-takes-part, onward-then}
 use Rattle.typed_needs.proofs.Placed.{all-but-last, last-same}
@@ -77,6 +79,44 @@ module _ (place : Surroundings) where
       (All-cons (FlowIsStored place) (matched_as m.on m.left m.before) [] (matched-stored m.on m.left m.before h.before) (All-nil (FlowIsStored place)))
   with-no-clause false m h = h.ends
 
+-- ---- and of the same variables
+
+-- what is known before a match, and behind its clauses, is of these variables
+pub record MatchOf (vs : List Variable) (m : MatchAtWork) : Type 0 where
+  pub before : IsFlowOf vs m.before
+  pub ends : All (IsFlowOf vs) m.ends
+
+module _ (vs : List Variable) where
+  flows-of : (fs gs : List Flow) → AllZip SameFlow fs gs → All (IsFlowOf vs) fs → All (IsFlowOf vs) gs
+  flows-of [] [] same h = All-nil (IsFlowOf vs)
+  flows-of (f ∷ fs) (g ∷ gs) same h =
+      All-cons (IsFlowOf vs) g gs (of-handles vs f g same.0 (All-head (IsFlowOf vs) f fs h)) (flows-of fs gs same.1 (All-tail (IsFlowOf vs) f fs h))
+  flows-of [] (g ∷ gs) same h = absurd same
+  flows-of (f ∷ fs) [] same h = absurd same
+
+  match-of-handles : (m n : MatchAtWork) → SameMatch m n → MatchOf vs m → MatchOf vs n
+  match-of-handles m n same h = record { before = of-handles vs m.before n.before same.before h.before; ends = flows-of m.ends n.ends same.ends h.ends }
+
+  matched-of : (on : Option Name) (t : Shared) (f : Flow) → IsFlowOf vs f → IsFlowOf vs (matched_as on t f)
+  matched-of None t f h = h
+  matched-of (Some name) t f h = of-narrowed vs f.variables name (Some t) h
+
+  joins-of : (f : Flow) (gs : List Flow) (r : Flow) (old new : State) → joins_from f gs old (Gives r) new → IsFlowOf vs f → IsFlowOf vs r
+  unfolding ◌▷◌ gives_some
+  joins-of f [] r old new (is, e) h = subst (λ x. IsFlowOf vs x) (sym is) h
+  joins-of f (g ∷ gs) r old new (x, mid, (join, e), rest) h = joins-of x gs r mid new rest (join-of vs old.atoms f g x join h)
+
+  all-of : (before : Flow) (fs : List Flow) (r : Flow) (old new : State) → joins_all before fs old (Gives r) new → IsFlowOf vs before → All (IsFlowOf vs) fs → IsFlowOf vs r
+  unfolding gives_some
+  all-of before [] r old new (is, e) h all = subst (λ x. IsFlowOf vs x) (sym is) h
+  all-of before (f ∷ fs) r old new x h all = joins-of f fs r old new x (All-head (IsFlowOf vs) f fs all)
+
+  no-clause-of : (left : Bool) (m : MatchAtWork) → MatchOf vs m → All (IsFlowOf vs) (with_no_clause left m)
+  no-clause-of true m h =
+      All-append (IsFlowOf vs) m.ends (matched_as m.on m.left m.before ∷ []) h.ends
+      (All-cons (IsFlowOf vs) (matched_as m.on m.left m.before) [] (matched-of m.on m.left m.before h.before) (All-nil (IsFlowOf vs)))
+  no-clause-of false m h = h.ends
+
 -- ---- the match at hand changes, and more is known by now
 
 -- `kept`: the matches around it
@@ -90,6 +130,8 @@ pub record IsOnMatch (kept : List MatchAtWork) (was : MatchAtWork) (old new : St
   pub clauses : now.clauses ≡ was.clauses
   pub known : (place : Surroundings) → MatchIsKept place was → MatchIsKept place now
   pub stored : (place : Surroundings) → MatchIsKept place was → IsStoredAt place old → IsStoredAt place new
+  pub seen : (vs : List Variable) → MatchOf vs was → MatchOf vs now
+  pub sees : (vs : List Variable) → MatchOf vs was → HandSees vs old → HandSees vs new
 
 abbrev pub OnMatch : {A : Type 0} → Check State A → Type 0
 OnMatch {A} m = (kept : List MatchAtWork) (was : MatchAtWork) (old new : State) (a : A) → old.matches ≡ kept ++ was ∷ [] → m old (Gives a) new → IsOnMatch kept was old new
@@ -106,27 +148,30 @@ on-match-on kept was r s t f g =
       clauses = g.clauses ∙ f.clauses;
       known = λ place h. g.known place (f.known place h);
       stored = λ place h stored. g.stored place (f.known place h) (f.stored place h stored);
+      seen = λ vs h. g.seen vs (f.seen vs h);
+      sees = λ vs h hand. g.sees vs (f.seen vs h) (f.sees vs h hand);
     }
 
-on-match-aside : (kept : List MatchAtWork) (was : MatchAtWork) (r s t : State) → Stays r s → ((place : Surroundings) → IsStoredAt place r → IsStoredAt place s)
-    → IsOnMatch kept was s t → IsOnMatch kept was r t
-on-match-aside kept was r s t f keeps g =
+on-match-aside : (kept : List MatchAtWork) (was : MatchAtWork) (r s t : State) → IsAside r s → IsOnMatch kept was s t → IsOnMatch kept was r t
+on-match-aside kept was r s t f g =
     record {
-      moved = moved-on r s t (record { on = f.on; site = f.site }) g.moved;
-      found = g.found ∙ f.found;
-      blocks = g.blocks ∙ f.blocks;
-      choices = g.choices ∙ f.choices;
+      moved = moved-on r s t (record { on = f.stays.on; site = f.stays.site }) g.moved;
+      found = g.found ∙ f.stays.found;
+      blocks = g.blocks ∙ f.stays.blocks;
+      choices = g.choices ∙ f.stays.choices;
       now = g.now;
       matches = g.matches;
       clauses = g.clauses;
       known = g.known;
-      stored = λ place h stored. g.stored place h (keeps place stored);
+      stored = λ place h stored. g.stored place h (f.stored place stored);
+      seen = g.seen;
+      sees = λ vs h hand. g.sees vs h (f.sees vs hand);
     }
 
 behind-aside : {A B : Type 0} (m : Check State A) (next : A → Check State B) → Aside m → ((a : A) → OnMatch (next a)) → OnMatch (m ▷ next)
 unfolding ◌▷◌
 behind-aside m next f g kept was old new b e (a, mid, x, y) =
-    let p = f old mid a x in on-match-aside kept was old mid new p.stays p.stored (g a kept was mid new b (p.stays.matches ∙ e) y)
+    let p = f old mid a x in on-match-aside kept was old mid new p (g a kept was mid new b (p.stays.matches ∙ e) y)
 
 on-match-fails : {A : Type 0} (code : FaultCode) (at : Place) → OnMatch (fails {A = A} code at)
 unfolding refuses
@@ -147,6 +192,9 @@ set-match kept was m n old new e same all clauses before ends =
       known = λ place h. match-by-handles place m n same
           (record { before = subst (λ f. FlowIsStored place f) (sym before) h.before; ends = subst (λ fs. All (FlowIsStored place) fs) (sym ends) h.ends });
       stored = λ place h stored. stored-beside place old new (ap (λ (s : State). s.units) all) (inl (ap (λ (s : State). s.ways) all)) stored;
+      seen = λ vs h. match-of-handles vs m n same
+          (record { before = subst (λ f. IsFlowOf vs f) (sym before) h.before; ends = subst (λ fs. All (IsFlowOf vs) fs) (sym ends) h.ends });
+      sees = λ vs h hand u last. hand u (subst (λ us. IsLast us u) (ap (λ (s : State). s.units) all) last);
     }
 
 adds-pattern : (c : Option Constant) (at : Place) → OnMatch (adds_pattern c at)
@@ -179,8 +227,8 @@ on-match-pattern names (pattern.Name q) = behind-aside _ _ (aside-looks-up names
 -- ---- clauses that begin: the flow before the match comes back, and more is known of what is matched
 
 flow-on : (kept : List MatchAtWork) (was : MatchAtWork) (f : Flow) (old new : State) → old.matches ≡ kept ++ was ∷ [] → Stays old new
-    → ((place : Surroundings) → MatchIsKept place was → IsStoredAt place new) → IsOnMatch kept was old new
-flow-on kept was f old new e stays stored =
+    → ((place : Surroundings) → MatchIsKept place was → IsStoredAt place new) → ((vs : List Variable) → MatchOf vs was → HandSees vs new) → IsOnMatch kept was old new
+flow-on kept was f old new e stays stored sees =
     record {
       moved = record { on = stays.on; site = stays.site };
       found = stays.found;
@@ -191,6 +239,8 @@ flow-on kept was f old new e stays stored =
       clauses = refl;
       known = λ place h. h;
       stored = λ place h before. stored place h;
+      seen = λ vs h. h;
+      sees = λ vs h hand. sees vs h;
     }
 
 module _ (passes : List AtomDef → Asked → TypeLimit → Type 0) where
@@ -205,6 +255,7 @@ module _ (passes : List AtomDef → Asked → TypeLimit → Type 0) where
       let stays : Stays old new = subst (λ (s : State). Stays s new) e1 (flow-stays (λ w. f) s1 new (flow-set f u s1 new flowed)) in
       flow-on kept was f old new e stays
       (λ place h. set-stored place f u s1 new flowed (matched-stored place m.on m.left m.before (subst (λ (x : MatchAtWork). FlowIsStored place x.before) (sym is) h.before)))
+      (λ vs h. set-sees vs f s1 new (flow-set f u s1 new flowed) (matched-of vs m.on m.left m.before (subst (λ (x : MatchAtWork). IsFlowOf vs x.before) (sym is) h.before)))
   on-match-clause false kept was old new u e (m, s1, (last, e1), (t, s2, (one, e2), (types, s3, narrowed, (v, s4, (n, s5, (same, e5), e4), flowed)))) =
       let is : m ≡ was = last-same old.matches m was last (record { kept = kept; is = e }) in
       let first = aside-narrows m.left t m.at s2 s3 types narrowed in
@@ -214,7 +265,7 @@ module _ (passes : List AtomDef → Asked → TypeLimit → Type 0) where
       (e4 ∙ ap (λ (s : State). record s { matches = replaced s.matches n }) e5) (ap (λ (x : MatchAtWork). x.clauses) is) (ap (λ (x : MatchAtWork). x.before) is)
       (ap (λ (x : MatchAtWork). x.ends) is) in
       let so : IsOnMatch kept was old s4 =
-      subst (λ (s : State). IsOnMatch kept was s s4) there (on-match-aside kept was s2 s3 s4 first.stays first.stored put) in
+      subst (λ (s : State). IsOnMatch kept was s s4) there (on-match-aside kept was s2 s3 s4 first put) in
       let f : Flow = matched_as m.on types.0 m.before in
       let stays : Stays s4 new = flow-stays (λ w. f) s4 new (flow-set f u s4 new flowed) in
       record {
@@ -228,6 +279,9 @@ module _ (passes : List AtomDef → Asked → TypeLimit → Type 0) where
         known = so.known;
         stored = λ place h before.
             set-stored place f u s4 new flowed (matched-stored place m.on types.0 m.before (subst (λ (x : MatchAtWork). FlowIsStored place x.before) (sym is) h.before));
+        seen = so.seen;
+        sees = λ vs h hand.
+            set-sees vs f s4 new (flow-set f u s4 new flowed) (matched-of vs m.on types.0 m.before (subst (λ (x : MatchAtWork). IsFlowOf vs x.before) (sym is) h.before));
       }
 
 -- ---- matches that begin
@@ -237,6 +291,7 @@ pub record MatchBegun (old new : State) : Type 0 where
   pub all : new ≡ record old { matches = old.matches ++ begun ∷ []; ways = None }
   pub clauses : begun.clauses ≡ []
   pub known : (place : Surroundings) → AreStored place old → MatchIsKept place begun
+  pub seen : (vs : List Variable) → HandSees vs old → MatchOf vs begun
 
 pub match-begins-so : (name : Option QualifiedName) (at : Place) (old new : State) → begins_match name at old (Gives tt) new → MatchBegun old new
 unfolding ◌▷◌ gives_some by_handles does
@@ -249,6 +304,9 @@ match-begins-so name at old new (e, s1, (last, e1), (f, s2, seen, (n, s3, (same,
       known = λ place h.
           let flow = (flow-known place f s1 s2 seen (subst (λ (s : State). AreStored place s) (sym e1) h)).0 in
           match-by-handles place _ n same (record { before = flow; ends = All-nil (FlowIsStored place) });
+      seen = λ vs h.
+          let here : IsFlowOf vs w.flow = h w (subst (λ (s : State). IsLast s.units w) e1 hand) in
+          match-of-handles vs _ n same (record { before = subst (λ (g : Flow). IsFlowOf vs g) (sym is) here; ends = All-nil (IsFlowOf vs) });
     }
 
 -- ---- clauses that end: the block at hand is theirs, and what is known behind it waits for the end of the match
@@ -263,6 +321,7 @@ pub record ClauseEnded (kept : List MatchAtWork) (was : MatchAtWork) (old new : 
   pub matches : new.matches ≡ kept ++ now ∷ []
   pub clauses : now.clauses ≡ was.clauses ++ clause ∷ []
   pub known : (place : Surroundings) → AreStored place old → MatchIsKept place was → MatchIsKept place now
+  pub seen : (vs : List Variable) → HandSees vs old → MatchOf vs was → MatchOf vs now
 
 pub clause-ended : (at : Place) (kept : List MatchAtWork) (was : MatchAtWork) (old new : State) → old.matches ≡ kept ++ was ∷ [] → ends_clause at old (Gives tt) new
     → ClauseEnded kept was old new
@@ -291,6 +350,14 @@ clause-ended at kept was old new e (f, s1, seen, (b, s2, closed, (m, s3, (lm, e3
             ends = All-append (FlowIsStored place) m.ends (f ∷ []) (subst (λ (x : MatchAtWork). All (FlowIsStored place) x.ends) (sym is) k.ends)
                 (All-cons (FlowIsStored place) f [] flow (All-nil (FlowIsStored place)));
           });
+      seen = λ vs h k.
+          let flow : IsFlowOf vs f = subst (λ (g : Flow). IsFlowOf vs g) (sym flow-is) (h w hand) in
+          match-of-handles vs _ n same
+          (record {
+            before = subst (λ (x : MatchAtWork). IsFlowOf vs x.before) (sym is) k.before;
+            ends = All-append (IsFlowOf vs) m.ends (f ∷ []) (subst (λ (x : MatchAtWork). All (IsFlowOf vs) x.ends) (sym is) k.ends)
+                (All-cons (IsFlowOf vs) f [] flow (All-nil (IsFlowOf vs)));
+          });
     }
 
 -- ---- what is made of a match
@@ -305,6 +372,7 @@ match-end cs at = onward-then _ _ onward-takes-part (λ subject. onward-then _ _
 pub record MatchMade (was : MatchAtWork) (old new : State) : Type 0 where
   pub moved : IsMoved old new
   pub stored : (place : Surroundings) → MatchIsKept place was → IsStoredAt place new
+  pub sees : (vs : List Variable) → MatchOf vs was → HandSees vs new
 
 pub match-made : (passes : List AtomDef → Asked → TypeLimit → Type 0) (any : Bool) (at : Place) (was : MatchAtWork) (old new : State) → makes_match passes any at old (Gives tt) new
     → IsLast old.matches was → MatchMade was old new
@@ -323,4 +391,7 @@ match-made passes any at was old new (m, s1, closed, (left, s2, asked, (f, s3, j
       stored = λ place k.
           let k' : MatchIsKept place m = subst (λ (x : MatchAtWork). MatchIsKept place x) (sym is) k in
           h.stored place (set-stored place f u s3 s4 flowed (all-known place m.before (with_no_clause left m) f s2 s3 joined k'.before (with-no-clause place left m k')));
+      sees = λ vs k.
+          let k' : MatchOf vs m = subst (λ (x : MatchAtWork). MatchOf vs x) (sym is) k in
+          h.sees vs (set-sees vs f s3 s4 (flow-set f u s3 s4 flowed) (all-of vs m.before (with_no_clause left m) f s2 s3 joined k'.before (no-clause-of vs left m k')));
     }

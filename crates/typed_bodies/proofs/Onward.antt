@@ -6,10 +6,12 @@ use Rattle.bal_tree.specs.declared.name.QualifiedName.{QualifiedName}
 use Rattle.bal_tree.specs.declared.name.Word.{Word}
 use Rattle.bal_tree.specs.declared.stmt.AssignOp.{AssignOp}
 use Rattle.calm_needs.proofs.Calming.{calm-new-slot, on-beside, on-on}
-use Rattle.calm_needs.specs.Calm.{IsCalm, IsStoredAt, StaysOn}
+use Rattle.calm_needs.proofs.Flows.{hand-on, of-narrowed}
+use Rattle.calm_needs.specs.Calm.{HandSees, IsCalm, IsFlowOf, IsStoredAt, StaysOn}
 use Rattle.check_words.specs.Branches.{has_item, kind_slot}
 use Rattle.check_words.specs.Members.{read_of, takes_access}
-use Rattle.check_words.specs.State.{State, outside, with_type}
+use Rattle.check_words.specs.State.{IsLast, State, with_type}
+use Rattle.flow_narrowing.specs.declared.flow.Variable.{Variable}
 use Rattle.check_words.specs.Statements.{stops, Assigned, AssignsModule, AssignsVariable, adds_stmt, assigned_by, assigns, assigns_to, begins_block, breaks, closes_block, continues, declares, ends_block, makes_block, performs, result_fits, returns, returns_nil, stores, takes_operator, takes_part, takes_want, updates, updates_assigned, updates_element, updates_field, updates_member, updates_name}
 use Rattle.check_words.specs.Words.{Atoms, asking, becomes, flow_now, changes_flow, closes_choice, new_slot, sets_flow, takes, wants_no_more}
 use Rattle.checks.specs.Checks.{Check, Gives, gives_some, ◌▷◌}
@@ -24,7 +26,7 @@ use Rattle.type_model.specs.declared.atoms.AtomDef.{AtomDef}
 use Rattle.typed_bodies.proofs.Aside.{Aside, aside-asking, aside-changes, aside-flow-now, aside-some, aside-stops, flow-stays}
 use Rattle.typed_needs.proofs.Questions.{AddsBehind, below-behind}
 use Rattle.typed_needs.specs.Between.{FlowIsStored}
-use Rattle.typed_stmts.proofs.Keeping.{by-name, first-ones, stored-beside}
+use Rattle.typed_stmts.proofs.Keeping.{by-name, stored-beside}
 use Rattle.typed_stmts.proofs.Words.{flow-changed, flow-set, slot-put}
 use Rattle.typed_tree.specs.SharedTypes.{Shared}
 use Rattle.typed_tree.specs.declared.expr.TypedExpr.{TypedExpr}
@@ -43,6 +45,8 @@ pub record IsMoved (old new : State) : Type 0 where
 pub record IsOnward (old new : State) : Type 0 where
   pub moved : IsMoved old new
   pub stored : (place : Surroundings) → IsStoredAt place old → IsStoredAt place new
+  -- and the same are seen in the unit at hand
+  pub sees : (vs : List Variable) → HandSees vs old → HandSees vs new
 
 pub moved-on : (r s t : State) → IsMoved r s → IsMoved s t → IsMoved r t
 moved-on r s t f g = record { on = on-on r s t f.on g.on; site = g.site ∙ f.site }
@@ -63,13 +67,13 @@ pub onward-then : {A B : Type 0} (m : Check State A) (next : A → Check State B
 unfolding ◌▷◌
 onward-then m next f g old new b (a, mid, x, y) =
     let p = f old mid a x in let q = g a mid new b y in
-    record { moved = moved-on old mid new p.moved q.moved; stored = λ place h. q.stored place (p.stored place h) }
+    record { moved = moved-on old mid new p.moved q.moved; stored = λ place h. q.stored place (p.stored place h); sees = λ vs h. q.sees vs (p.sees vs h) }
 
 pub as-moved : {A : Type 0} (m : Check State A) → Onward m → Moved m
 as-moved m f old new a x = (f old new a x).moved
 
 pub as-onward : {A : Type 0} (m : Check State A) → Aside m → Onward m
-as-onward m f old new a x = let h = f old new a x in record { moved = record { on = h.stays.on; site = h.stays.site }; stored = h.stored }
+as-onward m f old new a x = let h = f old new a x in record { moved = record { on = h.stays.on; site = h.stays.site }; stored = h.stored; sees = h.sees }
 
 pub onward-some : {A : Type 0} (P : State → A → Type 0) → Onward (gives_some P)
 onward-some P = as-onward (gives_some P) (aside-some P)
@@ -77,8 +81,9 @@ onward-some P = as-onward (gives_some P) (aside-some P)
 onward-asking : {A : Type 0} (q : Check Atoms A) → AddsBehind q → Onward (asking q)
 onward-asking q behind = as-onward (asking q) (aside-asking q behind)
 
-onward-changes : (change : Flow → Flow) → ((place : Surroundings) (f : Flow) → FlowIsStored place f → FlowIsStored place (change f)) → Onward (changes_flow change)
-onward-changes change keeps = as-onward (changes_flow change) (aside-changes change keeps)
+onward-changes : (change : Flow → Flow) → ((place : Surroundings) (f : Flow) → FlowIsStored place f → FlowIsStored place (change f))
+    → ((vs : List Variable) (f : Flow) → IsFlowOf vs f → IsFlowOf vs (change f)) → Onward (changes_flow change)
+onward-changes change keeps same = as-onward (changes_flow change) (aside-changes change keeps same)
 
 onward-flow-now : Onward flow_now
 onward-flow-now = as-onward flow_now aside-flow-now
@@ -89,7 +94,11 @@ onward-stops = as-onward stops aside-stops
 -- the same units, and no ways but those that were there
 pub onward-beside : (s t : State) → t.atoms ≡ s.atoms → t.units ≡ s.units → t.site ≡ s.site → (t.ways ≡ s.ways) ⊎ (t.ways ≡ None) → IsOnward s t
 onward-beside s t atoms units site ways =
-    record { moved = record { on = on-beside s t atoms units; site = site }; stored = λ place h. stored-beside place s t units ways h }
+    record {
+      moved = record { on = on-beside s t atoms units; site = site };
+      stored = λ place h. stored-beside place s t units ways h;
+      sees = λ vs h u last. h u (subst (λ us. IsLast us u) units last);
+    }
 
 onward-becomes : (change : State → State) → ((s : State) → IsOnward s (change s)) → Onward (becomes change)
 unfolding does
@@ -106,7 +115,7 @@ onward-takes-part = onward-then _ _ (onward-some _) (λ e. onward-then _ _ (onwa
 onward-no-more : (count : ℕ) → Onward (wants_no_more count)
 onward-no-more count = onward-becomes _ (λ s. onward-beside s _ refl refl refl (inl refl))
 
-onward-takes-want : Onward takes_want
+pub onward-takes-want : Onward takes_want
 onward-takes-want = onward-then _ _ (onward-some _) (λ t. onward-then _ _ (onward-no-more 1) (λ u. onward-some _))
 
 onward-takes-access : Onward takes_access
@@ -129,7 +138,7 @@ pub onward-new-slot : (t : Shared) → Onward (new_slot t)
 onward-new-slot t old new own met =
     let c : IsCalm old new = calm-new-slot t old new own met in
     let (s, is) = slot-put t own old new met in
-    record { moved = record { on = c.on; site = ap (λ (x : State). x.site) s.all }; stored = c.stored }
+    record { moved = record { on = c.on; site = ap (λ (x : State). x.site) s.all }; stored = c.stored; sees = λ vs h. hand-on vs old new c.keeps.flows h }
 
 pub onward-kind-slot : (k : Kind) → Onward (kind_slot k)
 onward-kind-slot k = onward-then _ _ (onward-some _) (λ t. onward-new-slot t)
@@ -165,13 +174,9 @@ onward-makes-block at = onward-then _ _ onward-closes-block (λ b. onward-adds _
 pub onward-begins-block : Onward begins_block
 onward-begins-block = onward-then _ _ (onward-flow-now) (λ f. onward-becomes _ (λ s. onward-beside s _ refl refl refl (inl refl)))
 
-pub onward-ends-block : Onward ends_block
-onward-ends-block =
-    onward-then _ _ (onward-some _) (λ b. onward-changes (outside b.scope) (λ place f h. first-ones place b.scope f.variables h))
-
 -- a variable gets its declared type back
 onward-retypes : (name : Name) → Onward (changes_flow (with_type name None))
-onward-retypes name = onward-changes (with_type name None) (λ place f h. by-name place f.variables name None h)
+onward-retypes name = onward-changes (with_type name None) (λ place f h. by-name place f.variables name None h) (λ vs f h. of-narrowed vs f.variables name None h)
 
 onward-assigns-to : (a : Assigned) (value : TypedExpr) (at : Place) → Onward (assigns_to a value at)
 onward-assigns-to (AssignsVariable v) value at = onward-then _ _ (onward-retypes v.name) (λ u. onward-adds _)

@@ -69,12 +69,12 @@ module _ (passes : List AtomDef → Asked → TypeLimit → Type 0) where
 -- ---- the name of a field
 
 -- a key that stands for no expression, of which there are no units
-record FieldPut (old new : State) : Type 0 where
+pub record FieldPut (old new : State) : Type 0 where
   pub part : TypedExpr
   pub none : units_in (part ∷ []) ≡ []
   pub all : new ≡ record old { found = old.found ++ part ∷ []; ways = None; accesses = old.accesses ++ Key ∷ [] }
 
-field-put : (w : Word) (old new : State) → has_field w old (Gives tt) new → FieldPut old new
+pub field-put : (w : Word) (old new : State) → has_field w old (Gives tt) new → FieldPut old new
 unfolding ◌▷◌ does
 field-put w old new (u, a, given, e2) =
     let (e, t, single, view, e1) = key-given w.name w.at u old a given in
@@ -85,7 +85,7 @@ field-put w old new (u, a, given, e2) =
           ∙ ap (λ xs. record old { found = xs ++ e ∷ []; ways = None; accesses = old.accesses ++ Key ∷ [] }) (all-stay old.found);
     }
 
-field-onward : (old new : State) → FieldPut old new → IsOnward old new
+pub field-onward : (old new : State) → FieldPut old new → IsOnward old new
 field-onward old new p = subst (λ (s : State). IsOnward old s) (sym p.all) (onward-beside old _ refl refl refl (inr refl))
 
 module _ (passes : List AtomDef → Asked → TypeLimit → Type 0) (names : Names) (env : List AtomDef) (place : Surroundings) (Can : State → Type 0) (can : (s t : State) → StaysIn s t → Can s → Can t) where

@@ -31,10 +31,10 @@ slots-long : (ts us : List Shared) → AllZip SameShared ts us → length us ≡
 slots-long ts us h = sym (length-map us sem_of) ∙ ap (λ (xs : List SemType). length xs) (types-same ts us h) ∙ length-map ts sem_of
 
 -- the variables of a unit are in its slots
-abbrev AreIn : Surroundings → UnitAtWork → Type 0
+abbrev pub AreIn : Surroundings → UnitAtWork → Type 0
 AreIn place u = All (InSlots place (map sem_of u.slots)) u.flow.variables
 
-by-handles : (place : Surroundings) (u v : UnitAtWork) → SameUnit u v → AreIn place u → AreIn place v
+pub by-handles : (place : Surroundings) (u v : UnitAtWork) → SameUnit u v → AreIn place u → AreIn place v
 by-handles place u v same h =
     let slots : map sem_of v.slots ≡ map sem_of u.slots = types-same u.slots v.slots same.slots in
     subst (λ xs. All (InSlots place xs) v.flow.variables) (sym slots)
@@ -48,10 +48,11 @@ pub record IsOpen (place : Surroundings) (base s : State) : Type 0 where
   pub stored : AreIn place unit
   pub found : s.found ≡ base.found
   pub ways : s.ways ≡ None
+  pub choices : s.choices ≡ base.choices
 
 pub open-beside : (place : Surroundings) (base s t : State) → IsBeside s t → IsOpen place base s → IsOpen place base t
 open-beside place base s t b h =
-    record { unit = h.unit; units = b.units ∙ h.units; params = h.params; stored = h.stored; found = b.found ∙ h.found; ways = b.ways ∙ h.ways }
+    record { unit = h.unit; units = b.units ∙ h.units; params = h.params; stored = h.stored; found = b.found ∙ h.found; ways = b.ways ∙ h.ways; choices = b.choices ∙ h.choices }
 
 -- ---- where it begins
 
@@ -68,6 +69,7 @@ begun place base new (around, s1, (last, e1), (n, s2, numbered, (v, s3, (same, e
       stored = same-stored (record place { slots = map sem_of v.slots }) [] v.flow.variables same.flow.variables (All-nil _);
       found = ap (λ (s : State). s.found) is ∙ beside.found;
       ways = ap (λ (s : State). s.ways) is;
+      choices = ap (λ (s : State). s.choices) is ∙ beside.choices;
     }
 
 -- ---- parameters
@@ -111,6 +113,7 @@ one-more place base old new u next a h last more set =
       stored = by-handles place next v same (more-in place u next more stored);
       found = ap (λ (s : State). s.found) is ∙ h.found;
       ways = ap (λ (s : State). s.ways) is ∙ h.ways;
+      choices = ap (λ (s : State). s.choices) is ∙ h.choices;
     }
 
 pub parameter-had : (place : Surroundings) (base old new : State) (w : Word) → IsOpen place base old → has_parameter w old (Gives tt) new → IsOpen place base new
@@ -150,6 +153,7 @@ pub record HasBegun (place : Surroundings) (base new : State) : Type 0 where
   pub stored : AreIn place unit
   pub found : new.found ≡ base.found
   pub ways : new.ways ≡ None
+  pub choices : new.choices ≡ base.choices
 
 captured-so : (place : Surroundings) (u : UnitAtWork) (cs : List Capture) (t : Shared) → AreIn place u → AreIn place (with_captured cs t u)
 captured-so place u cs t h =
@@ -190,4 +194,5 @@ value-begun place base old new uses h (t, s1, (want, e1), (around, s2, (last, e2
       stored = by-handles place (with_captured cs t unit) v same (captured-so place unit cs t stored);
       found = ap (λ (s : State). s.found) is ∙ beside.found ∙ h.found;
       ways = ap (λ (s : State). s.ways) is ∙ beside.ways ∙ h.ways;
+      choices = ap (λ (s : State). s.choices) is ∙ beside.choices ∙ h.choices;
     }

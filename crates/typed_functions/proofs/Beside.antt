@@ -15,17 +15,18 @@ use Rattle.check_words.specs.Values.{describes}
 use Rattle.check_words.specs.Words.{Atoms, asking, becomes, by_handles, done, fails, sets_unit, wants as wanting, wants_no_more}
 use Rattle.typed_needs.proofs.Strict.{never}
 
--- the same units and parts, and the same is known of ways
+-- the same units, parts and choices, and the same is known of ways
 pub record IsBeside (old new : State) : Type 0 where
   pub units : new.units ≡ old.units
   pub found : new.found ≡ old.found
   pub ways : new.ways ≡ old.ways
+  pub choices : new.choices ≡ old.choices
 
 pub beside-same : (old new : State) → new ≡ old → IsBeside old new
-beside-same old new is = record { units = ap (λ (s : State). s.units) is; found = ap (λ (s : State). s.found) is; ways = ap (λ (s : State). s.ways) is }
+beside-same old new is = record { units = ap (λ (s : State). s.units) is; found = ap (λ (s : State). s.found) is; ways = ap (λ (s : State). s.ways) is; choices = ap (λ (s : State). s.choices) is }
 
 pub beside-on : (a b c : State) → IsBeside a b → IsBeside b c → IsBeside a c
-beside-on a b c f g = record { units = g.units ∙ f.units; found = g.found ∙ f.found; ways = g.ways ∙ f.ways }
+beside-on a b c f g = record { units = g.units ∙ f.units; found = g.found ∙ f.found; ways = g.ways ∙ f.ways; choices = g.choices ∙ f.choices }
 
 -- ---- checks
 
@@ -50,18 +51,18 @@ beside-handles Same a old new b (x, e) = beside-same old new e
 
 pub beside-asking : {A : Type 0} (q : Check Atoms A) → Beside (asking q)
 unfolding asks
-beside-asking q old new a (asked, e) = record { units = ap (λ (s : State). s.units) e; found = ap (λ (s : State). s.found) e; ways = ap (λ (s : State). s.ways) e }
+beside-asking q old new a (asked, e) = record { units = ap (λ (s : State). s.units) e; found = ap (λ (s : State). s.found) e; ways = ap (λ (s : State). s.ways) e; choices = ap (λ (s : State). s.choices) e }
 
 -- ---- words
 
 beside-wants : (w : Option Shared) → Beside (wanting w)
-beside-wants w = beside-then _ _ (beside-handles _ _) (λ x. beside-becomes _ (λ s. record { units = refl; found = refl; ways = refl }))
+beside-wants w = beside-then _ _ (beside-handles _ _) (λ x. beside-becomes _ (λ s. record { units = refl; found = refl; ways = refl; choices = refl }))
 
 pub beside-no-more : (count : ℕ) → Beside (wants_no_more count)
-beside-no-more count = beside-becomes _ (λ s. record { units = refl; found = refl; ways = refl })
+beside-no-more count = beside-becomes _ (λ s. record { units = refl; found = refl; ways = refl; choices = refl })
 
 pub beside-number : Beside new_number
-beside-number = beside-then _ _ (beside-some _) (λ n. beside-then _ _ (beside-becomes _ (λ s. record { units = refl; found = refl; ways = refl })) (λ u. beside-some _))
+beside-number = beside-then _ _ (beside-some _) (λ n. beside-then _ _ (beside-becomes _ (λ s. record { units = refl; found = refl; ways = refl; choices = refl })) (λ u. beside-some _))
 
 pub beside-new : (w : Word) → Beside (is_new w)
 beside-new w = beside-then _ _ (beside-some _) (λ b. by b)

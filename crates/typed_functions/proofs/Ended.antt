@@ -22,6 +22,7 @@ pub record HasEnded (isolated : Bool) (at : Place) (old new : State) : Type 0 wh
   pub atoms : new.atoms ≡ old.atoms ++ more
   pub units : new.units ≡ all_but 1 old.units
   pub ways : new.ways ≡ None
+  pub choices : new.choices ≡ old.choices
   pub value : TypedExpr
   pub last : IsLast old.found value
   pub part : TypedExpr
@@ -50,6 +51,7 @@ ended isolated at old new (v, s1, e1, (u, s4, (w, s2, (last, e2), (x, s3, e3, (i
       atoms = ap (λ (s : State). s.atoms) made ∙ atoms ∙ ap (λ (xs : List AtomDef). xs ++ defs) atoms-4;
       units = ap (λ (s : State). s.units) made ∙ ap (λ (s : State). s.units) e5 ∙ units-4;
       ways = ap (λ (s : State). s.ways) made;
+      choices = ap (λ (s : State). s.choices) made ∙ ap (λ (s : State). s.choices) e5 ∙ ap (λ (s : State). s.choices) to-4 ∙ ap (λ (s : State). s.choices) e2 ∙ ap (λ (s : State). s.choices) e1;
       value = value;
       last = record { kept = lasts.kept; is = lasts.is };
       part = e;

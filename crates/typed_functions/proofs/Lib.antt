@@ -1,6 +1,6 @@
-mod Begun
-mod Beside
-mod Captures
-mod Ended
-mod Line
-mod Signatures
+pub mod Begun
+pub mod Beside
+pub mod Captures
+pub mod Ended
+pub mod Line
+pub mod Signatures

@@ -61,7 +61,7 @@ none-more [] e = refl
 none-more (x ∷ xs) e = absurd (omega (arith, e))
 
 -- where the last one is another one, those before it are the same
-others-same : (us vs : List UnitAtWork) → OnUnits us 0 vs → all_but 1 vs ≡ all_but 1 us
+pub others-same : (us vs : List UnitAtWork) → OnUnits us 0 vs → all_but 1 vs ≡ all_but 1 us
 others-same us vs on =
     let is : vs ≡ on.kept ++ on.now ∷ [] =
     on.on.is ∙ ap (λ xs. (on.kept ++ on.now ∷ []) ++ xs) (none-more on.on.more on.on.many) ∙ append-nil (on.kept ++ on.now ∷ []) in

@@ -83,7 +83,7 @@ module _ (made : MadeStatementsAreTyped) (passes : List AtomDef → Asked → Ty
   only-nil (Function isolated graph) i = absurd i
   only-nil (Future' _ results) i = absurd i
 
-  nil-below : (old : State) (w : UnitAtWork) (nil : Ty) → IsBefore env old → IsPlaced place old → IsLast old.units w → OfKind kind.Nothing old.atoms nil
+  pub nil-below : (old : State) (w : UnitAtWork) (nil : Ty) → IsBefore env old → IsPlaced place old → IsLast old.units w → OfKind kind.Nothing old.atoms nil
       → Sub old.atoms nil.sem (sem_of w.result) → Sub env nil_type place.result
   nil-below old w nil before placed last nothing under x valid i =
       let unit : UnitBelow (length old.atoms) w = last-has (UnitBelow (length old.atoms)) old.units w last before.stands.units in
