@@ -1,0 +1,3 @@
+mod Listed
+mod Trees
+mod Values
