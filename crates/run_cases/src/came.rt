@@ -1,9 +1,10 @@
 //! What comes of a call, and whether it is what is wanted.
 ghost use Rattle.std.specs.Prelude.{◌≡◌, ◌↔◌, IfOk, IsTrue};
 ghost use Rattle.run_cases.specs.Came.{IsCameOf, IsSeenOf};
-ghost use Rattle.run_cases.specs.Wanted.{AsWanted, AreCountsWanted, IsCountWanted, IsDirWanted};
+ghost use Rattle.run_cases.specs.Wanted.{AsWanted, AreCountsWanted, IsCountWanted, IsDirWanted, IsTextWanted};
+ghost use Rattle.bal_io.specs.Content.{IsPrefixOf};
 
-use crate::case::{Call, Wanted, WantedCounts, WantedDir};
+use crate::case::{Call, Wanted, WantedCounts, WantedDir, WantedText};
 use bal_base::Memory;
 use bal_io::{MemFolder, MemSink, MemSource};
 use bal_run::{Run, bal_run, dir_of, status_number};
@@ -77,10 +78,27 @@ pub fn is_as_wanted(wanted: &Wanted, came: &Came) -> bool
     ensures { IsTrue result ↔ AsWanted wanted.now came.now }
 {
     came.status == wanted.status
-        && came.stdout == wanted.stdout
-        && came.stderr == wanted.stderr
+        && is_text_wanted(&wanted.stdout, came.stdout.as_slice())
+        && is_text_wanted(&wanted.stderr, came.stderr.as_slice())
         && is_dir_wanted(&wanted.dir, &came.dir)
         && are_counts_as_wanted(wanted.counts, came.counts)
+}
+
+/// Whether an output is the text that is wanted, or begins with it.
+pub fn is_text_wanted(wanted: &WantedText, came: &[u8]) -> bool
+    ensures { IsTrue result ↔ IsTextWanted wanted.now came.now }
+{
+    match wanted {
+        WantedText::Whole(text) => came == text.as_slice(),
+        WantedText::Front(text) => begins_with(came, text.as_slice()),
+    }
+}
+
+/// Whether a text begins with another one.
+fn begins_with(text: &[u8], front: &[u8]) -> bool
+    ensures { IsTrue result ↔ IsPrefixOf front.now text.now }
+{
+    text.starts_with(front)
 }
 
 /// Whether the words name the folder that they are to name.

@@ -43,10 +43,19 @@ pub enum SinkFaults {
 pub struct Wanted {
     /// The status as a number.
     pub status: u64,
-    pub stdout: Vec<u8>,
-    pub stderr: Vec<u8>,
+    pub stdout: WantedText,
+    pub stderr: WantedText,
     pub dir: WantedDir,
     pub counts: WantedCounts,
+}
+
+/// What stands on an output.
+#[derive(Drop)]
+pub enum WantedText {
+    /// This and nothing else.
+    Whole(Vec<u8>),
+    /// This, and whatever stands behind it.
+    Front(Vec<u8>),
 }
 
 /// Which folder the words are to name.
@@ -99,6 +108,15 @@ impl Call {
         text.extend_from_slice(statements)?;
         text.extend_from_slice(AFTER_MAIN.as_bytes())?;
         self.add_file(alloc, "main.bal", text)
+    }
+}
+
+impl WantedText {
+    /// The text.
+    pub fn text(&self) -> &[u8] {
+        match self {
+            WantedText::Whole(text) | WantedText::Front(text) => text.as_slice(),
+        }
     }
 }
 

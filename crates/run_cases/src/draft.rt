@@ -11,13 +11,17 @@
 //! - `cut OBJECT N COUNT`: the call on `stdout` or `stderr` that fails, having taken so many bytes
 //! - `status N`: the status that is wanted
 //! - `stdout` and `stderr`: the outputs that are wanted, whose texts follow. Where they don't stand, nothing
+//! - `begins stdout` and `begins stderr`: the same of what an output is to begin with
 //! - `dir NAME`: the folder that the words name, or `nodir` where they name none. Where neither stands, any
 //! - `spent N` and `turns N`: the ticks that were spent, and how often a strand was picked. Where they don't
 //!   stand, any
+//! - `ask S <: T => yes`, or `no SHAPE`: the question whether the type S is below T, in the scope of the files, whose
+//!   answer is on standard output; `no` alone stands for any shape that shows it. A case that has such lines is a call
+//!   for each of them, and says no other words, statuses or outputs
 //!
 //! A text is lines that the module `piece` tells; one that is opened again goes on.
 
-use crate::case::{Call, Case, Wanted, WantedCounts, WantedDir};
+use crate::case::{Call, Case, Wanted, WantedCounts, WantedDir, WantedText};
 use crate::misread::{Misread, Read, refuse};
 use crate::piece::{add_piece, is_piece};
 use row_lines::{first_word, number, numbers};
@@ -33,6 +37,9 @@ pub struct Draft {
     status: Option<u64>,
     stdout: Vec<u8>,
     stderr: Vec<u8>,
+    /// Whether more may stand behind these.
+    stdout_goes_on: bool,
+    stderr_goes_on: bool,
     dir: WantedDir,
     counts: WantedCounts,
     open: Part,
@@ -60,6 +67,8 @@ impl Draft {
             status: None,
             stdout: Vec::new(alloc),
             stderr: Vec::new(alloc),
+            stdout_goes_on: false,
+            stderr_goes_on: false,
             dir: WantedDir::Any,
             counts: WantedCounts {
                 spent: None,
@@ -80,6 +89,29 @@ impl Draft {
         self.begin(word, rest)
     }
 
+    /// Asks whether one type is below another one, with the answer that is wanted.
+    fn ask(&mut self, question: &str) -> Read<()> {
+        let Some((types, answer)) = question.split_once(" => ") else {
+            return refuse(Misread::NotALine);
+        };
+        let Some((s, t)) = types.split_once(" <: ") else {
+            return refuse(Misread::NotALine);
+        };
+        for word in [".", s, t, "--mode", "subtype"] {
+            self.word(word)?;
+        }
+        self.answer(answer)
+    }
+
+    /// Wants this answer to a question.
+    fn answer(&mut self, answer: &str) -> Read<()> {
+        self.stdout_goes_on = answer == "no";
+        self.stdout.extend_from_slice(answer.as_bytes())?;
+        let end = if self.stdout_goes_on { b' ' } else { b'\n' };
+        self.stdout.push(end)?;
+        set_once(&mut self.status, 0)
+    }
+
     /// The case, once all its lines are read.
     pub fn finish(self) -> Read<Case> {
         let mut draft = self;
@@ -94,6 +126,8 @@ impl Draft {
             call,
             stdout,
             stderr,
+            stdout_goes_on,
+            stderr_goes_on,
             dir,
             counts,
             ..
@@ -102,8 +136,8 @@ impl Draft {
             call,
             wanted: Wanted {
                 status,
-                stdout,
-                stderr,
+                stdout: wanted_text(stdout, stdout_goes_on),
+                stderr: wanted_text(stderr, stderr_goes_on),
                 dir,
                 counts,
             },
@@ -141,6 +175,8 @@ impl Draft {
             "fails" => self.fails(rest),
             "cut" => self.cut(rest),
             "file" | "main" | "stdin" | "stdout" | "stderr" => self.open(word, rest),
+            "begins" => self.begins(rest),
+            "ask" => self.ask(rest),
             "dir" => self.dir(WantedDir::Named(String::from_str(self.alloc, rest)?)),
             "nodir" => self.dir(WantedDir::Missing),
             "status" | "spent" | "turns" => self.count(word, rest),
@@ -197,6 +233,16 @@ impl Draft {
         Ok(())
     }
 
+    /// Opens the front of an output.
+    fn begins(&mut self, output: &str) -> Read<()> {
+        match output {
+            "stdout" => self.stdout_goes_on = true,
+            "stderr" => self.stderr_goes_on = true,
+            _ => return refuse(Misread::NotALine),
+        }
+        self.open(output, "")
+    }
+
     fn dir(&mut self, dir: WantedDir) -> Read<()> {
         match self.dir {
             WantedDir::Any => {
@@ -214,6 +260,14 @@ impl Draft {
             "spent" => set_once(&mut self.counts.spent, count),
             _ => set_once(&mut self.counts.turns, count),
         }
+    }
+}
+
+fn wanted_text(text: Vec<u8>, goes_on: bool) -> WantedText {
+    if goes_on {
+        WantedText::Front(text)
+    } else {
+        WantedText::Whole(text)
     }
 }
 

@@ -3,8 +3,8 @@ ghost use Rattle.row_lines.specs.Telling.{FailsUnless};
 ghost use Rattle.run_cases.specs.Judged.{IsJudged};
 ghost use Rattle.run_cases.specs.Wanted.{AsWanted};
 
-use crate::came::{Came, came_of, is_as_wanted, is_dir_wanted};
-use crate::case::{Case, Wanted, WantedDir};
+use crate::came::{Came, came_of, is_as_wanted, is_dir_wanted, is_text_wanted};
+use crate::case::{Case, Wanted, WantedDir, WantedText};
 use crate::draft::Draft;
 use crate::misread::Misread;
 use bal_base::{Memory, Stop};
@@ -16,18 +16,54 @@ pub struct Cases;
 
 impl Judge for Cases {
     fn judge(&mut self, row: &Row, told: &mut Told) {
-        let mut draft = Draft::new(told.alloc());
-        for line in row.rest.as_slice() {
+        let lines = row.rest.as_slice();
+        let mut asks = false;
+        for line in lines {
+            if is_question(line.as_str()) {
+                asks = true;
+                judge_question(lines, line.as_str(), told);
+            }
+        }
+        if !asks {
+            judge_lines(lines, "", told);
+        }
+    }
+}
+
+fn is_question(line: &str) -> bool {
+    line.starts_with("ask ")
+}
+
+/// Judges a question, and tells it where it is the first that fails.
+fn judge_question(lines: &[String], question: &str, told: &mut Told) {
+    if told.is_failing() {
+        return;
+    }
+    judge_lines(lines, question, told);
+    if told.is_failing() {
+        told.fails(question);
+    }
+}
+
+/// Judges the case of these lines, of whose questions this one alone counts.
+fn judge_lines(lines: &[String], question: &str, told: &mut Told) {
+    let mut draft = Draft::new(told.alloc());
+    for line in lines {
+        if counts(line.as_str(), question) {
             if let Err(why) = draft.line(line.as_str()) {
                 misread(line.as_str(), why, told);
                 return;
             }
         }
-        match draft.finish() {
-            Ok(case) => judge_case(case, told),
-            Err(why) => misread("at its end", why, told),
-        }
     }
+    match draft.finish() {
+        Ok(case) => judge_case(case, told),
+        Err(why) => misread("at its end", why, told),
+    }
+}
+
+fn counts(line: &str, question: &str) -> bool {
+    !is_question(line) || line == question
 }
 
 fn misread(line: &str, why: Stop<Misread>, told: &mut Told) {
@@ -61,11 +97,17 @@ fn compare(wanted: &Wanted, came: &Came, told: &mut Told)
 /// Tells each part that is not as it is wanted.
 fn tell_differences(wanted: &Wanted, came: &Came, told: &mut Told) {
     told.number("status", wanted.status, came.status);
-    told.bytes("stdout", &wanted.stdout, &came.stdout);
-    told.bytes("stderr", &wanted.stderr, &came.stderr);
+    tell_output("stdout", &wanted.stdout, came.stdout.as_slice(), told);
+    tell_output("stderr", &wanted.stderr, came.stderr.as_slice(), told);
     tell_dir(wanted, came, told);
     tell_count("spent", wanted.counts.spent, came.counts.spent, told);
     tell_count("turns", wanted.counts.turns, came.counts.turns, told);
+}
+
+fn tell_output(name: &str, wanted: &WantedText, came: &[u8], told: &mut Told) {
+    if !is_text_wanted(wanted, came) {
+        told.bytes(name, wanted.text(), came);
+    }
 }
 
 fn tell_count(name: &str, wanted: Option<u64>, came: u64, told: &mut Told) {
