@@ -1,0 +1,10 @@
+pub mod Acting
+pub mod Alike
+pub mod Capturing
+pub mod Coded
+pub mod Filling
+pub mod Framing
+pub mod Futures
+pub mod Lasts
+pub mod Listing
+pub mod Owning

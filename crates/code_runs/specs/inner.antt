@@ -1,0 +1,2 @@
+pub mod Hurries
+pub mod Turns

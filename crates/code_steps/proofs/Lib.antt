@@ -1,0 +1,9 @@
+pub mod Answered
+pub mod Beginning
+pub mod Calling
+pub mod Endings
+pub mod Leaving
+pub mod Ringing
+pub mod Spawning
+pub mod Units
+pub mod Unwinding

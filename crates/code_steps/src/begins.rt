@@ -1,0 +1,35 @@
+//! The first frame of a call.
+#![tactic(auto, using(crate::proofs::Units::units))]
+
+ghost use Rattle.std.specs.Prelude.{◌≡◌, IfOk, option_map};
+ghost use Rattle.machine_model.specs.Machine as machine;
+ghost use Rattle.plain_run.specs.Held.{role_of};
+ghost use Rattle.code_frames.specs.Programs.{machine_of};
+ghost use Rattle.code_steps.specs.States.{call_of};
+
+use crate::held::Call;
+use bal_base::Memory;
+use code_frames::{Program, enter};
+use plain_run::Role;
+use std::alloc::Global;
+use value_model::Value;
+
+/// The first frame of a call of the unit with these arguments, where there is such a unit. It takes time and room that grow with the
+/// unit's slots.
+pub fn begin<'a>(
+    alloc: Global,
+    program: &Program<'a>,
+    unit: u32,
+    args: &[Value],
+    role: Option<Role>,
+) -> Result<Option<Call>, Memory>
+    ensures { IfOk result (λ c. option_map call_of c ≡ machine.begun (machine_of program.now) unit args.now (option_map role_of role)) }
+{
+    match program.units.get(unit as usize) {
+        None => Ok(None),
+        Some(found) => {
+            let frame = enter(alloc, found, args)?;
+            Ok(Some(Call { unit, role, frame }))
+        }
+    }
+}
