@@ -359,6 +359,7 @@ module _ (passes : List AtomDef → Asked → TypeLimit → Type 0) (names : Nam
   pub trees-known : TreesAreKnown passes names env place actions
   trees-known =
       record {
+        expr = of-expr;
         stmt = ind-Stmt ClaimElse ClaimStmt ClaimBlock ClaimClause ClaimIfStmt else-step stmt-step block-step clause-step if_stmt-step;
         block = ind-Block ClaimElse ClaimStmt ClaimBlock ClaimClause ClaimIfStmt else-step stmt-step block-step clause-step if_stmt-step;
         clause = ind-Clause ClaimElse ClaimStmt ClaimBlock ClaimClause ClaimIfStmt else-step stmt-step block-step clause-step if_stmt-step;

@@ -45,7 +45,7 @@ use Rattle.typed_tree.specs.declared.expr.TypedExpr.{TypedExpr}
 use Rattle.typed_tree.specs.declared.stmt.PerformForm.TheVariants as perform
 use Rattle.typed_tree.specs.declared.stmt.PerformForm.{PerformForm}
 
-result-put : (old m : State) → wants_result old (Gives tt) m → (t : Shared) × IsLast m.wants (Some t)
+pub result-put : (old m : State) → wants_result old (Gives tt) m → (t : Shared) × IsLast m.wants (Some t)
 unfolding ◌▷◌
 result-put old m (u, a, seen, put) =
     let (x, is, value) = want-put-some u.result tt a m put in (x, record { kept = a.wants; is = ap (λ (s : State). s.wants) is })

@@ -48,7 +48,7 @@ use Rattle.typed_tree.specs.declared.stmt.PerformForm.{PerformForm}
 use Rattle.typed_tree.specs.declared.stmt.TypedStmt.{TypedStmt}
 
 module _ (made : MadeStatementsAreTyped) (passes : List AtomDef → Asked → TypeLimit → Type 0) (names : Names) (env : List AtomDef) (place : Surroundings) where
-  result-wanted : ResultIsWanted passes names env place
+  pub result-wanted : ResultIsWanted passes names env place
   unfolding ◌▷◌ gives_some
   result-wanted old new (u, a, (last, e1), put) placed =
       let (x, same, e2) = want-put (Some u.result) tt a new put in
