@@ -1,0 +1,6 @@
+mod Beginning
+mod Bodies
+mod Ending
+mod Functions
+mod ValueBodies
+mod Workers

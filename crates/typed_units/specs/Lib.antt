@@ -1,0 +1,4 @@
+pub mod Bodies
+pub mod Functions
+pub mod Peers
+pub mod Workers
