@@ -1,5 +1,5 @@
 -- Workers where they begin and where they end.
-use Rattle.std.proofs.Common.{All, Bool, Err, List, None, Ok, Option, Result, Some, [], ap, append_assoc, arith, false, length, length-append, map, refl, subst, suc, sym, true, ℕ, ◌++◌, ◌∙◌, ◌∷◌, ◌≡◌}
+use Rattle.std.proofs.Common.{All, Bool, Err, List, None, Ok, Option, Result, Some, [], ap, append_assoc, arith, false, length, length-append, map, subst, suc, sym, true, ℕ, ◌++◌, ◌∙◌, ◌∷◌, ◌≡◌}
 use Rattle.std.proofs.lemmas.List.Elements.{All-cons, All-nil}
 use Rattle.std.specs.List.{list_any}
 use Rattle.std.specs.Prelude.{pred, slice_get, take, ◌||◌}
@@ -11,14 +11,12 @@ use Rattle.bal_tree.specs.declared.def.Worker.{Worker}
 use Rattle.bal_tree.specs.declared.name.Word.{Word}
 use Rattle.check_words.specs.Actions.{known_result, result_of}
 use Rattle.check_words.specs.Calls.{Capture, captures, closes_unit, new_number}
-use Rattle.check_words.specs.Sharing.{SameUnit}
 use Rattle.check_words.specs.State.{BlockAtWork, IsLast, State, UnitAtWork, all_but}
 use Rattle.check_words.specs.Units.{begins_worker, ends_by, ends_worker, in_worker, is_worker_new, typed_worker, worker_unit}
 use Rattle.check_words.specs.Words.{by_handles, done, fails, unless}
 use Rattle.type_model.specs.Places.{is_same_text}
-use Rattle.checks.specs.Checks.{Check, Gives, either, gives_some, refuses, ◌▷◌}
-use Rattle.flow_narrowing.specs.declared.flow.Variable.{Variable}
-use Rattle.needs.specs.Needs.{asks, does}
+use Rattle.checks.specs.Checks.{Gives, either, gives_some, refuses, ◌▷◌}
+use Rattle.needs.specs.Needs.{does}
 use Rattle.operations.specs.Rows.{Surroundings}
 use Rattle.type_model.specs.Calls.{Asked}
 use Rattle.type_model.specs.declared.answers.TypeLimit.{TypeLimit}

@@ -1,5 +1,5 @@
 -- Ways through bodies, put together of ways through their statements and values.
-use Rattle.std.proofs.Common.{All, Bool, List, None, Option, Some, [], false, refl, subst, sym, true, ℕ, ◌∷◌, ◌≡◌}
+use Rattle.std.proofs.Common.{All, Bool, List, None, Some, [], false, refl, subst, sym, true, ℕ, ◌∷◌, ◌≡◌}
 use Rattle.std.proofs.lemmas.List.Elements.{All-head, All-tail}
 use Rattle.std.specs.Prelude.{IsSomeAnd, slice_get}
 use Rattle.bal_base.specs.declared.shape.Shape.{Nil as NilShape, Shape}
@@ -10,8 +10,7 @@ use Rattle.eval_model.specs.Trees.{at_end, body_tasks, initialises, starts_named
 use Rattle.eval_model.specs.Walk.{BlockOver}
 use Rattle.operations.specs.Rows.{AreBelow, IsWithin, ResultHas, Surroundings}
 use Rattle.operations.specs.declared.operation.Constant.TheVariants as constant
-use Rattle.operations.specs.declared.operation.Operation.TheVariants.{Const, Return, StoreModule, Workers}
-use Rattle.tree_promises.specs.Placed.{Placed}
+use Rattle.operations.specs.declared.operation.Operation.TheVariants.{Const, Return, StoreModule}
 use Rattle.tree_promises.specs.Types.{DoesTypes, type_ways}
 use Rattle.type_model.specs.Basic.{InBasic}
 use Rattle.type_model.specs.Inclusion.{Sub}
@@ -28,7 +27,7 @@ use Rattle.typed_tree.specs.declared.unit.TypedBody.TheVariants.{Block, Expr}
 use Rattle.typed_tree.specs.declared.package.Initial.{Initial}
 use Rattle.typed_tree.specs.declared.stmt.TypedStmt.{TypedStmt}
 use Rattle.typed_tree.specs.declared.unit.TypedWorker.{TypedWorker}
-use Rattle.typed_units.specs.Bodies.{AllBodiesMakeTyped, EndsSo, InitialIsTyped}
+use Rattle.typed_units.specs.Bodies.{AllBodiesMakeTyped, InitialIsTyped}
 
 nothing-below : (env : List AtomDef) (p : List SemType) → AreBelow env p [] → p ≡ []
 nothing-below env [] h = refl

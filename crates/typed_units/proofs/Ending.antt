@@ -1,5 +1,5 @@
 -- Functions where they end.
-use Rattle.std.proofs.Common.{Bool, List, None, [], ap, refl, subst, sym, ◌++◌, ◌∙◌, ◌∷◌, ◌≡◌}
+use Rattle.std.proofs.Common.{List, None, [], ap, sym, ◌++◌, ◌∙◌, ◌∷◌, ◌≡◌}
 use Rattle.bal_base.specs.declared.place.Place.{Place}
 use Rattle.bal_tree.specs.declared.def.FunctionDef.{FunctionDef}
 use Rattle.check_words.specs.Calls.{typed_unit}

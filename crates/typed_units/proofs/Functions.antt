@@ -1,7 +1,6 @@
 -- Bodies of functions with statements: the initial part, the workers, and the rest.
-use Rattle.std.proofs.Common.{All, Bool, IfSome, List, None, Some, [], ap, append-nil, arith, false, length, length-append, map, refl, subst, suc, sym, true, ℕ, ◌++◌, ◌∙◌, ◌∷◌, ◌≡◌, ◌≤◌}
-use Rattle.std.proofs.lemmas.List.Elements.{All-append, All-cons, All-contains, All-contains_itself, All-head, All-nil, All-tail}
-use Rattle.std.specs.Global.{Box}
+use Rattle.std.proofs.Common.{All, IfSome, List, [], ap, append-nil, arith, false, length, length-append, map, refl, subst, suc, sym, true, ℕ, ◌++◌, ◌∙◌, ◌∷◌, ◌≡◌, ◌≤◌}
+use Rattle.std.proofs.lemmas.List.Elements.{All-append, All-cons, All-contains_itself, All-nil, All-tail}
 use Rattle.std.specs.Prelude.{Contains}
 use Rattle.std.specs.Global.{Vec}
 use Rattle.bal_base.specs.declared.place.Place.{Place}
@@ -13,8 +12,7 @@ use Rattle.bal_tree.specs.declared.stmt.Stmt.{Stmt}
 use Rattle.check_laws.specs.Laws.{KeepsPositions}
 use Rattle.check_laws.specs.StmtLaws.{HasBlock, HasUnit, IsNoMore, IsOneBlockMore, KeptStmtPositions}
 use Rattle.check_words.proofs.Standing.{back-have, front-have, last-has}
-use Rattle.check_words.specs.Calls.{typed_unit}
-use Rattle.check_words.specs.State.{BlockAtWork, IsLast, MatchAtWork, Site, State, UnitAtWork, all_but}
+use Rattle.check_words.specs.State.{BlockAtWork, IsLast, MatchAtWork, State, UnitAtWork, all_but}
 use Rattle.checks.specs.Checks.{gives_some, ◌▷◌}
 use Rattle.kept_flows.proofs.Alone.{at-hand}
 use Rattle.descriptors.specs.declared.names.Names.{Names}
@@ -23,10 +21,10 @@ use Rattle.expr_needs.specs.Needs.{BeginsBlock, BeginsWorker, EndsFunction, Ends
 use Rattle.operations.specs.Rows.{Surroundings}
 use Rattle.calm_needs.proofs.Calming.{stored-by}
 use Rattle.stmt_needs.specs.PackageTable.{in_initial, numbered, numbered_from, read_stmts, worker_needs}
-use Rattle.stmt_needs.specs.StmtTable.{StmtReading, Within, in_block, read_block, read_stmt, stmts_needs, stmts_needs_from}
+use Rattle.stmt_needs.specs.StmtTable.{Within, in_block, read_block, stmts_needs}
 use Rattle.tree_places.specs.UsedInStmts.{used_in_block}
 use Rattle.tree_promises.specs.Laws.{MadeStatementsAreTyped}
-use Rattle.tree_promises.specs.Placed.{Placed, body_placed, crew_of, function_placed, slot_types, stmts_placed, worker_placed}
+use Rattle.tree_promises.specs.Placed.{body_placed, crew_of, function_placed, slot_types, worker_placed}
 use Rattle.type_model.specs.Calls.{Asked}
 use Rattle.type_model.specs.Inclusion.{Sub}
 use Rattle.type_model.specs.declared.answers.TypeLimit.{TypeLimit}
@@ -44,7 +42,7 @@ use Rattle.typed_exprs.proofs.Steps.{before, keeps, parted, stored-here}
 use Rattle.typed_exprs.specs.Lines.{Run}
 use Rattle.typed_functions.proofs.Line.{others-same}
 use Rattle.typed_needs.proofs.Placed.{all-but-last, last-same}
-use Rattle.typed_needs.specs.Between.{IsKept, IsStanding, IsTypedUnit, IsUnitAt, WaysAreStored, place_within, units_in}
+use Rattle.typed_needs.specs.Between.{IsKept, IsTypedUnit, IsUnitAt, WaysAreStored, units_in}
 use Rattle.typed_needs.specs.Items.{AreFirst}
 use Rattle.typed_needs.specs.Placing.{AreNamed}
 use Rattle.typed_needs.specs.Waits.{AreResults}
@@ -65,7 +63,7 @@ use Rattle.typed_units.proofs.Ending.{FunctionEnded, function-ended}
 use Rattle.typed_units.proofs.ValueBodies.{value-typed}
 use Rattle.typed_units.proofs.Workers.{names-all, nil-is-result}
 use Rattle.typed_units.specs.Bodies.{AllBodiesMakeTyped, BodiesMakeTyped}
-use Rattle.typed_units.specs.Functions.{AllBodiesAreTyped, BlockBodyIsTyped, ComesToFunction, HasFunctions, block_body_needs, inside_of, unit_of_function, units_in_body}
+use Rattle.typed_units.specs.Functions.{AllBodiesAreTyped, BlockBodyIsTyped, ComesToFunction, HasFunctions, inside_of, unit_of_function, units_in_body}
 use Rattle.typed_units.specs.Peers.{ActsOnPeers}
 
 -- ---- workers that come between

@@ -1,6 +1,6 @@
 -- Bodies of functions that are values.
-use Rattle.std.proofs.Common.{All, List, None, Some, [], ap, append-nil, arith, length, length-append, map, refl, subst, sym, ◌++◌, ◌∙◌, ◌∷◌, ◌≡◌, ◌≤◌}
-use Rattle.std.proofs.lemmas.List.Elements.{All-append, All-head, All-nil, All-tail}
+use Rattle.std.proofs.Common.{All, List, Some, [], ap, append-nil, arith, map, subst, sym, ◌++◌, ◌∙◌, ◌∷◌, ◌≡◌}
+use Rattle.std.proofs.lemmas.List.Elements.{All-append, All-nil, All-tail}
 use Rattle.std.specs.Global.{Box}
 use Rattle.bal_tree.specs.declared.def.FunctionDef.{FunctionDef}
 use Rattle.bal_tree.specs.declared.expr.Expr.{Expr as ExprTree}
@@ -14,7 +14,7 @@ use Rattle.check_words.specs.Units.{IsValueBody, ends_value_function}
 use Rattle.checks.specs.Checks.{Gives, gives_some, ◌▷◌}
 use Rattle.descriptors.specs.declared.names.Names.{Names}
 use Rattle.expr_needs.specs.ExprTable.{as_wanted, read_expr}
-use Rattle.expr_needs.specs.Needs.{EndsValueFunction, Need, WantsResult}
+use Rattle.expr_needs.specs.Needs.{EndsValueFunction, WantsResult}
 use Rattle.expr_needs.specs.declared.expected.Expected.TheVariants as expected
 use Rattle.needs.specs.Needs.{does}
 use Rattle.operations.specs.Rows.{Surroundings}
@@ -26,8 +26,7 @@ use Rattle.type_model.specs.Calls.{Asked}
 use Rattle.type_model.specs.Inclusion.{Sub}
 use Rattle.type_model.specs.declared.answers.TypeLimit.{TypeLimit}
 use Rattle.type_model.specs.declared.atoms.AtomDef.{AtomDef}
-use Rattle.type_model.specs.declared.basic.SemType.{SemType}
-use Rattle.typed_blocks.specs.Trees.{AllTreesAreKnown, TreesAreKnown}
+use Rattle.typed_blocks.specs.Trees.{AllTreesAreKnown}
 use Rattle.typed_bodies.proofs.Aside.{aside-result}
 use Rattle.typed_bodies.proofs.Plain.{result-put}
 use Rattle.typed_bodies.proofs.Trails.{in-stays}
@@ -45,7 +44,7 @@ use Rattle.typed_needs.specs.Waits.{AreResults}
 use Rattle.typed_stmts.proofs.Ends.{result-wanted}
 use Rattle.typed_stmts.proofs.Words.{part-taken, wants-dropped}
 use Rattle.typed_stmts.specs.Assigned.{TakeValues}
-use Rattle.typed_tree.specs.Listed.{Listed, members, one, ◌&◌}
+use Rattle.typed_tree.specs.Listed.{members, one, ◌&◌}
 use Rattle.typed_tree.specs.SharedTypes.{Shared, sem_of}
 use Rattle.typed_tree.specs.Units.{OfFunction}
 use Rattle.typed_tree.specs.declared.expr.TypedExpr.{TypedExpr}

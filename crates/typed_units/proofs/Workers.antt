@@ -1,7 +1,7 @@
 -- Workers: their bodies are blocks in units of their own.
-use Rattle.std.proofs.Common.{All, Bool, IfSome, List, None, Some, [], ap, append-nil, append_assoc, arith, false, length, length-append, map, refl, subst, sym, true, ℕ, ◌++◌, ◌∙◌, ◌∷◌, ◌≡◌}
+use Rattle.std.proofs.Common.{All, Bool, IfSome, List, [], ap, append-nil, arith, false, length, length-append, map, refl, subst, sym, true, ℕ, ◌++◌, ◌∙◌, ◌∷◌, ◌≡◌}
 use Rattle.std.proofs.lemmas.List.Elements.{All-append, All-cons, All-head, All-nil, All-tail, All-contains_itself}
-use Rattle.std.specs.Prelude.{Contains, IsSome}
+use Rattle.std.specs.Prelude.{IsSome}
 use Rattle.bal_base.specs.declared.place.Place.{Place}
 use Rattle.bal_tree.specs.declared.action.Action.{Action, Flush, Prefix', Receive, Send, Start, SyncSend, WaitAll, WaitAny}
 use Rattle.bal_tree.specs.declared.action.Peer.{Peer}
@@ -10,7 +10,7 @@ use Rattle.bal_tree.specs.declared.action.Rhs.{Rhs}
 use Rattle.bal_tree.specs.declared.def.Worker.{Worker}
 use Rattle.bal_tree.specs.declared.stmt.Block.{out-Block}
 use Rattle.check_laws.specs.StmtLaws.{HasUnit, IsOneBlockMore}
-use Rattle.check_words.proofs.Standing.{back-have, front-have, last-has}
+use Rattle.check_words.proofs.Standing.{last-has}
 use Rattle.check_words.specs.Actions.{peer_named}
 use Rattle.check_words.specs.Calls.{typed_unit}
 use Rattle.check_words.specs.State.{BlockAtWork, IsLast, MatchAtWork, Site, State, UnitAtWork, all_but}
@@ -18,7 +18,7 @@ use Rattle.check_words.specs.Units.{ends_by}
 use Rattle.checks.specs.Checks.{Gives, gives_some, ◌▷◌}
 use Rattle.checks.specs.Questions.{is_below}
 use Rattle.bal_base.specs.declared.text.Name.{Name}
-use Rattle.check_words.specs.Words.{OfKind, unless}
+use Rattle.check_words.specs.Words.{OfKind}
 use Rattle.checks.specs.Checks.{refuses}
 use Rattle.descriptors.specs.declared.names.Names.{Names}
 use Rattle.eval_model.specs.Expressions.{nil_type}
@@ -26,19 +26,17 @@ use Rattle.expr_needs.specs.Needs.{BeginsWorker, EndsWorker, Need}
 use Rattle.expr_needs.specs.declared.kind.Kind.TheVariants as kind
 use Rattle.needs.specs.Needs.{asks}
 use Rattle.operations.specs.Rows.{Surroundings}
-use Rattle.stmt_needs.specs.PackageTable.{worker_needs}
 use Rattle.stmt_needs.specs.StmtTable.{in_block, read_block}
 use Rattle.tree_places.specs.UsedInStmts.{used_in_block}
 use Rattle.tree_promises.specs.Laws.{MadeStatementsAreTyped}
-use Rattle.tree_promises.specs.Placed.{Placed, begins_captured, slot_types, stmts_placed, worker_placed}
+use Rattle.tree_promises.specs.Placed.{Placed, begins_captured, slot_types}
 use Rattle.type_model.specs.Calls.{Asked}
 use Rattle.type_model.specs.Inclusion.{Sub}
 use Rattle.type_model.specs.declared.answers.TypeLimit.{TypeLimit}
 use Rattle.type_model.specs.declared.atoms.AtomDef.{AtomDef}
-use Rattle.type_model.specs.declared.basic.SemType.{SemType}
 use Rattle.type_model.specs.declared.basic.Ty.{Ty}
 use Rattle.typed_blocks.specs.Actions.{actions_in_block}
-use Rattle.typed_blocks.specs.Trees.{AllTreesAreKnown, TreesAreKnown}
+use Rattle.typed_blocks.specs.Trees.{AllTreesAreKnown}
 use Rattle.typed_bodies.specs.Claims.{AreDone, CanAct, ComesToBlock, IsOnTheWay, KnowsBlock}
 use Rattle.typed_bodies.specs.Units.{units_of_clauses, units_of_stmts}
 use Rattle.typed_exprs.proofs.Steps.{before, parted}
@@ -61,7 +59,6 @@ use Rattle.typed_tree.specs.SharedTypes.{sem_of}
 use Rattle.typed_tree.specs.Units.{OfWorker}
 use Rattle.typed_tree.specs.declared.unit.TypedUnit.{TypedUnit}
 use Rattle.typed_tree.specs.declared.unit.TypedWorker.{TypedWorker}
-use Rattle.typed_trees.proofs.Leaving.{only-met}
 use Rattle.typed_bodies.proofs.Trails.{as-many}
 use Rattle.typed_units.proofs.Beginning.{WorkerBegun, WorkerEnded, worker-begun, worker-ended}
 use Rattle.typed_units.specs.Bodies.{AllBodiesMakeTyped, BodiesMakeTyped}
