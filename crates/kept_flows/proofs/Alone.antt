@@ -1,6 +1,5 @@
 -- Blocks of one statement, or of none.
-use Rattle.std.proofs.Common.{List, None, Some, [], ap, append-nil, arith, length, length-append, refl, subst, sym, ◌++◌, ◌∙◌, ◌∷◌, ◌≡◌, ◌≤◌}
-use Rattle.calm_needs.specs.Calm.{StaysOn}
+use Rattle.std.proofs.Common.{List, None, [], ap, append-nil, arith, length, length-append, refl, subst, sym, ◌++◌, ◌∙◌, ◌∷◌, ◌≡◌, ◌≤◌}
 use Rattle.check_laws.specs.Laws.{IsElseSame}
 use Rattle.check_laws.specs.Positions.{OnUnits}
 use Rattle.check_laws.specs.StmtLaws.{HasBlock, HasUnit, IsOneBlockMore, IsOneStmtMore}

@@ -1,14 +1,9 @@
 -- Ways that are entered and left: what is known where they meet the rest.
-use Rattle.std.proofs.Common.{Bool, ℕ, IfSome, List, None, Option, Some, [], ap, arith, false, length, length-append, not, refl, subst, sym, true, ◌++◌, ◌∙◌, ◌∷◌, ◌≡◌, ◌≤◌}
-use Rattle.std.specs.List.{AllZip}
+use Rattle.std.proofs.Common.{Bool, ℕ, IfSome, List, None, Some, [], ap, arith, false, length, length-append, not, subst, sym, true, ◌++◌, ◌∙◌, ◌∷◌, ◌≡◌, ◌≤◌}
 use Rattle.bal_base.specs.declared.place.Place.{Place}
-use Rattle.calm_needs.proofs.Calming.{Calm, calm-makes}
 use Rattle.calm_needs.proofs.Flows.{join-of, of-handles, ways-of}
-use Rattle.calm_needs.proofs.PlacedParts.{and-units, conditional-units, of-these, or-units}
 use Rattle.calm_needs.proofs.Ways.{choice-opened, ways-seen}
-use Rattle.calm_needs.specs.Calm.{HandSees, IsFlowOf, KeepsFlows, SameKnown, TellsOf}
-use Rattle.check_words.proofs.Handles.{flow-through}
-use Rattle.check_words.proofs.Same.{same-flow}
+use Rattle.calm_needs.specs.Calm.{HandSees, IsFlowOf, TellsOf}
 use Rattle.check_words.specs.Joins.{joins_two}
 use Rattle.check_words.specs.Sharing.{SameChoice, SameFlow}
 use Rattle.check_words.specs.State.{ChoiceAtWork, IsLast, State, UnitAtWork, Ways, all_but, replaced}
@@ -19,7 +14,7 @@ use Rattle.checks.specs.Checks.{Gives, gives_some, ◌▷◌}
 use Rattle.flow_narrowing.specs.declared.flow.Flow.{Flow}
 use Rattle.flow_narrowing.specs.declared.flow.Variable.{Variable}
 use Rattle.kept_flows.proofs.Hands.{Others, hand-is, replaced-others}
-use Rattle.typed_needs.proofs.Placed.{all-but-last, last-same}
+use Rattle.typed_needs.proofs.Placed.{last-same}
 use Rattle.typed_stmts.proofs.Words.{UnitSet, choice-closed, flow-seen, flow-set, last-replaced, with_flows}
 use Rattle.typed_tree.specs.declared.expr.TypedExpr.{TypedExpr}
 

@@ -1,5 +1,5 @@
 -- Units at hand: lists whose last member is another one.
-use Rattle.std.proofs.Common.{List, [], ap, arith, drop, length, length-append, refl, subst, sym, take, ℕ, ◌++◌, ◌-◌, ◌∙◌, ◌∷◌, ◌≡◌, ◌<◌, suc, zero, Some}
+use Rattle.std.proofs.Common.{List, [], ap, length, refl, subst, sym, take, ℕ, ◌++◌, ◌-◌, ◌∙◌, ◌∷◌, ◌≡◌, suc, zero}
 use Rattle.std.proofs.lemmas.List.Elements.{AllZip-push}
 use Rattle.std.specs.List.{AllZip}
 use Rattle.calm_needs.proofs.Flows.{flows-itself, flows-then}

@@ -1,19 +1,18 @@
 -- Needs behind which the same is known of variables.
-use Rattle.std.proofs.Common.{All, Bool, IfSome, List, None, Option, Some, [], ap, false, refl, subst, sym, true, ◌++◌, ◌∙◌, ◌∷◌, ◌≡◌}
+use Rattle.std.proofs.Common.{All, Bool, IfSome, List, [], ap, false, subst, sym, true, ◌++◌, ◌∙◌, ◌∷◌, ◌≡◌}
 use Rattle.std.proofs.lemmas.List.Elements.{All-head, All-tail}
 use Rattle.std.specs.List.{AllZip}
-use Rattle.std.specs.Prelude.{◌⊎◌, ⊤}
 use Rattle.bal_base.specs.declared.place.Place.{Place}
 use Rattle.bal_tree.specs.declared.params.Params.{Params}
 use Rattle.bal_tree.specs.declared.types.TypeTree.{TypeTree}
-use Rattle.calm_needs.proofs.Flows.{flows-itself, flows-then, hand-on, keeps-itself, keeps-on}
+use Rattle.calm_needs.proofs.Flows.{flows-then, hand-on, keeps-itself, keeps-on}
 use Rattle.calm_needs.specs.Calm.{HandSees, IsCalm, IsCalmNeed, IsFlowOf, KeepsFlows, NeedsAreCalm, SameKnown, TellsOf}
 use Rattle.check_words.proofs.Handles.{flow-through}
 use Rattle.check_words.proofs.Same.{same-flow}
 use Rattle.check_words.specs.Sharing.{SameFlow}
 use Rattle.flow_narrowing.specs.declared.flow.Variable.{Variable}
 use Rattle.check_words.specs.State.{ChoiceAtWork, IsLast, State, all_but}
-use Rattle.checks.specs.Checks.{Gives, gives_some, ◌▷◌}
+use Rattle.checks.specs.Checks.{gives_some}
 use Rattle.descriptors.specs.declared.names.Names.{Names}
 use Rattle.expr_needs.specs.ExprTable.{Reading, against, anonymous_needs, as_wanted, conditional_needs, freely, signature_needs}
 use Rattle.expr_needs.specs.Needs.{BeginsAnonymous, BeginsValue, Chooses, IsOf, IsWanted, MakesAnonymous, Need, Splits, Switches}
@@ -24,9 +23,9 @@ use Rattle.expr_needs.specs.declared.expected.Expected.{Expected}
 use Rattle.expr_needs.specs.declared.kind.Kind.TheVariants as kind
 use Rattle.expr_needs.specs.declared.kind.Kind.{Kind}
 use Rattle.kept_flows.proofs.Clearing.{ClearsNeed}
-use Rattle.kept_flows.proofs.Entering.{ChoiceOf, Leaves, Splits as WaySplits, Switched, choose, conjoin, disjoin, split, switch}
+use Rattle.kept_flows.proofs.Entering.{Leaves, Splits as WaySplits, choose, conjoin, disjoin, split, switch}
 use Rattle.kept_flows.proofs.Hands.{Others, all-others, others-and-last, others-then}
-use Rattle.needs.specs.Needs.{in_turn, in_turn_from}
+use Rattle.needs.specs.Needs.{in_turn_from}
 use Rattle.operations.specs.Rows.{Surroundings}
 use Rattle.type_model.specs.Calls.{Asked}
 use Rattle.type_model.specs.declared.answers.TypeLimit.{TypeLimit}

@@ -1,9 +1,8 @@
 -- What is known of variables behind values and blocks.
-use Rattle.std.proofs.Common.{List, [], false, subst, sym, ◌≡◌}
-use Rattle.bal_tree.specs.declared.action.Rhs.{Rhs}
+use Rattle.std.proofs.Common.{List, [], false, subst}
 use Rattle.calm_needs.proofs.Flows.{variables-themselves, zip-came}
 use Rattle.calm_needs.specs.Calm.{AllNeedsAreCalm, SameKnown}
-use Rattle.check_laws.specs.StmtLaws.{HasUnit, KeptStmtPositions}
+use Rattle.check_laws.specs.StmtLaws.{KeptStmtPositions}
 use Rattle.check_words.specs.Sharing.{SameFlow}
 use Rattle.check_words.specs.State.{State, UnitAtWork}
 use Rattle.kept_flows.proofs.Hands.{hand-is}
@@ -15,7 +14,7 @@ use Rattle.stmt_needs.specs.StmtTable.{in_block}
 use Rattle.type_model.specs.Calls.{Asked}
 use Rattle.type_model.specs.declared.answers.TypeLimit.{TypeLimit}
 use Rattle.type_model.specs.declared.atoms.AtomDef.{AtomDef}
-use Rattle.typed_bodies.specs.Claims.{SameAtHand, SameButNarrowed}
+use Rattle.typed_bodies.specs.Claims.{SameAtHand}
 use Rattle.typed_needs.proofs.Placed.{last-same}
 use Rattle.typed_needs.specs.WholeRuns.{RunsGoOn}
 

@@ -1,12 +1,12 @@
 -- Needs of statements behind which the same variables are seen.
-use Rattle.std.proofs.Common.{All, List, [], ap, arith, drop, length, length-append, refl, subst, suc, sym, take, ◌++◌, ◌∙◌, ◌∷◌, ◌≡◌, ◌≤◌}
+use Rattle.std.proofs.Common.{List, [], ap, arith, length, refl, subst, suc, sym, take, ◌++◌, ◌∷◌, ◌≡◌, ◌≤◌}
 use Rattle.std.specs.List.{AllZip}
 use Rattle.calm_needs.proofs.Flows.{hand-on, variables-themselves}
-use Rattle.calm_needs.specs.Calm.{HandSees, IsFlowOf, NeedsAreCalm, SameKnown}
-use Rattle.check_laws.specs.StmtLaws.{HasBlock, HasUnit, IsOneBlockMore, IsOneStmtMore}
+use Rattle.calm_needs.specs.Calm.{HandSees, NeedsAreCalm, SameKnown}
+use Rattle.check_laws.specs.StmtLaws.{HasUnit}
 use Rattle.check_words.proofs.Handles.{same-variable-through}
 use Rattle.check_words.specs.Meets.{meets}
-use Rattle.check_words.specs.State.{BlockAtWork, IsLast, State, UnitAtWork, all_but}
+use Rattle.check_words.specs.State.{IsLast, State, UnitAtWork}
 use Rattle.checks.specs.Checks.{gives_some}
 use Rattle.descriptors.specs.declared.names.Names.{Names}
 use Rattle.expr_needs.specs.Needs.{Need}
@@ -15,7 +15,6 @@ use Rattle.flow_narrowing.specs.declared.flow.Variable.{Variable}
 use Rattle.kept_flows.proofs.Alone.{at-hand}
 use Rattle.kept_flows.proofs.Hands.{hand-is}
 use Rattle.kept_flows.proofs.Keeping.{Fresh, KeepsFresh, Quiet}
-use Rattle.stmt_needs.specs.StmtTable.{Within}
 use Rattle.type_model.specs.Calls.{Asked}
 use Rattle.type_model.specs.declared.answers.TypeLimit.{TypeLimit}
 use Rattle.type_model.specs.declared.atoms.AtomDef.{AtomDef}
@@ -24,7 +23,6 @@ use Rattle.typed_bodies.proofs.Onward.{IsOnward, Onward}
 use Rattle.typed_exprs.proofs.Steps.{parted}
 use Rattle.typed_exprs.specs.Lines.{Run}
 use Rattle.typed_needs.proofs.Going.{each-long}
-use Rattle.typed_needs.proofs.Placed.{all-but-last, last-same}
 use Rattle.typed_tree.specs.Listed.{Listed, nothing, one, ◌&◌}
 
 -- ---- the first variables

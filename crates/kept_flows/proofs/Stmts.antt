@@ -1,15 +1,11 @@
 -- Behind each block the same variables are seen, by induction on trees.
-use Rattle.std.proofs.Common.{All, Bool, List, None, Option, Some, [], ap, arith, false, length, length-append, map, refl, subst, suc, sym, take, true, ◌++◌, ◌∙◌, ◌∷◌, ◌≡◌, ◌≤◌}
-use Rattle.std.proofs.lemmas.List.Elements.{All-append, All-cons, All-nil}
+use Rattle.std.proofs.Common.{Bool, List, None, Option, Some, [], ap, arith, false, length, length-append, map, refl, subst, suc, sym, take, true, ◌++◌, ◌∙◌, ◌∷◌, ◌≡◌, ◌≤◌}
 use Rattle.std.specs.Global.{Box}
 use Rattle.std.specs.List.{AllZip, list_any}
-use Rattle.std.specs.Prelude.{IfSome, ⊤}
+use Rattle.std.specs.Prelude.{⊤}
 use Rattle.bal_base.specs.declared.place.Place.{Place}
 use Rattle.bal_base.specs.declared.text.Name.{Name}
 use Rattle.bal_tree.specs.StmtLayers.{BlockOf, ClauseOf, ElseOf, IfStmtOf, StmtOf}
-use Rattle.bal_tree.specs.declared.action.Rhs.{Rhs}
-use Rattle.bal_tree.specs.declared.expr.Expr.{Expr}
-use Rattle.bal_tree.specs.declared.expr.Postfix.{Postfix}
 use Rattle.bal_tree.specs.declared.name.Word.{Word}
 use Rattle.bal_tree.specs.declared.stmt.AssignOp.TheVariants as assign
 use Rattle.bal_tree.specs.declared.stmt.AssignOp.{AssignOp}
@@ -28,14 +24,13 @@ use Rattle.bal_tree.specs.declared.stmt.Target.{Target}
 use Rattle.calm_needs.specs.Calm.{HandSees, IsFlowOf, NeedsAreCalm}
 use Rattle.check_laws.specs.Laws.{KeepsPositions}
 use Rattle.check_laws.specs.StmtLaws.{HasBlock, HasUnit, IsOneBlockMore, IsOneStmtMore, StmtPositionsAreKept}
-use Rattle.check_words.specs.State.{BlockAtWork, ChoiceAtWork, IsLast, MatchAtWork, State, UnitAtWork, all_but, outside, with_variable}
+use Rattle.check_words.specs.State.{BlockAtWork, ChoiceAtWork, IsLast, MatchAtWork, State, UnitAtWork, all_but, outside}
 use Rattle.check_words.specs.Statements.{declares, ends_block, begins_block}
 use Rattle.checks.specs.Checks.{Gives, gives_some, refuses, ◌▷◌}
 use Rattle.descriptors.specs.declared.names.Names.{Names}
 use Rattle.expr_needs.specs.ActionTable.{read_rhs}
 use Rattle.expr_needs.specs.ExprTable.{Reading, accessed_needs, against, as_wanted, condition_needs, element_needs, freely, index_needs, read_expr, read_postfix}
-use Rattle.expr_needs.specs.Needs.{Assigns, BeginsBlock, BeginsClause, BeginsMatch, Breaks, Continues, Declares, Describes, EndsBlock, EndsClause, ExpectsStored, Fails, HasField, HasItem, HasPattern, Heads, IsAssignable, IsCounter, IsIgnorable, IsItemOfLoop, IsNew, IsOf, IsOperand, MakesBlock, MakesForeach, MakesIf, MakesMatch, MakesRange, MakesWhile, Need, OpensLoop, Performs, ReadsName, ReadsStored, ReadsStoredField, Returns, ReturnsNil, Splits, Stops, Stores, Switches, UpdatesElement, UpdatesField, UpdatesName, WantsCounter, WantsResult, Widens, WidensItem}
-use Rattle.expr_needs.specs.Operators.{expectation}
+use Rattle.expr_needs.specs.Needs.{Assigns, BeginsBlock, BeginsClause, BeginsMatch, Breaks, Continues, Declares, Describes, EndsBlock, EndsClause, ExpectsStored, Fails, HasField, HasItem, HasPattern, Heads, IsAssignable, IsCounter, IsIgnorable, IsItemOfLoop, IsNew, IsOperand, MakesBlock, MakesIf, MakesMatch, MakesWhile, Need, OpensLoop, Performs, ReadsName, ReadsStored, ReadsStoredField, Returns, ReturnsNil, Splits, Stops, Stores, Switches, UpdatesElement, UpdatesField, UpdatesName, WantsCounter, WantsResult, Widens, WidensItem}
 use Rattle.expr_needs.specs.declared.expected.Expected.TheVariants as expected
 use Rattle.expr_needs.specs.declared.kind.Kind.TheVariants as kind
 use Rattle.expr_needs.specs.declared.kind.Kind.{Kind}
@@ -43,16 +38,16 @@ use Rattle.flow_narrowing.specs.Flows.{IsSameVariable}
 use Rattle.flow_narrowing.specs.declared.flow.Variable.{Variable}
 use Rattle.kept_flows.proofs.Alone.{alone, at-hand, of-none, stmt-within, with-nothing}
 use Rattle.kept_flows.proofs.Entering.{some-last, split, switch}
-use Rattle.kept_flows.proofs.Keeping.{KeepsFresh, against-fresh, by-calm, fresh-then, wanted-fresh, FreshReading}
-use Rattle.kept_flows.proofs.Seeing.{HandFirst, Sees, SeesSame, aside-sees, both-see, first-on, fresh-see, fresh-sees, hand-first, more-first, need-aside, need-onward, none-seen, onward-sees, quiet-see, sees-on}
+use Rattle.kept_flows.proofs.Keeping.{against-fresh, wanted-fresh, FreshReading}
+use Rattle.kept_flows.proofs.Seeing.{HandFirst, Sees, SeesSame, aside-sees, both-see, first-on, fresh-see, fresh-sees, hand-first, need-aside, need-onward, none-seen, onward-sees, quiet-see}
 use Rattle.kept_flows.proofs.Values.{accessed, expr-fresh, index, postfix-fresh, rhs-fresh}
 use Rattle.needs.specs.Needs.{does, in_turn, in_turn_from}
-use Rattle.stmt_needs.specs.StmtTable.{StmtReading, Within, assigned_in, assignment_needs, block_needs, clause_needs, counter_fits, declaration_needs, foreach_needs, if_needs, in_block, is_among, is_any, item_fits, jump_needs, local_needs, loop_body_needs, loop_head_needs, loop_made, loop_type_needs, match_needs, otherwise_needs, pattern_needs, read_block, read_clause, read_else, read_if_stmt, read_stmt, return_needs, set_needs, stmt_reading, stmts_needs_from, stored_needs, through_needs, update_needs, while_needs}
+use Rattle.stmt_needs.specs.StmtTable.{StmtReading, Within, assigned_in, assignment_needs, clause_needs, counter_fits, declaration_needs, foreach_needs, if_needs, in_block, is_among, is_any, item_fits, jump_needs, local_needs, loop_body_needs, loop_head_needs, loop_made, loop_type_needs, match_needs, otherwise_needs, pattern_needs, read_block, read_clause, read_else, read_if_stmt, read_stmt, return_needs, set_needs, stmt_reading, stmts_needs_from, stored_needs, through_needs, update_needs, while_needs}
 use Rattle.type_model.specs.Calls.{Asked}
 use Rattle.type_model.specs.declared.answers.TypeLimit.{TypeLimit}
 use Rattle.type_model.specs.declared.atoms.AtomDef.{AtomDef}
 use Rattle.typed_bodies.proofs.Aside.{aside-counter, aside-expects, aside-heads, aside-ignorable, aside-is-assignable, aside-item, aside-new, aside-operand, aside-reads-field, aside-reads-name, aside-reads-stored, aside-result, aside-stops, aside-wants-counter, aside-widens, aside-widens-item, aside-describes}
-use Rattle.typed_bodies.proofs.Choosing.{Begun, block-begun, if-sees, loop-opens, while-sees}
+use Rattle.typed_bodies.proofs.Choosing.{if-sees, loop-opens, while-sees}
 use Rattle.typed_bodies.proofs.Loops.{foreach-sees, item-put, range-sees}
 use Rattle.typed_bodies.proofs.Matches.{IsOnMatch, MatchOf, clause-ended, match-begins-so, match-made, on-match-clause, on-match-on, on-match-pattern}
 use Rattle.typed_bodies.proofs.Onward.{onward-adds, onward-assigns, onward-breaks, onward-continues, onward-makes-block, onward-new-slot, onward-performs, onward-returns, onward-returns-nil, onward-stores, onward-takes-part, onward-takes-want, onward-updates-element, onward-updates-field, onward-updates-name}

@@ -11,8 +11,6 @@ use Rattle.bal_tree.specs.declared.action.ActionOp.{ActionOp}
 use Rattle.bal_tree.specs.declared.action.Rhs.TheVariants.{Action as ActionRhs, Expr as ExprRhs}
 use Rattle.bal_tree.specs.declared.action.Rhs.{Rhs}
 use Rattle.bal_tree.specs.declared.action.WaitMember.{WaitMember}
-use Rattle.bal_tree.specs.declared.expr.BinaryOp.TheVariants as op
-use Rattle.bal_tree.specs.declared.expr.BinaryOp.{BinaryOp}
 use Rattle.bal_tree.specs.declared.expr.Call.TheOpen as layer
 use Rattle.bal_tree.specs.declared.expr.Call.{Call, Call-F, fold-roll-Call, ind-Call, map-Call, roll-Call}
 use Rattle.bal_tree.specs.declared.expr.Detail.{Detail, Detail-F, fold-roll-Detail, map-Detail, roll-Detail}
@@ -28,7 +26,7 @@ use Rattle.calm_needs.specs.Calm.{IsCalm, NeedsAreCalm}
 use Rattle.check_words.specs.State.{State}
 use Rattle.descriptors.specs.declared.names.Names.{Names}
 use Rattle.expr_needs.specs.ActionTable.{action_needs, await_member_needs, await_needs, behind_word, checked_needs, read_rhs}
-use Rattle.expr_needs.specs.ExprTable.{Reading, accessed_needs, against, argument_needs, binary_needs, call_step, called_needs, callee_needs, cause_needs, detail_step, expr_step, freely, index_needs, item_needs, key_step, member_needs, member_step, postfix_step, primary_step, read_call, read_detail, read_expr, read_key, read_member, read_postfix, read_primary, reading, seen_of}
+use Rattle.expr_needs.specs.ExprTable.{Reading, accessed_needs, against, argument_needs, binary_needs, call_step, called_needs, callee_needs, cause_needs, detail_step, expr_step, freely, index_needs, item_needs, key_step, member_step, postfix_step, primary_step, read_call, read_detail, read_expr, read_key, read_member, read_postfix, read_primary, reading, seen_of}
 use Rattle.expr_needs.specs.Needs.{Adds, Awaits, BeginsKeys, CallsMethod, CallsNamed, CallsValue, Casts, Checks, ChecksPanicking, ChoosesList, ChoosesMapping, Compares, ComputesKey, Decides, Describes, DropsWant, Encloses, ExpectsArgument, ExpectsItem, ExpectsMember, Fails, FillsNil, Flushes, Forms, GivesKey, GivesLiteral, GivesNamed, IsAccessed, IsArgument, IsDetail, IsIndex, IsItem, IsMember, IsOf, IsSort, LacksCause, MakesCall, MakesError, MakesList, MakesMapping, Need, ReadsElement, ReadsField, ReadsOptional, Receives, Sends, SendsAndWaits, Splits, Starts, TakesKey, Tests, Traps, Turns, WaitsForAll, WaitsForAny, WantsErrorToo}
 use Rattle.expr_needs.specs.Operators.{family_of, left_expects, left_needs, made_of, prefix_expects, prefix_needs, right_expects, right_needs}
 use Rattle.expr_needs.specs.declared.operators.Family.TheVariants.{Arithmetic, Condition, Elvis, Equality, Identity, Order, Sum}
@@ -39,7 +37,7 @@ use Rattle.expr_needs.specs.declared.expected.Expected.{Expected}
 use Rattle.expr_needs.specs.declared.kind.Kind.TheVariants as kind
 use Rattle.expr_needs.specs.declared.kind.Kind.{Kind}
 use Rattle.kept_flows.proofs.Clearing.{all-clears, any-clears, call-clears, flushes-clears, list-clears, literal-clears, mapping-clears, named-clears, receives-clears, starts-clears}
-use Rattle.kept_flows.proofs.Keeping.{Fresh, FreshReading, KeepsFresh, Quiet, against-fresh, both-ways, by-calm, clearing, conditional, fresh-on, fresh-then, function, quiet-all, quiet-both, quiet-fresh, quiet-nothing, quiet-turns, then-fresh}
+use Rattle.kept_flows.proofs.Keeping.{Fresh, FreshReading, Quiet, against-fresh, both-ways, by-calm, clearing, conditional, fresh-on, fresh-then, function, quiet-all, quiet-both, quiet-fresh, quiet-nothing, quiet-turns, then-fresh}
 use Rattle.needs.specs.Needs.{in_turn, in_turn_from}
 use Rattle.type_model.specs.Calls.{Asked}
 use Rattle.type_model.specs.declared.answers.TypeLimit.{TypeLimit}
