@@ -1,9 +1,8 @@
 -- What is said of all that is listed is said of all that is listed of each part.
-use Rattle.std.proofs.Common.{All, List, Option, None, Some, [], ◌∷◌}
-use Rattle.std.specs.Prelude.{IfSome, ⊤}
+use Rattle.std.proofs.Common.{All, []}
 use Rattle.std.proofs.lemmas.List.Elements.{All-head}
 use Rattle.check_words.proofs.Standing.{back-have, front-have}
-use Rattle.typed_tree.specs.Listed.{Listed, joined, members, one, ◌&◌}
+use Rattle.typed_tree.specs.Listed.{Listed, members, one, ◌&◌}
 
 module _ {A : Type 0} (P : A → Type 0) where
   abbrev pub Each : Listed A → Type 0

@@ -1,5 +1,5 @@
 -- Each statement, block and clause is known, by induction on trees.
-use Rattle.std.proofs.Common.{List, None, Option, Some, [], false, map, subst, sym, true, ◌∷◌, ◌≡◌}
+use Rattle.std.proofs.Common.{List, None, Option, Some, [], map, subst, sym, ◌∷◌, ◌≡◌}
 use Rattle.std.specs.Global.{Box}
 use Rattle.bal_base.specs.declared.place.Place.{Place}
 use Rattle.bal_tree.specs.StmtLayers.{BlockOf, ClauseOf, ElseOf, IfStmtOf, StmtOf}
@@ -42,7 +42,7 @@ use Rattle.typed_exprs.specs.Lines.{Run}
 use Rattle.typed_needs.specs.Going.{GoesOn}
 use Rattle.typed_needs.specs.TypedRuns.{AllRunsAreTyped}
 use Rattle.typed_needs.specs.WholeRuns.{RunGoesOn, RunsGoOn}
-use Rattle.typed_tree.specs.Listed.{Listed, joined, nothing, one, ◌&◌}
+use Rattle.typed_tree.specs.Listed.{Listed, joined, nothing, one}
 use Rattle.typed_trees.proofs.Leaving.{only-met}
 use Rattle.typed_trees.proofs.Runs.{booleans, truth}
 use Rattle.typed_bodies.specs.Lines.{AllLinesAreTyped}
