@@ -5,6 +5,7 @@ use Rattle.std.specs.Prelude.{Contains}
 use Rattle.std.specs.Global.{Vec}
 use Rattle.bal_base.specs.declared.place.Place.{Place}
 use Rattle.bal_tree.specs.declared.action.Rhs.{Rhs}
+use Rattle.bal_tree.specs.declared.def.Body.TheVariants as body
 use Rattle.bal_tree.specs.declared.def.FunctionDef.{FunctionDef}
 use Rattle.bal_tree.specs.declared.def.Worker.{Worker}
 use Rattle.bal_tree.specs.declared.stmt.Block.{out-Block}
@@ -63,7 +64,8 @@ use Rattle.typed_units.proofs.Ending.{FunctionEnded, function-ended}
 use Rattle.typed_units.proofs.ValueBodies.{value-typed}
 use Rattle.typed_units.proofs.Workers.{names-all, nil-is-result}
 use Rattle.typed_units.specs.Bodies.{AllBodiesMakeTyped, BodiesMakeTyped}
-use Rattle.typed_units.specs.Functions.{AllBodiesAreTyped, BlockBodyIsTyped, ComesToFunction, HasFunctions, inside_of, unit_of_function, units_in_body}
+use Rattle.typed_units.proofs.Parts.{BlockBodyIsTyped}
+use Rattle.typed_units.specs.Functions.{AllBodiesAreTyped, ComesToFunction, HasFunctions, inside_of, unit_of_function, units_in_body, BodyIsTyped}
 use Rattle.typed_units.specs.Peers.{ActsOnPeers}
 
 -- ---- workers that come between
@@ -383,8 +385,9 @@ module _ (made : MadeStatementsAreTyped) (bodies : AllBodiesMakeTyped) (passes :
 
 pub all-bodies-are-typed : MadeStatementsAreTyped → AllBodiesMakeTyped → (passes : List AtomDef → Asked → TypeLimit → Type 0) → AllTreesAreKnown passes → KeptStmtPositions passes → RunsGoOn passes
     → AllBodiesAreTyped passes
-all-bodies-are-typed made bodies passes trees positions goes names env place named takes =
-    record {
-      block = body-typed made bodies passes trees positions goes names env place named takes;
-      value = value-typed made bodies passes trees names env place named takes;
-    }
+all-bodies-are-typed made bodies passes trees positions goes names env place named takes = whole
+  where
+    whole : BodyIsTyped passes names env place
+    whole d (body.Block initial workers rest close at) old new unit run far begins hand peers =
+        body-typed made bodies passes trees positions goes names env place named takes d initial.items workers.items rest.items close old new unit run far begins hand peers
+    whole d (body.Expr value at) old new unit run far begins hand peers = value-typed made bodies passes trees names env place named takes d value.value old new unit run far begins

@@ -54,7 +54,8 @@ use Rattle.typed_tree.specs.declared.unit.TypedFunction.{TypedFunction}
 use Rattle.typed_tree.specs.declared.unit.TypedUnit.{TypedUnit}
 use Rattle.typed_units.proofs.Beginning.{unit-gone}
 use Rattle.typed_units.specs.Bodies.{AllBodiesMakeTyped, BodiesMakeTyped}
-use Rattle.typed_units.specs.Functions.{ComesToFunction, HasFunctions, ValueBodyIsTyped, inside_of, unit_of_function, units_in_body}
+use Rattle.typed_units.proofs.Parts.{ValueBodyIsTyped}
+use Rattle.typed_units.specs.Functions.{ComesToFunction, HasFunctions, inside_of, unit_of_function, units_in_body}
 
 -- the unit and the last part are gone, and a function is made of them
 record ValueEnded (d : FunctionDef) (old new : State) : Type 0 where
