@@ -1,0 +1,9 @@
+pub mod Following
+pub mod Inherent
+pub mod Knowing
+pub mod KnownFrames
+pub mod KnownStates
+pub mod KnownWays
+pub mod Machines
+pub mod Narrowing
+pub mod Units
