@@ -1,0 +1,4 @@
+mod Ends
+mod Layers
+mod Walks
+mod Whole

@@ -1,0 +1,7 @@
+mod Counting
+mod Due
+mod Falling
+mod Loops
+mod Plans
+mod Stripped
+mod Within
