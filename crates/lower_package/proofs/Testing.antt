@@ -10,6 +10,7 @@ use Rattle.type_model.specs.declared.basic.Ty.{Ty}
 use Rattle.type_model.specs.SameType.{IsSameType}
 use Rattle.run_model.specs.Inherent.{member_types}
 use Rattle.stack_code.specs.declared.code.Code.{Code}
+use Rattle.stack_code.specs.declared.code.StackMap.{StackMap}
 use Rattle.stack_code.specs.Tables.{HasTestedMembers}
 use Rattle.lower_model.specs.Laying.{Agrees}
 use Rattle.lower_model.specs.Making.{place_of}
@@ -21,7 +22,7 @@ use Rattle.tested_types.specs.Asked.{AreOnce, HasMember, IsAmong, IsAsked, IsDef
 use Rattle.tested_types.proofs.Noting.{same-back, same-then}
 use Rattle.tested_types.proofs.Listed.{any-zip, any-zip-back}
 use Rattle.tested_types.proofs.Written.{members-are-tested, tests-what-it-asks}
-use Rattle.lower_package.specs.Inherent.{with_inherent}
+use Rattle.lower_package.specs.Completed.{completed}
 use Rattle.lower_package.proofs.Copied.{back, members, rests, there, zip-append}
 use Rattle.lower_package.proofs.Naming.{still-agrees}
 
@@ -94,17 +95,17 @@ still-defined defs copies found copied defined k d lt = by (get_or found k d) (s
     by a (Some d) e h = let (copy, at, is) = there IsSameDef defs copies a d copied e in subst (λ o. IsSomeAnd o (λ d. ⊤)) (sym at) tt
 
 -- a code that gets the inherent atoms with which its tested types were found
-module _ (draft : Draft) (steps : List Step) (defs : List AtomDef) (code : Code) (found inherent : List ℕ) (types : List SemType) (laid : steps ≡ draft.steps.items) (same : inherent ≡ found) (agrees : Agrees code (place_of (making_of draft)) (making_of draft)) (copied : AllZip IsSameDef defs code.atoms)
+module _ (draft : Draft) (steps : List Step) (defs : List AtomDef) (code : Code) (found inherent : List ℕ) (maps : List StackMap) (types : List SemType) (laid : steps ≡ draft.steps.items) (same : inherent ≡ found) (agrees : Agrees code (place_of (making_of draft)) (making_of draft)) (copied : AllZip IsSameDef defs code.atoms)
     (is : code.tested ≡ types) (once : AreOnce types) (are : (t : SemType) → IsAmong types t ↔ IsAsked (map step_of steps) defs inherent t) (defined : All (IsDefinedAt defs) inherent) where
   abbrev whole : Code
-  whole = with_inherent code found
+  whole = completed code found maps
 
   asked : (t : SemType) → IsAmong types t ↔ IsAsked (making_of draft).steps defs found t
   asked t = subst (λ ns. IsAmong types t ↔ IsAsked (map step_of draft.steps.items) defs ns t) same (subst (λ ss. IsAmong types t ↔ IsAsked (map step_of ss) defs inherent t) laid (are t))
 
   pub tests : TestsWhatItAsks whole
   tests =
-      tests-what-it-asks (making_of draft) (place_of (making_of draft)) defs whole (still-agrees code found (place_of (making_of draft)) (making_of draft) agrees)
+      tests-what-it-asks (making_of draft) (place_of (making_of draft)) defs whole (still-agrees code found maps (place_of (making_of draft)) (making_of draft) agrees)
       (λ a t. (member-there defs code.atoms copied a t, member-back defs code.atoms copied a t))
       (subst AreOnce (sym is) once) (λ t. subst (λ l. IsAmong l t ↔ IsAsked (making_of draft).steps defs found t) (sym is) (asked t))
 

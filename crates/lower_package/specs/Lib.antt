@@ -1,2 +1,2 @@
-pub mod Inherent
+pub mod Completed
 pub mod Limits

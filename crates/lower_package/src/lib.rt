@@ -1,11 +1,11 @@
 //! The lowering of packages: code for a package whose bodies are checked.
 //!
-//! - [`lower`]: the code of a package; [`MOST_NODES`], how many nodes it may have.
+//! - [`lower`]: the code of a package; [`lower_to_run`]: the same without maps; [`MOST_NODES`], how many nodes it may have.
 //!
-//! Which code is lowered from a package, and that it then does what the package means, is said by `lower_model`. `specs/Limits.antt`
-//! says when a package is too large.
+//! Which code is lowered from a package, and that it then does what the package means, is said by `lower_model`, and which maps it has by
+//! `map_model` and `code_maps`. `specs/Limits.antt` says when a package is too large.
 #![tactic(auto)]
 
 mod packages;
 
-pub use packages::{MOST_NODES, lower};
+pub use packages::{MOST_NODES, lower, lower_to_run};

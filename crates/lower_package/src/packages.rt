@@ -14,16 +14,18 @@ ghost use Rattle.code_assembly.specs.Copies.{IsSameDef};
 ghost use Rattle.code_assembly.specs.Unit.{tree_in};
 ghost use Rattle.stack_code.specs.Tables.{HasTestedMembers};
 ghost use Rattle.tested_types.specs.Asked.{TestsWhatItAsks};
-ghost use Rattle.lower_package.specs.Inherent.{with_inherent as with_inherent_atoms};
+ghost use Rattle.code_maps.specs.Given.{AreMapsOf};
+ghost use Rattle.lower_package.specs.Completed.{completed, over};
 ghost use Rattle.lower_package.specs.Limits.{IsCodeLimit, IsRefused, PassesNodes};
 
 use bal_base::{AtomList, Fault, FaultCode, Kept, Memory, Stop};
 use code_assembly::{LaidUnit, assemble};
+use code_maps::maps_of;
 use inherent_atoms::inherent;
 use lower_expr::Draft;
 use lower_stmt::unit;
 use package_units::{HeldUnit, units};
-use stack_code::Code;
+use stack_code::{Code, StackMap, StackMaps};
 use std::alloc::Global;
 use tested_types::tested;
 use type_model::{AtomDef, TypeEnv};
@@ -83,22 +85,30 @@ fn fresh<'a>(alloc: Global) -> Draft<'a>
     }
 }
 
-/// The code with these inherent atoms.
-fn with_inherent(mut code: Code, inherent: Vec<u32>) -> Code
-    ensures { result ≡ with_inherent_atoms code «inherent».items }
+/// The code with these inherent atoms and these maps.
+fn complete(mut code: Code, atoms: Vec<u32>, maps: Vec<StackMap>) -> Code
+    ensures { result ≡ completed code atoms.items maps.items }
 {
-    code.inherent = AtomList::of(inherent);
+    code.inherent = AtomList::of(atoms);
+    code.maps = StackMaps::of(maps);
     code
 }
 
-/// The code of a package that is not too large.
-fn code_of(alloc: Global, atoms: &[AtomDef], package: &TypedPackage) -> Result<Code, Memory>
+/// The code of a package that is not too large, with these maps.
+fn code_of(
+    alloc: Global,
+    atoms: &[AtomDef],
+    package: &TypedPackage,
+    given: Vec<StackMap>,
+) -> Result<Code, Memory>
     ensures lowered { IfOk result (λ code. IsLowered code.atoms «package».now code) }
+    ensures over { IfOk result (λ code. IsLowered atoms.now «package».now (over atoms.now code)) }
     ensures atoms { IfOk result (λ code. AllZip IsSameDef atoms.now code.atoms) }
     ensures inherent { IfOk result (HasInherentOf «package».now) }
     ensures distinct { IfOk result (λ code. AllPairs ◌≢◌ code.inherent) }
     ensures tested { IfOk result TestsWhatItAsks }
     ensures members { IfOk result (λ code. All (λ a. IsSomeAnd (slice_get code.atoms a) (HasTestedMembers code)) code.inherent) }
+    ensures maps { IfOk result (λ code. code.maps ≡ given.items) }
 {
     let us = units(alloc, package)?;
     let mut draft = fresh(alloc);
@@ -113,18 +123,19 @@ fn code_of(alloc: Global, atoms: &[AtomDef], package: &TypedPackage) -> Result<C
     )?;
     let types = tested(alloc, &draft.steps, atoms, &found)?;
     let code = assemble(alloc, &draft, &laid, package, atoms, types)?;
-    Ok(with_inherent(code, found))
+    Ok(complete(code, found, given))
 }
 
 /// The code of a package, over the definitions of its atoms, which have the same numbers there. What may come of the code is what
 /// may come of the package, by the laws of `lower_model`. Its inherent atoms are those with which the package makes structures,
 /// functions and futures, each once. Its tested types are those of its tests and casts and of members of structures with inherent
-/// atoms, each once, as they are written. The package's functions have accepted plans; nothing in instructions depends on these. It is
-/// refused with 501 exactly where it has more than [`MOST_NODES`] nodes, and the fault shows how many. It answers want of memory
-/// also for trees that no checker gives: where units don't have the numbers from 0 on, where a statement leaves a loop and there
-/// is none, where a call has not as many operands as its unit has parameters, and where an atom that is named has no definition.
-/// The time grows with the nodes of the tree, with the types of its slots and atoms, and for each test, cast and member with the tested
-/// types.
+/// atoms, each once, as they are written. Its maps are those of the package, over the types of all booleans, all ints and all strings.
+/// The package's functions have accepted plans; nothing in instructions depends on these. It is refused with 501 exactly where it has
+/// more than [`MOST_NODES`] nodes, and the fault shows how many. It answers want of memory also for trees that no checker gives: where
+/// units don't have the numbers from 0 on, where a statement leaves a loop and there is none, where a call has not as many operands as
+/// its unit has parameters, and where an atom that is named has no definition; and where the maps would hold more than
+/// [`MOST_ENTRIES`](code_maps::MOST_ENTRIES) types and numbers, before anything is made. The time grows with the nodes of the tree, with
+/// the types of its slots and atoms, with what the maps hold, and for each test, cast and member with the tested types.
 pub fn lower(
     alloc: Global,
     env: &TypeEnv,
@@ -137,6 +148,34 @@ pub fn lower(
     ensures distinct { IfOk result (λ code. AllPairs ◌≢◌ code.inherent) }
     ensures tested { IfOk result TestsWhatItAsks }
     ensures members { IfOk result (λ code. All (λ a. IsSomeAnd (slice_get code.atoms a) (HasTestedMembers code)) code.inherent) }
+    ensures maps { IfOk result (λ code. AreMapsOf «package».now code.maps) }
+    ensures limit { IfFault result (λ fault. PassesNodes «package».now × IsCodeLimit «package».now fault) }
+    ensures passes { PassesNodes «package».now → IsRefused result }
+{
+    within_nodes(package)?;
+    let maps = maps_of(alloc, package)?;
+    let code = code_of(alloc, env.defs(), package, maps)?;
+    Ok(code)
+}
+
+/// The same code without maps, which are a verifier's: so it costs neither their time nor their room, and isn't refused for these. It is
+/// lowered from the package over the definitions `env` themselves, of which its own are copies.
+pub fn lower_to_run(
+    alloc: Global,
+    env: &TypeEnv,
+    package: &TypedPackage,
+) -> Result<Code, Stop<Fault>>
+    ensures lowered { IfOk result (λ code. IsLowered env.now «package».now (over env.now code)) }
+    ensures limit { IfFault result (λ fault. PassesNodes «package».now × IsCodeLimit «package».now fault) }
+    ensures passes { PassesNodes «package».now → IsRefused result }
+{
+    within_nodes(package)?;
+    let code = code_of(alloc, env.defs(), package, Vec::new(alloc))?;
+    Ok(code)
+}
+
+/// Refuses a package that is too large.
+fn within_nodes(package: &TypedPackage) -> Result<(), Stop<Fault>>
     ensures limit { IfFault result (λ fault. PassesNodes «package».now × IsCodeLimit «package».now fault) }
     ensures passes { PassesNodes «package».now → IsRefused result }
 {
@@ -148,6 +187,5 @@ pub fn lower(
             kept: Kept::Count(count),
         }));
     }
-    let code = code_of(alloc, env.defs(), package)?;
-    Ok(code)
+    Ok(())
 }

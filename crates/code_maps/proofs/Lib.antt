@@ -1,0 +1,5 @@
+pub mod Begun
+pub mod Copying
+pub mod Counting
+pub mod Playing
+pub mod Summing

@@ -1,0 +1,6 @@
+use Rattle.std.proofs.Common.{◌∙◌, ◌++◌, [], ◌∷◌, ap}
+use Rattle.std.proofs.lemmas.List.{replicate_more}
+use Rattle.code_maps.proofs.exchanged.zeros.Goals as goal
+
+pub loop-preserved : goal.loop-preserved
+loop-preserved c = c.in_ok-push.ensures.items ∙ ap (λ l. l ++ 0 ∷ []) c.loop.invariant ∙ replicate_more c.loop.counter 0

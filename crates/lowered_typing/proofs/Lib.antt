@@ -1,0 +1,10 @@
+pub mod Coded
+pub mod Exprs
+pub mod Landed
+pub mod Naming
+pub mod Nesting
+pub mod Pieces
+pub mod Stmts
+pub mod Tidy
+pub mod Turning
+pub mod Units
