@@ -68,7 +68,7 @@ pub fn expr(alloc: Global, any: &SharedTy, e: &mut TypedExpr) -> Result<(), Memo
             operands,
             ty: _ty,
             at: _at,
-        } => within(alloc, any, operands),
+        } => exprs(alloc, any, operands),
         TypedExpr::Implied { .. } => Ok(()),
         TypedExpr::Local { narrowed, .. } => {
             *narrowed = false;
@@ -146,22 +146,9 @@ pub fn expr(alloc: Global, any: &SharedTy, e: &mut TypedExpr) -> Result<(), Memo
     }
 }
 
-/// The expressions, which then read variables as declared.
-pub fn exprs(
-    alloc: Global,
-    any: &SharedTy,
-    mut es: Vec<TypedExpr>,
-) -> Result<Vec<TypedExpr>, Memory>
-    requires { IsAnything (sem_of any.now) }
-    ensures { IfOk result (λ fs. AllZip IsBare es.items fs.items) }
-{
-    within(alloc, any, &mut es)?;
-    Ok(es)
-}
-
-/// The expressions read variables as declared, where they are.
+/// The expressions read variables as declared.
 #[cycle(expr)]
-fn within(alloc: Global, any: &SharedTy, es: &mut Vec<TypedExpr>) -> Result<(), Memory>
+pub fn exprs(alloc: Global, any: &SharedTy, es: &mut Vec<TypedExpr>) -> Result<(), Memory>
     requires { IsAnything (sem_of any.now) }
     ensures { OnOk result (AllZip IsBare es.old.items es.new.items) }
 {

@@ -1,7 +1,7 @@
 //! Statements that read variables as declared.
 #![tactic(auto)]
 
-ghost use Rattle.std.specs.Prelude.{◌≡◌, OnOk};
+ghost use Rattle.std.specs.Prelude.{OnOk};
 ghost use Rattle.std.specs.List.{AllZip};
 ghost use Rattle.typed_tree.specs.SharedTypes.{sem_of};
 ghost use Rattle.declared_reads.specs.Declared.{IsAnything, IsBare, IsBareSource, IsBareStmt, IsBareTarget};
@@ -10,7 +10,6 @@ ghost use Rattle.bare_packages.specs.Parts.{IsBareClause, IsBareResult};
 use crate::exprs::{expr, exprs};
 use bal_base::Memory;
 use std::alloc::Global;
-use std::mem;
 use typed_tree::{SharedTy, Source, TypedClause, TypedExpr, TypedStmt, UpdateTarget};
 
 /// The expression in the box reads variables as declared.
@@ -19,16 +18,6 @@ pub fn boxed(alloc: Global, any: &SharedTy, e: &mut Box<TypedExpr>) -> Result<()
     ensures { OnOk result (IsBare e.old.value e.new.value) }
 {
     expr(alloc, any, e)
-}
-
-/// Each of the expressions reads variables as declared.
-fn operands(alloc: Global, any: &SharedTy, es: &mut Vec<TypedExpr>) -> Result<(), Memory>
-    requires { IsAnything (sem_of any.now) }
-    ensures { OnOk result (AllZip IsBare es.old.items es.new.items) }
-{
-    let taken = mem::replace(es, Vec::new(alloc));
-    *es = exprs(alloc, any, taken)?;
-    Ok(())
 }
 
 /// The value that is returned reads variables as declared.
@@ -98,10 +87,10 @@ pub fn stmt(alloc: Global, any: &SharedTy, s: &mut TypedStmt) -> Result<(), Memo
     match s {
         TypedStmt::Set { value, at: _at, .. } => boxed(alloc, any, value),
         TypedStmt::Perform {
-            operands: es,
+            operands,
             at: _at,
             ..
-        } => operands(alloc, any, es),
+        } => exprs(alloc, any, operands),
         TypedStmt::Update {
             target: to,
             op: _op,

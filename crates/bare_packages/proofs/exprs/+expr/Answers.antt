@@ -46,8 +46,8 @@ all-loop-e-preserved t c =
 
 pub expr-returns-in-Strict : goal.expr-returns-in-Strict
 expr-returns-in-Strict t c =
-    ok-one c.within.result (λ z. strict-bare c.args.e.now c.in-Strict.form _ c.in-Strict.operands _ c.in-Strict._ty _ c.in-Strict._at _ c.in-Strict.is (form-of-strict c.args.e.now c.in-Strict.form c.in-Strict.operands c.in-Strict._ty c.in-Strict._at _ c.in-Strict.is) c.in-Strict._ty-is c.in-Strict._at-is
-    (subst (λ x. AllZip IsBare x.items c.within.new.es.items) c.in-Strict.operands-is z)) c.within.ensures
+    ok-one c.exprs.result (λ z. strict-bare c.args.e.now c.in-Strict.form _ c.in-Strict.operands _ c.in-Strict._ty _ c.in-Strict._at _ c.in-Strict.is (form-of-strict c.args.e.now c.in-Strict.form c.in-Strict.operands c.in-Strict._ty c.in-Strict._at _ c.in-Strict.is) c.in-Strict._ty-is c.in-Strict._at-is
+    (subst (λ x. AllZip IsBare x.items c.exprs.new.es.items) c.in-Strict.operands-is z)) c.exprs.ensures
 
 pub expr-returns-in_ok-expr-in-Elvis-2 : goal.expr-returns-in_ok-expr-in-Elvis-2
 expr-returns-in_ok-expr-in-Elvis-2 t c =

@@ -19,8 +19,8 @@ stmt-returns-in-Set t c =
 pub stmt-returns-in-Perform : goal.stmt-returns-in-Perform
 unfolding out-TypedStmt Carrier.out
 stmt-returns-in-Perform t c =
-    ok-one c.operands.result (λ x. perform-bare c.args.s.now c.in-Perform.form _ c.in-Perform.es _ c.in-Perform._at _ c.in-Perform.is (ap (λ e. (values_d stmt.enum 1 (c.in-Perform.form, (c.in-Perform.es, (c.in-Perform._at, tt))) e).0) c.in-Perform.is) c.in-Perform._at-is
-    (subst (λ z. AllZip IsBare z.items c.operands.new.es.items) c.in-Perform.es-is x)) c.operands.ensures
+    ok-one c.exprs.result (λ x. perform-bare c.args.s.now c.in-Perform.form _ c.in-Perform.operands _ c.in-Perform._at _ c.in-Perform.is (ap (λ e. (values_d stmt.enum 1 (c.in-Perform.form, (c.in-Perform.operands, (c.in-Perform._at, tt))) e).0) c.in-Perform.is) c.in-Perform._at-is
+    (subst (λ z. AllZip IsBare z.items c.exprs.new.es.items) c.in-Perform.operands-is x)) c.exprs.ensures
 
 pub stmt-returns-in_ok-target-in-Update : goal.stmt-returns-in_ok-target-in-Update
 stmt-returns-in_ok-target-in-Update t c =
