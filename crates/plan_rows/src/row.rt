@@ -1,7 +1,7 @@
 //! What is told of a row.
 
 use crate::shown::fault_text;
-use crate::trial::{BEFORE, Outcome, tried};
+use crate::trial::{BEFORE, Outcome, holds_changed, tried};
 use bal_base::{Fault, Memory, Stop};
 use row_lines::{Judge, Row, Told};
 use std::alloc::Global;
@@ -21,9 +21,26 @@ impl Judge for Bodies {
 
 fn judge_body(body: &str, wanted: &str, told: &mut Told) {
     let (wanted, order) = parted(wanted);
+    match wanted.strip_prefix("plan ") {
+        Some(change) => judge_change(body, change, order, told),
+        None => judge_plan(body, wanted, order, told),
+    }
+}
+
+fn judge_plan(body: &str, wanted: &str, order: &str, told: &mut Told) {
     match tried(told.alloc(), body, order) {
         Ok(tried) => judge_tried(&tried, wanted, told),
         Err(Stop::Fault(fault)) => judge_fault(&fault, wanted, told),
+        Err(Stop::Memory) => told.memory(),
+    }
+}
+
+fn judge_change(body: &str, change: &str, wanted: &str, told: &mut Told) {
+    match holds_changed(told.alloc(), body, change) {
+        Ok(Some(true)) => told.text("plan", wanted, "right"),
+        Ok(Some(false)) => told.text("plan", wanted, "wrong"),
+        Ok(None) => told.fails("there is no such change, or the two tests of plans don't agree"),
+        Err(Stop::Fault(_)) => told.fails("the body has a fault"),
         Err(Stop::Memory) => told.memory(),
     }
 }

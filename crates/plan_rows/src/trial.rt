@@ -1,5 +1,6 @@
 //! What the product says of a file.
 
+use crate::changes::{change_named, changed, rank_of};
 use crate::shown::{add_pairs, event_named};
 use bal_base::{Fault, Memory, Name, Numbers, Row, Stop, Text};
 use bal_lexer::lex;
@@ -7,10 +8,11 @@ use bal_tree::{FileTree, Files, Module, Modules, Package, SourceFile};
 use compile_front::{Accepted, Answered, accept};
 use package_plans::PackagePlans;
 use parse_stmt::parse_file;
+use plan_checks::check_plan;
 use std::alloc::Global;
 use subtype_decider::Decider;
 use typed_tree::{Plan, TypedFunction, TypedPackage};
-use worker_plans::check_plan;
+use worker_plans::check_plan as check_gathered;
 
 /// What stands before the body in the file.
 pub const BEFORE: &str = "import ballerina/io;\nfunction tried(boolean q) {";
@@ -18,6 +20,9 @@ pub const BEFORE: &str = "import ballerina/io;\nfunction tried(boolean q) {";
 /// What stands behind the body.
 pub const BEHIND: &str =
     "}\nfunction g() returns error? { }\nfunction fails() returns error? { return error(\"fails\"); }\nfunction one() returns int { return 1; }\nfunction f() returns int|error { return 1; }\nfuture<int|error>? me = ();\n";
+
+/// As many events as a plan may have that is tested without memory too, which takes time that grows with their square.
+const FEW_EVENTS: usize = 512;
 
 /// The longest texts that are read, in bytes.
 const MOST_BYTES: usize = 4_294_967_295;
@@ -37,6 +42,51 @@ pub struct Outcome {
 
 /// The plans of the file with this body, or its first fault. The ranks of the first function are compared at the events that are named.
 pub fn tried(alloc: Global, body: &str, order: &str) -> Result<Outcome, Stop<Fault>> {
+    let Accepted {
+        names: _,
+        package,
+        plans,
+    } = accepted(alloc, body)?;
+    planned(alloc, &package, plans, order)
+}
+
+/// Whether the plan of the first function of the file with this body is one with a change in it, or nothing where there is no such
+/// change.
+pub fn holds_changed(alloc: Global, body: &str, change: &str) -> Result<Option<bool>, Stop<Fault>> {
+    let Accepted {
+        names: _,
+        package,
+        plans,
+    } = accepted(alloc, body)?;
+    let PackagePlans { functions } = plans;
+    for made in functions {
+        if let Some(f) = package.functions.as_slice().first() {
+            return Ok(holds_with(alloc, f, &made, change)?);
+        }
+    }
+    Ok(None)
+}
+
+/// Whether the plan with the change is one. Both tests of plans say so, or both not.
+fn holds_with(
+    alloc: Global,
+    f: &TypedFunction,
+    made: &Plan,
+    change: &str,
+) -> Result<Option<bool>, Memory> {
+    match change_named(change) {
+        Some(change) => {
+            let plan = changed(alloc, f, made, change)?;
+            let holds = check_plan(f, &plan);
+            let same = check_gathered(alloc, f, &plan)? == holds;
+            Ok(if same { Some(holds) } else { None })
+        }
+        None => Ok(None),
+    }
+}
+
+/// The file with this body, if it has no fault.
+fn accepted(alloc: Global, body: &str) -> Result<Accepted, Stop<Fault>> {
     let text = format!(in alloc; "{BEFORE}{body}{BEHIND}")?;
     if text.len() > MOST_BYTES {
         return Err(Stop::Memory);
@@ -46,12 +96,7 @@ pub fn tried(alloc: Global, body: &str, order: &str) -> Result<Outcome, Stop<Fau
     let package = package_with(alloc, text.as_str(), tree)?;
     let Answered { types, answer } = accept(alloc, Decider::new(alloc), &package);
     let _decider = types;
-    let Accepted {
-        names: _,
-        package,
-        plans,
-    } = answer?;
-    planned(alloc, &package, plans, order)
+    answer
 }
 
 /// The package whose one file this is.
@@ -116,7 +161,7 @@ fn add_plan(
     tried: &mut Outcome,
 ) -> Result<(), Memory> {
     add_pairs(&mut tried.pairs, made.pairs.as_slice())?;
-    if !check_plan(alloc, f, &made)? {
+    if !is_taken(alloc, f, &made)? {
         tried.is_checked = false;
     }
     if !rises(f, &made, order) {
@@ -128,11 +173,19 @@ fn add_plan(
     Ok(())
 }
 
+/// Whether the plan is taken for one, by the test without memory too, where it has few events.
+fn is_taken(alloc: Global, f: &TypedFunction, made: &Plan) -> Result<bool, Memory> {
+    if made.ranks.as_slice().len() <= FEW_EVENTS && !check_plan(f, made) {
+        return Ok(false);
+    }
+    Ok(check_gathered(alloc, f, made)?)
+}
+
 /// Whether the ranks rise along the events that are named.
 fn rises(f: &TypedFunction, made: &Plan, order: &str) -> bool {
     let mut last = None;
     for name in order.split_ascii_whitespace() {
-        let rank = rank_of(f, made, name);
+        let rank = named_rank(f, made, name);
         if rank.is_none() || last >= rank {
             return false;
         }
@@ -142,14 +195,8 @@ fn rises(f: &TypedFunction, made: &Plan, order: &str) -> bool {
 }
 
 /// The rank of the event that is named.
-fn rank_of(f: &TypedFunction, made: &Plan, name: &str) -> Option<u32> {
-    let (worker, number) = event_named(name)?;
-    for (e, rank) in f.events.as_slice().iter().zip(made.ranks.as_slice()) {
-        if u64::from(e.event.worker) == worker && u64::from(e.event.number) == number {
-            return Some(*rank);
-        }
-    }
-    None
+fn named_rank(f: &TypedFunction, made: &Plan, name: &str) -> Option<u32> {
+    rank_of(f, made.ranks.as_slice(), event_named(name)?)
 }
 
 /// Whether a plan without pairs, or with one rank for all events, is taken for one though the plan has some, or several events.
@@ -160,7 +207,7 @@ fn is_lax(alloc: Global, f: &TypedFunction, made: Plan) -> Result<bool, Memory> 
         pairs: Row::of(Vec::new(alloc)),
         ranks,
     };
-    if is_paired && check_plan(alloc, f, &is_unpaired)? {
+    if is_paired && check_gathered(alloc, f, &is_unpaired)? {
         return Ok(true);
     }
     let count = is_unpaired.ranks.as_slice().len();
@@ -168,5 +215,5 @@ fn is_lax(alloc: Global, f: &TypedFunction, made: Plan) -> Result<bool, Memory> 
         pairs,
         ranks: Row::of(vec![in alloc; 0; count]?),
     };
-    Ok(is_paired && check_plan(alloc, f, &is_flat)?)
+    Ok(is_paired && check_gathered(alloc, f, &is_flat)?)
 }
