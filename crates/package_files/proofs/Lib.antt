@@ -1,0 +1,5 @@
+pub mod Ascii
+mod Cases
+pub mod Folders
+pub mod Listed
+pub mod Sources
