@@ -1,0 +1,10 @@
+mod AwaitedOne
+mod Awaiting
+mod Calls
+mod Crews
+mod Fields
+mod Names
+mod Native
+mod Others
+mod PairParts
+mod RowParts

@@ -1,0 +1,15 @@
+use Rattle.std.proofs.Common.{Option, Some, ap}
+use Rattle.std.specs.Option.{option_copied}
+use Rattle.operations.specs.declared.library.LibraryCall.{LibraryCall}
+use Rattle.code_needs.specs.Combining.{as_many, of_some}
+use Rattle.code_needs.specs.RowNeeds.{library_needs}
+use Rattle.needs_of_rows.proofs.Finding.{found-as, found-then}
+use Rattle.needs_of_places.proofs.Calls.{listed-is}
+use Rattle.needs_of_places.proofs.library.listed.Goals as goal
+
+pub returns : goal.returns
+returns c =
+    let env = c.args.site.code.now.atoms in
+    found-then (as_many c.args.taken.operands.now c.args.called.count) (library_needs env c.args.called.call (Some c.args.called.atom) c.args.taken.operands.now (option_copied c.args.taken.given)) _ _ _ c.as_many.ensures
+    (found-as _ _ _ _ (ap (λ (o : Option LibraryCall). of_some o (λ k. library_needs env k (Some c.args.called.atom) c.args.taken.operands.now (option_copied c.args.taken.given))) (listed-is c.args.called.call c.requires.lists))
+    (c.list_row.ensures env c.args.called.atom c.atom_at.ensures c.requires.own))

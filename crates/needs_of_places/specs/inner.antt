@@ -1,0 +1,4 @@
+pub mod Awaited
+pub mod Called
+pub mod Grouped
+pub mod Held

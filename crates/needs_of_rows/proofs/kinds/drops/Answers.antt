@@ -1,0 +1,14 @@
+use Rattle.type_model.specs.declared.basic.SemType.{SemType}
+use Rattle.code_needs.specs.Combining.{absent}
+use Rattle.needs_of_rows.proofs.Finding.{found-at-one, found-not-one}
+use Rattle.std.specs.Option.{option_copied}
+use Rattle.needs_of_rows.proofs.kinds.drops.Goals as goal
+
+pub returns-in-Some : goal.returns-in-Some
+returns-in-Some c =
+    found-at-one (λ (a : SemType). absent (option_copied c.args.given)) c.args.operands.now c.in-Some.field-0.now _ _ c.in-Some.ensures
+    (c.absent.ensures)
+
+pub returns-in-None : goal.returns-in-None
+returns-in-None c =
+    found-not-one (λ (a : SemType). absent (option_copied c.args.given)) c.args.operands.now _ _ c.in-None.ensures c.refuse.ensures

@@ -1,0 +1,17 @@
+use Rattle.type_model.specs.declared.basic.SemType.{SemType}
+use Rattle.code_needs.specs.Combining.{◌&◌, need}
+use Rattle.code_needs.specs.RowNeeds.{has}
+use Rattle.code_needs.specs.declared.kind.Kind.TheVariants.{Booleans}
+use Rattle.code_needs.specs.Needs.{Ordered}
+use Rattle.needs_of_rows.proofs.Finding.{found-at-two, found-not-two, found-then}
+use Rattle.std.specs.Option.{option_copied}
+use Rattle.needs_of_rows.proofs.kinds.orders.Goals as goal
+
+pub returns-in-Some : goal.returns-in-Some
+returns-in-Some c =
+    found-at-two (λ (a : SemType) (b : SemType). need (Ordered a b) & has (option_copied c.args.given) Booleans) c.args.operands.now c.in-Some.a.now c.in-Some.b.now _ _ c.in-Some.ensures
+    (found-then (need (Ordered c.in-Some.a.now c.in-Some.b.now)) (has (option_copied c.args.given) Booleans) _ _ _ c.ask.ensures c.has.ensures)
+
+pub returns-in-None : goal.returns-in-None
+returns-in-None c =
+    found-not-two (λ (a : SemType) (b : SemType). need (Ordered a b) & has (option_copied c.args.given) Booleans) c.args.operands.now _ _ c.in-None.ensures c.refuse.ensures

@@ -1,0 +1,15 @@
+use Rattle.type_model.specs.declared.basic.SemType.{SemType}
+use Rattle.code_needs.specs.RowNeeds.{has, makes_none}
+use Rattle.code_needs.specs.declared.kind.Kind.TheVariants.{Strings}
+use Rattle.needs_of_rows.proofs.Finding.{found-at-one, found-not-one}
+use Rattle.std.specs.Option.{option_copied}
+use Rattle.needs_of_rows.proofs.library.writes_text.Goals as goal
+
+pub returns-in-Some : goal.returns-in-Some
+returns-in-Some c =
+    found-at-one (λ (v : SemType). makes_none c.args.atom (has (option_copied c.args.given) Strings)) c.args.operands.now c.in-Some.field-0.now _ _ c.in-Some.ensures
+    (c.gives_kind.ensures)
+
+pub returns-in-None : goal.returns-in-None
+returns-in-None c =
+    found-not-one (λ (v : SemType). makes_none c.args.atom (has (option_copied c.args.given) Strings)) c.args.operands.now _ _ c.in-None.ensures c.refuse.ensures

@@ -1,0 +1,7 @@
+use Rattle.std.proofs.Common.{take}
+use Rattle.code_needs.specs.PlaceNeeds.{same_each}
+use Rattle.needs_of_rows.specs.Finding.{Finds}
+use Rattle.needs_of_rows.proofs.lists.same_pairs.Given as goal
+
+abbrev pub invariant-loop-k : goal.invariant-loop-k
+invariant-loop-k l = Finds (same_each (take l.k l.ss) (take l.k l.ts)) l.fn.found l.found

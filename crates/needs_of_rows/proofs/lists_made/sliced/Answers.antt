@@ -1,0 +1,15 @@
+use Rattle.type_model.specs.declared.basic.SemType.{SemType}
+use Rattle.std.specs.Option.{option_copied}
+use Rattle.code_needs.specs.Combining.{need}
+use Rattle.code_needs.specs.Needs.{PartIn}
+use Rattle.needs_of_rows.specs.ListsMade.{list_with}
+use Rattle.needs_of_rows.proofs.Finding.{found-at-head, found-no-head}
+use Rattle.needs_of_rows.proofs.lists_made.sliced.Goals as goal
+
+pub returns-in-Some : goal.returns-in-Some
+returns-in-Some c =
+    found-at-head (λ (l : SemType). list_with (option_copied c.args.list.def) (λ t. need (PartIn l c.args.keys.now t)) c.args.list.own.now (option_copied c.args.given)) c.args.operands.now c.in-Some.l.now _ _ c.in-Some.ensures.value c.gives_list.ensures
+
+pub returns-in-None : goal.returns-in-None
+returns-in-None c =
+    found-no-head (λ (l : SemType). list_with (option_copied c.args.list.def) (λ t. need (PartIn l c.args.keys.now t)) c.args.list.own.now (option_copied c.args.given)) c.args.operands.now _ _ c.in-None.ensures.value c.refuse.ensures

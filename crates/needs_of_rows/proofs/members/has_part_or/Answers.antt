@@ -1,0 +1,12 @@
+use Rattle.std.proofs.Common.{Option}
+use Rattle.type_model.specs.declared.basic.SemType.{SemType}
+use Rattle.code_needs.specs.Combining.{◌&◌, need, of_some}
+use Rattle.code_needs.specs.Needs.{Has, PartIn}
+use Rattle.needs_of_rows.proofs.Finding.{found-missing, found-there}
+use Rattle.needs_of_rows.proofs.members.has_part_or.Goals as goal
+
+pub returns-in-Some : goal.returns-in-Some
+returns-in-Some c = found-there (λ (o : Option SemType). of_some o (λ r. need (PartIn c.args.whole.now c.args.keys.now r) & need (Has r c.args.kind))) c.args.given c.in-Some.r _ _ c.in-Some.is c.part_or.ensures
+
+pub returns-in-None : goal.returns-in-None
+returns-in-None c = found-missing (λ (o : Option SemType). of_some o (λ r. need (PartIn c.args.whole.now c.args.keys.now r) & need (Has r c.args.kind))) c.args.given _ _ c.in-None.is c.refuse.ensures

@@ -1,0 +1,10 @@
+use Rattle.std.proofs.Common.{take}
+use Rattle.code_needs.specs.Combining.{◌&◌, each}
+use Rattle.code_needs.specs.RowNeeds.{within}
+use Rattle.code_needs.specs.declared.kind.Kind.TheVariants.{ImmutableData, Strings}
+use Rattle.pair_questions.specs.Pairs.{pairs_of}
+use Rattle.needs_of_rows.specs.Finding.{Finds}
+use Rattle.needs_of_rows.proofs.structures.details.Given as goal
+
+abbrev pub invariant-loop-pair : goal.invariant-loop-pair
+invariant-loop-pair l = Finds (each (λ p. within p.0 Strings & within p.1 ImmutableData) (take l.pair-index (pairs_of l.pairs))) l.fn.found l.found

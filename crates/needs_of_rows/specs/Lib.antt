@@ -1,0 +1,4 @@
+pub mod Finding
+pub mod inner
+pub mod ListsMade
+pub mod PairsTaken

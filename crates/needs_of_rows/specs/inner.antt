@@ -1,0 +1,3 @@
+pub mod FirstPairs
+pub mod ItemsMade
+pub mod Operands
