@@ -1,5 +1,5 @@
 -- The cause of a status that is due, and another answer of the same run.
-use Rattle.std.proofs.Common.{◌≡◌, ◌⊎◌, List, Bool, true, false, refl, sym, ap, ◌∙◌, inl, inr, ⊎_elim}
+use Rattle.std.proofs.Common.{◌≡◌, List, Bool, true, false, refl, sym, ap, ◌∙◌, inl, inr, ⊎_elim}
 use Rattle.std.specs.Prelude.{String}
 use Rattle.std.specs.Global.{Global}
 use Rattle.bal_tree.specs.declared.package.SourceFile.{SourceFile}

@@ -4,6 +4,7 @@ use Rattle.std.specs.Prelude.{Result, Ok, Err}
 use Rattle.bal_base.specs.declared.stop.Stop.{Stop}
 use Rattle.bal_base.specs.declared.stop.Stop.TheVariants.{Memory as OutOfMemory, Fault}
 use Rattle.bal_io.specs.Content.{LosesFront, Told}
+use Rattle.bal_tree.specs.declared.package.Package.{Package}
 use Rattle.descriptors.specs.Described.{Atoms}
 use Rattle.machine_model.specs.Outcomes as model
 use Rattle.machine_model.specs.Outcomes.{Ending, ReturnsNil, ReturnsError, Panics, Stalls, Passes}
@@ -12,15 +13,14 @@ use Rattle.package_runs.specs.Outside.{CountsRunFaults}
 use Rattle.package_runs.specs.Outside as run
 use Rattle.package_runs.specs.declared.accepted.RunFault.{RunFault}
 use Rattle.package_runs.specs.declared.accepted.RunFault.TheVariants as fault
-use Rattle.plain_steps.specs.Ended.{ending_of, outcome_of}
-use Rattle.plain_steps.specs.declared.outcome.Outcome.{Outcome}
+use Rattle.code_steps.specs.Ended.{ending_of, outcome_of}
+use Rattle.code_steps.specs.declared.outcome.Outcome.{Outcome}
 use Rattle.type_diagrams.specs.Reach.{Passes as PassesLimit}
 use Rattle.type_model.specs.declared.answers.TypeLimit.{TypeLimit}
 use Rattle.typed_tree.specs.declared.package.TypedPackage.{TypedPackage}
 use Rattle.bal_run.specs.Report.{CanReport}
 use Rattle.bal_run.specs.Runs.{IsRunOf, IsStatusOfStop, RunEnded, status_of}
 use Rattle.bal_run.specs.declared.running.TheConstants.{MOST_TICKS, SEED}
-use Rattle.bal_run.specs.declared.status.Built.{Built}
 use Rattle.bal_run.specs.declared.status.Run.{Run}
 use Rattle.bal_run.specs.declared.status.Status.{Status}
 
@@ -36,8 +36,8 @@ large-unbegun atoms typed before after limit h =
       input = record { untouched = λ no. h.unread; part = subst (Told LosesFront before.rest) (sym h.unread) (loses-nothing before.rest) };
     }
 
-module _ (atoms : Atoms) (built : Built) (before after : run.Outside) where
-  pub ran-so : (result : Result Outcome (Stop RunFault)) (run : Run) → Ended PassesLimit atoms built.typed [] MOST_TICKS SEED before after result → CountsRunFaults before after result → IsRunOf built result run → RunEnded atoms built.typed before after run run.status
+module _ (atoms : Atoms) (source : Package) (typed : TypedPackage) (before after : run.Outside) where
+  pub ran-so : (result : Result Outcome (Stop RunFault)) (run : Run) → Ended PassesLimit atoms typed [] MOST_TICKS SEED before after result → CountsRunFaults before after result → IsRunOf source result run → RunEnded atoms typed before after run run.status
   ran-so (Ok o) run h fine is =
       ⊎_elim
       (λ e. inl (record { outcome = outcome_of o; ran = h; status = e; turns = is.2; spent = is.3; fine = fine }))
@@ -50,7 +50,7 @@ module _ (atoms : Atoms) (built : Built) (before after : run.Outside) where
   ran-so (Err (Fault (fault.Types limit))) run h fine is =
       ⊎_elim
       (λ e. inr (inr (inr (inl (record { status = e; limit = limit; passes = h; fine = fine })))))
-      (λ m. inr (inr (inr (inr (record { status = m; part = inl (large-unbegun atoms built.typed before after limit h); fine = fine })))))
+      (λ m. inr (inr (inr (inr (record { status = m; part = inl (large-unbegun atoms typed before after limit h); fine = fine })))))
       is.1
 
 -- ---- it has a text
@@ -69,7 +69,7 @@ stop-can-report (Fault fault.Input) status e = subst CanReport (sym e) tt
 stop-can-report (Fault fault.Output) status e = subst CanReport (sym e) tt
 stop-can-report (Fault (fault.Types limit)) status h = ⊎_elim (λ e. subst CanReport (sym e) tt) (λ e. subst CanReport (sym e) tt) h
 
-pub run-can-report : (built : Built) (result : Result Outcome (Stop RunFault)) (run : Run) → IsRunOf built result run → CanReport run.status
-run-can-report built (Ok o) run is =
+pub run-can-report : (source : Package) (result : Result Outcome (Stop RunFault)) (run : Run) → IsRunOf source result run → CanReport run.status
+run-can-report source (Ok o) run is =
     ⊎_elim (λ e. subst CanReport (sym e) (end-can-report (ending_of o.ending))) (λ m. subst CanReport (sym m) tt) is.1
-run-can-report built (Err stop) run is = stop-can-report stop run.status is.1
+run-can-report source (Err stop) run is = stop-can-report stop run.status is.1

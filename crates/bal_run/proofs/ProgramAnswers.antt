@@ -15,16 +15,18 @@ use Rattle.checks.specs.Checks.{Comes, Gives, Refuses}
 use Rattle.compile_front.specs.Front.{front_of}
 use Rattle.compile_front.specs.declared.accepting.Accepted.{Accepted}
 use Rattle.descriptors.specs.Described.{Atoms}
+use Rattle.lower_package.specs.Limits.{PassesNodes}
 use Rattle.package_questions.specs.PackageAnswers.{home_files}
 use Rattle.type_diagrams.specs.Reach.{Passes}
+use Rattle.typed_tree.specs.declared.package.TypedPackage.{TypedPackage}
 use Rattle.bal_run.specs.declared.compile.CompileFault.{CompileFault}
 use Rattle.bal_run.specs.declared.compile.Ready.{Ready}
 use Rattle.bal_run.specs.declared.compile.Refusing.{Refusing}
-use Rattle.bal_run.specs.Compiling.{ComesOfPackage, IsOfSource, IsStopRefused, IsStopShown, IsStopUnread}
+use Rattle.bal_run.specs.Compiling.{ComesOfPackage, IsLargeStop, IsOfSource, IsStopRefused, IsStopShown, IsStopUnread}
 use Rattle.bal_run.specs.Files.{Files, HasNoMain, IsFrontOfMain, MainHas}
 use Rattle.bal_run.specs.Mains.{HasMain}
 use Rattle.bal_run.specs.Packages.{ImportsIo, package_of, source_files}
-use Rattle.bal_run.specs.Programs.{Compiled, IsProgramOf}
+use Rattle.bal_run.specs.Programs.{Compiled, IsProgramOf, large_program}
 use Rattle.bal_run.specs.Readings.{IsUnread}
 use Rattle.bal_run.specs.Source.{NotText, TooLong, no_main, refusal_of}
 use Rattle.bal_run.specs.Work.{IsTreeReading}
@@ -52,8 +54,19 @@ front-stops bytes whole env new Memory told io e h is = subst (λ q. ComesOfPack
 front-stops bytes whole env new (Fault fault) told io e h is =
     ⊎_elim
     (λ k. subst (λ q. ComesOfPackage bytes whole (Err q)) (sym k) tt)
-    (λ k. subst (λ q. ComesOfPackage bytes whole (Err q)) (sym k.1) (inr (record { io = io; fault = fault; atoms = new; has = front-refuses whole env new fault e h; is = k.2; source = k.3 })))
+    (λ k. subst (λ q. ComesOfPackage bytes whole (Err q)) (sym k.1) (inr (inl (record { io = io; fault = fault; atoms = new; has = front-refuses whole env new fault e h; is = k.2; source = k.3 }))))
     is
+
+-- of a package that the front accepts, and whose nodes are too many
+pub large-refused : (bytes : List ℕ) (whole : Package) (accepted : Accepted) (new : Atoms) (stop : Stop Refusing) → All ImportsIo (home_files whole) → front_of Passes whole [] (Gives accepted) new → IsLargeStop accepted.«package» stop → ComesOfPackage bytes whole (Err stop)
+large-refused bytes whole accepted new Memory io gives is = tt
+large-refused bytes whole accepted new (Fault x) io gives (passes, is, none) =
+    inr (inr (record { io = io; accepted = accepted; atoms = new; gives = gives; passes = passes; is = is; source = none }))
+
+-- the stop of such trees, of which nothing is shown
+pub large-stop : (p : TypedPackage) (r : Result Refusal NoMemory) (stop : Stop Refusing) → PassesNodes p → IfOk r (λ x. x ≡ large_program p) → IsStopUnread r stop → IsLargeStop p stop
+large-stop p (Ok x) stop passes is e = subst (IsLargeStop p) (sym e) (passes, is, refl)
+large-stop p (Err m) stop passes is e = subst (IsLargeStop p) (sym e) tt
 
 -- ---- a refusal that there was memory for
 
@@ -87,11 +100,13 @@ module _ (text : List ℕ) (tree : FileTree) (h : IsTreeReading text (Ok tree)) 
 
       so : (q : Result Ready (Stop Refusing)) → ComesOfPackage text (package_of (Some (file_with text tree))) q → IsProgramOf text q
       so (Ok ready) a =
-          (file_with text tree, its-source text tree h, record { main = main; io = one-io a.io; source = a.source; accepted = a.accepted; gives = a.gives; typed = a.typed })
+          (file_with text tree, its-source text tree h, record { main = main; io = one-io a.io; source = a.source; accepted = a.accepted; gives = a.gives; typed = a.typed; fits = a.fits })
       so (Err (Fault x)) (inl a) =
           inr (file_with text tree, its-source text tree h, inr (inl (main, (λ io. a.0 (all-io io)), a.1, ap source_files a.2)))
-      so (Err (Fault x)) (inr a) =
-          inr (file_with text tree, its-source text tree h, inr (inr (record { main = main; io = one-io a.io; fault = a.fault; has = (a.atoms, a.has); is = a.is; shows = ap source_files a.source })))
+      so (Err (Fault x)) (inr (inl a)) =
+          inr (file_with text tree, its-source text tree h, inr (inr (inl (record { main = main; io = one-io a.io; fault = a.fault; has = (a.atoms, a.has); is = a.is; shows = ap source_files a.source }))))
+      so (Err (Fault x)) (inr (inr a)) =
+          inr (file_with text tree, its-source text tree h, inr (inr (inr (record { main = main; io = one-io a.io; accepted = a.accepted; atoms = a.atoms; gives = a.gives; passes = a.passes; is = a.is; shows = ap source_files a.source }))))
       so (Err Memory) a = tt
 
 -- ---- the file and its front

@@ -7,9 +7,8 @@ use Rattle.bal_base.specs.declared.fault.Refusal.{Refusal}
 use Rattle.bal_io.specs.Faults.{Rises}
 use Rattle.bal_tree.specs.declared.package.SourceFile.{SourceFile}
 use Rattle.descriptors.specs.Described.{Atoms}
-use Rattle.machine_model.specs.Outcomes as model
 use Rattle.machine_model.specs.Outcomes.{Ending}
-use Rattle.bal_run.specs.declared.status.Built.{Built}
+use Rattle.bal_run.specs.declared.compile.Built.{Built}
 use Rattle.bal_run.specs.declared.status.Run.{Run}
 use Rattle.bal_run.specs.declared.status.Status.{Status}
 use Rattle.bal_run.specs.declared.status.Status.TheVariants.{Refused, FolderFault, InputFault, OutFault, Memory, DiagFault}
@@ -47,14 +46,14 @@ module _ (words : List (String Global)) (before after : Outside) (run : Run) (fi
   -- ---- what was built
 
   of-built : (P : Atoms → Built → Type 0) (c : Ran) → P c.atoms c.built → OfBuilt folder run.built P
-  of-built P c h = subst (λ o. OfBuilt folder o P) (sym c.kept) (c.atoms, c.compiled, h)
+  of-built P c h = subst (λ o. OfBuilt folder o P) (sym c.kept) (c.built, c.atoms, refl, c.compiled, h)
 
   where-built : (P : Atoms → Built → Type 0) → ((c : Ran) → P c.atoms c.built) → IfBuilt folder run.built P
   where-built P h =
       by-stage words before after run files due d
       (λ b. subst (λ o. IfBuilt folder o P) (sym b.nothing.built) tt)
       (λ b. subst (λ o. IfBuilt folder o P) (sym b.nothing.built) tt)
-      (λ c. subst (λ o. IfBuilt folder o P) (sym c.kept) (c.atoms, c.compiled, h c))
+      (λ c. subst (λ o. IfBuilt folder o P) (sym c.kept) (c.built, c.atoms, refl, c.compiled, h c))
       (λ q. subst (λ o. IfBuilt folder o P) (sym q.built) tt)
 
   unbuilt : IfNone run.built (NothingRan before after run)
@@ -194,7 +193,8 @@ module _ (words : List (String Global)) (before after : Outside) (run : Run) (fi
         lacks-it : (file : SourceFile) (y : Refusal) (fs : List SourceFile) → IsMainSource bytes file → IsProgramRefused bytes file y fs → y ≡ no_main
         lacks-it file y fs src (inl a) = a.1
         lacks-it file y fs src (inr (inl a)) = absurd (lacks (main-of-both bytes file.tree tree src.reads reads a.0))
-        lacks-it file y fs src (inr (inr a)) = absurd (lacks (main-of-both bytes file.tree tree src.reads reads a.main))
+        lacks-it file y fs src (inr (inr (inl a))) = absurd (lacks (main-of-both bytes file.tree tree src.reads reads a.main))
+        lacks-it file y fs src (inr (inr (inr a))) = absurd (lacks (main-of-both bytes file.tree tree src.reads reads a.main))
 
     import-due : ImportsMore bytes → ComesToRefusal not_built run.status
     import-due (some, more) =
@@ -211,7 +211,8 @@ module _ (words : List (String Global)) (before after : Outside) (run : Run) (fi
         imports-it : (file : SourceFile) (y : Refusal) (fs : List SourceFile) → IsMainSource bytes file → IsProgramRefused bytes file y fs → y ≡ not_built
         imports-it file y fs src (inl a) = absurd (a.0 (more file src).0)
         imports-it file y fs src (inr (inl a)) = a.2
-        imports-it file y fs src (inr (inr a)) = absurd ((more file src).1 a.io)
+        imports-it file y fs src (inr (inr (inl a))) = absurd ((more file src).1 a.io)
+        imports-it file y fs src (inr (inr (inr a))) = absurd ((more file src).1 a.io)
 
   built-due : IsNeverRefused folder → IsSome run.built ⊎ ComesTo FolderFault run.status
   built-due n =

@@ -1,7 +1,7 @@
 -- What is so of each call of the top: of its words, of the input, and of the files in which events are found; and how a folder that comes to
 -- no program ends a call.
-use Rattle.std.proofs.Common.{◌≡◌, ◌⊎◌, List, Option, Some, None, refl, sym, ap, subst, ◌∙◌, inl, inr, ⊎_elim}
-use Rattle.std.specs.Prelude.{IsSomeAnd, Err, String}
+use Rattle.std.proofs.Common.{◌≡◌, List, Option, Some, None, refl, sym, ap, subst, ◌∙◌, inl, inr, ⊎_elim}
+use Rattle.std.specs.Prelude.{Err, String}
 use Rattle.std.specs.Global.{Global}
 use Rattle.bal_base.specs.declared.stop.Stop.{Stop}
 use Rattle.bal_base.specs.declared.stop.Stop.TheVariants.{Memory as OutOfMemory, Fault}
@@ -20,7 +20,8 @@ use Rattle.bal_run.specs.declared.top.Worked.{Worked}
 use Rattle.bal_run.specs.Compiling.{CountsCompileFaults}
 use Rattle.bal_run.specs.Due.{NothingRan, StatusIsDue}
 use Rattle.bal_run.specs.OfDiagnostics.{AreShown}
-use Rattle.bal_run.specs.OfInput.{IsInputTold}
+use Rattle.bal_run.specs.OfInput.{Asks, IsInputTold}
+use Rattle.bal_run.specs.OfRuns.{OfBuilt}
 use Rattle.bal_run.specs.OfWords.{AreJudged}
 use Rattle.bal_run.specs.Outside.{IsAsBefore, Outside, SinkTells, sides}
 use Rattle.bal_run.specs.Packages.{source_files}
@@ -45,7 +46,7 @@ stop-can-report (Fault compile.Folder) work made = subst CanReport (sym (ap (λ 
 stop-can-report (Fault (compile.Source x)) work made = subst CanReport (sym (ap (λ (w : Worked). w.run.status) made)) tt
 
 -- a program ran
-pub compiled-so : (words : List (String Global)) (before after : Outside) (ready : Ready) (run : Run) (work : Worked) → IsRun words → IsBuiltOf before.folder.files ready.built ready.types.atoms → after.folder.faults ≡ before.folder.faults → run.built ≡ Some ready.built → RunEnded ready.types.atoms ready.built.typed (sides before.input before.out) (sides after.input after.out) run run.status → (¬ (CallsReadln ready.built.typed) → IsAsBefore before.input after.input) → work ≡ record { run = run; source = None } → StatusIsDue words before after work.run (source_files work.source) work.run.status
+pub compiled-so : (words : List (String Global)) (before after : Outside) (ready : Ready) (run : Run) (work : Worked) → IsRun words → IsBuiltOf before.folder.files ready.built ready.types.atoms → after.folder.faults ≡ before.folder.faults → run.built ≡ Some ready.built.source → RunEnded ready.types.atoms ready.built.typed (sides before.input before.out) (sides after.input after.out) run run.status → (¬ (CallsReadln ready.built.typed) → IsAsBefore before.input after.input) → work ≡ record { run = run; source = None } → StatusIsDue words before after work.run (source_files work.source) work.run.status
 compiled-so words before after ready run work good compiled folder kept cause untouched made =
     subst (λ (w : Worked). StatusIsDue words before after w.run (source_files w.source) w.run.status) (sym made)
     (inr (inr (inl (record {
@@ -136,7 +137,7 @@ module _ (words : List (String Global)) (before after : Outside) (run : Run) (fi
         untouched = λ none. by-stage words before after run files due d
             (λ b. b.nothing.input)
             (λ b. b.nothing.input)
-            (λ c. c.untouched (λ calls. none (subst (λ o. IsSomeAnd o (λ b. CallsReadln b.typed)) (sym c.kept) calls)))
+            (λ c. c.untouched (λ calls. none (subst (λ o. OfBuilt before.folder.files o Asks) (sym c.kept) (c.built, c.atoms, refl, c.compiled, calls))))
             (λ q. q.input);
       }
 

@@ -11,13 +11,16 @@ use Rattle.checks.specs.Checks.{Gives, Refuses}
 use Rattle.compile_front.specs.Front.{front_of}
 use Rattle.compile_front.specs.declared.accepting.Accepted.{Accepted}
 use Rattle.descriptors.specs.Described.{Atoms}
+use Rattle.lower_package.specs.Limits.{PassesNodes}
 use Rattle.package_questions.specs.PackageAnswers.{home_files}
 use Rattle.type_diagrams.specs.Reach.{Passes}
+use Rattle.typed_tree.specs.declared.package.TypedPackage.{TypedPackage}
 use Rattle.bal_run.specs.declared.compile.CompileFault.{CompileFault}
 use Rattle.bal_run.specs.declared.compile.CompileFault.TheVariants.{Folder, Source}
 use Rattle.bal_run.specs.declared.compile.Ready.{Ready}
 use Rattle.bal_run.specs.declared.compile.Refusing.{Refusing}
 use Rattle.bal_run.specs.Packages.{ImportsIo}
+use Rattle.bal_run.specs.Programs.{large_program}
 use Rattle.bal_run.specs.Source.{not_built, refusal_of}
 
 -- the count of faults rose exactly where the folder failed
@@ -27,14 +30,15 @@ CountsCompileFaults old new (Err Memory) = new ≡ old
 CountsCompileFaults old new (Err (Fault Folder)) = Rises old new
 CountsCompileFaults old new (Err (Fault (Source x))) = new ≡ old
 
--- What comes of a package, whose one file has these bytes and a public `main`: it is accepted, or refused for what it imports or by the
--- front.
+-- What comes of a package, whose one file has these bytes and a public `main`: it is accepted, or refused for what it imports, by the front,
+-- or for its many nodes.
 pub record IsAcceptedPackage (whole : Package) (ready : Ready) : Type 0 where
   pub io : All ImportsIo (home_files whole)
   pub source : ready.built.source ≡ whole
   pub accepted : Accepted
   pub gives : front_of Passes whole [] (Gives accepted) ready.types.atoms
   pub typed : ready.built.typed ≡ accepted.«package»
+  pub fits : ¬ PassesNodes ready.built.typed
 
 pub record IsFrontRefusal (bytes : List ℕ) (whole : Package) (x : Refusing) : Type 0 where
   pub io : All ImportsIo (home_files whole)
@@ -47,10 +51,24 @@ pub record IsFrontRefusal (bytes : List ℕ) (whole : Package) (x : Refusing) : 
 abbrev pub IsImportRefusal : Package → Refusing → Type 0
 IsImportRefusal whole x = (¬ (All ImportsIo (home_files whole))) × (x.refusal ≡ not_built) × (x.source ≡ None)
 
+pub record IsLargeRefusal (whole : Package) (x : Refusing) : Type 0 where
+  pub io : All ImportsIo (home_files whole)
+  pub accepted : Accepted
+  pub atoms : Atoms
+  pub gives : front_of Passes whole [] (Gives accepted) atoms
+  pub passes : PassesNodes accepted.«package»
+  pub is : x.refusal ≡ large_program accepted.«package»
+  pub source : x.source ≡ None
+
 abbrev pub ComesOfPackage : List ℕ → Package → Result Ready (Stop Refusing) → Type 0
 ComesOfPackage bytes whole (Ok ready) = IsAcceptedPackage whole ready
 ComesOfPackage bytes whole (Err Memory) = ⊤
-ComesOfPackage bytes whole (Err (Fault x)) = IsImportRefusal whole x ⊎ IsFrontRefusal bytes whole x
+ComesOfPackage bytes whole (Err (Fault x)) = IsImportRefusal whole x ⊎ (IsFrontRefusal bytes whole x ⊎ IsLargeRefusal whole x)
+
+-- the stop of trees with too many nodes, if there was memory for it
+abbrev pub IsLargeStop : TypedPackage → Stop Refusing → Type 0
+IsLargeStop p Memory = ⊤
+IsLargeStop p (Fault x) = PassesNodes p × (x.refusal ≡ large_program p) × (x.source ≡ None)
 
 -- the answer for a folder by that for its source
 abbrev pub IsOfSource : Result Ready (Stop Refusing) → Result Ready (Stop CompileFault) → Type 0

@@ -9,7 +9,7 @@ use Rattle.bal_tree.specs.declared.package.SourceFile.{SourceFile}
 use Rattle.descriptors.specs.Described.{Atoms}
 use Rattle.input_calls.specs.Calls.{CallsReadln}
 use Rattle.type_model.specs.declared.answers.Answer.{Answer}
-use Rattle.bal_run.specs.declared.status.Built.{Built}
+use Rattle.bal_run.specs.declared.compile.Built.{Built}
 use Rattle.bal_run.specs.declared.status.Run.{Run}
 use Rattle.bal_run.specs.declared.status.Status.{Status}
 use Rattle.bal_run.specs.declared.status.Status.TheVariants.{Done, Refused, FolderFault, OutFault, Memory, Words}
@@ -69,7 +69,7 @@ pub record ProgramRan (words : List (String Global)) (before after : Outside) (r
   pub cause : RunEnded atoms built.typed (sides before.input before.out) (sides after.input after.out) run status
   pub good : IsRun words
   pub folder : after.folder.faults ≡ before.folder.faults
-  pub kept : run.built ≡ Some built
+  pub kept : run.built ≡ Some built.source
   pub untouched : ¬ CallsReadln built.typed → IsAsBefore before.input after.input
   pub shows : files ≡ []
 

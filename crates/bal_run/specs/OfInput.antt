@@ -1,9 +1,15 @@
 -- What a call of the top says of the input.
-use Rattle.std.specs.Prelude.{IsSomeAnd}
+use Rattle.descriptors.specs.Described.{Atoms}
 use Rattle.input_calls.specs.Calls.{CallsReadln}
+use Rattle.bal_run.specs.declared.compile.Built.{Built}
 use Rattle.bal_run.specs.declared.status.Run.{Run}
+use Rattle.bal_run.specs.OfRuns.{OfBuilt}
 use Rattle.bal_run.specs.Outside.{IsAsBefore, Outside}
+
+-- the program calls `io:readln` somewhere
+abbrev pub Asks : Atoms → Built → Type 0
+Asks atoms built = CallsReadln built.typed
 
 -- it is asked only where a program was built that calls `io:readln` anywhere
 pub record IsInputTold (before after : Outside) (run : Run) : Type 0 where
-  pub untouched : ¬ (IsSomeAnd run.built (λ b. CallsReadln b.typed)) → IsAsBefore before.input after.input
+  pub untouched : ¬ (OfBuilt before.folder.files run.built Asks) → IsAsBefore before.input after.input

@@ -4,10 +4,11 @@ use Rattle.std.specs.Prelude.{◌≡◌, ◌<◌, ◌⊎◌, ℕ, List, IfNone, 
 use Rattle.bal_base.specs.declared.fault.Fault.{Fault}
 use Rattle.bal_base.specs.declared.fault.Refusal.{Refusal}
 use Rattle.bal_io.specs.Faults.{Rises}
+use Rattle.bal_tree.specs.declared.package.Package.{Package}
 use Rattle.bal_tree.specs.declared.package.SourceFile.{SourceFile}
 use Rattle.descriptors.specs.Described.{Atoms}
 use Rattle.machine_model.specs.Outcomes.{Ending, Outcome}
-use Rattle.bal_run.specs.declared.status.Built.{Built}
+use Rattle.bal_run.specs.declared.compile.Built.{Built}
 use Rattle.bal_run.specs.declared.status.Run.{Run}
 use Rattle.bal_run.specs.declared.status.Status.TheVariants.{Refused, FolderFault, InputFault, OutFault, Memory}
 use Rattle.bal_run.specs.Due.{NothingRan}
@@ -34,7 +35,7 @@ module _ (folder : Option Files) where
   abbrev pub IsRefusedFor : Refusal → Type 0
   IsRefusedFor r = (files : List SourceFile) × IsRefusalOf folder r files
 
-  -- the front accepts no program of the folder
+  -- no program of the folder is built: the front accepts none, or it has too many nodes
   abbrev pub HasNoProgram : Type 0
   HasNoProgram = (built : Built) (atoms : Atoms) → IsBuiltOf folder built atoms → ⊥
 
@@ -46,13 +47,17 @@ module _ (folder : Option Files) where
     pub reads : IsMainSource bytes file
     pub never : (other : SourceFile) → IsMainSource bytes other → (r : Refusal) (files : List SourceFile) → IsProgramRefused bytes other r files → ⊥
 
-  -- what was built is a program of the folder, and this is so of it
-  abbrev pub OfBuilt : Option Built → (Atoms → Built → Type 0) → Type 0
-  OfBuilt built P = IsSomeAnd built (λ b. (atoms : Atoms) × IsBuiltOf folder b atoms × P atoms b)
+  -- a program of the folder was built of this package, and this is so of it
+  abbrev pub IsBuiltWith : (Atoms → Built → Type 0) → Package → Type 0
+  IsBuiltWith P source = (built : Built) × (atoms : Atoms) × (built.source ≡ source) × IsBuiltOf folder built atoms × P atoms built
+
+  -- so it is of the package that is kept
+  abbrev pub OfBuilt : Option Package → (Atoms → Built → Type 0) → Type 0
+  OfBuilt kept P = IsSomeAnd kept (IsBuiltWith P)
 
   -- the same, where something was built
-  abbrev pub IfBuilt : Option Built → (Atoms → Built → Type 0) → Type 0
-  IfBuilt built P = IfSome built (λ b. (atoms : Atoms) × IsBuiltOf folder b atoms × P atoms b)
+  abbrev pub IfBuilt : Option Package → (Atoms → Built → Type 0) → Type 0
+  IfBuilt kept P = IfSome kept (IsBuiltWith P)
 
 -- ---- the facts
 

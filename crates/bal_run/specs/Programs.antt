@@ -9,22 +9,25 @@ use Rattle.checks.specs.Checks.{Gives, Refuses}
 use Rattle.compile_front.specs.Front.{front_of}
 use Rattle.compile_front.specs.declared.accepting.Accepted.{Accepted}
 use Rattle.descriptors.specs.Described.{Atoms}
+use Rattle.lower_package.specs.Limits.{PassesNodes}
 use Rattle.type_diagrams.specs.Reach.{Passes}
+use Rattle.typed_tree.specs.Nodes.{node_count}
+use Rattle.typed_tree.specs.declared.package.TypedPackage.{TypedPackage}
 use Rattle.bal_run.specs.declared.compile.CompileFault.{CompileFault}
 use Rattle.bal_run.specs.declared.compile.CompileFault.TheVariants.{Folder, Source}
 use Rattle.bal_run.specs.declared.compile.Ready.{Ready}
 use Rattle.bal_run.specs.declared.compile.Refusing.{Refusing}
-use Rattle.bal_run.specs.declared.status.Built.{Built}
+use Rattle.bal_run.specs.declared.compile.Built.{Built}
 use Rattle.bal_run.specs.Files.{Files, HasNoMain, MainHas}
 use Rattle.bal_run.specs.Mains.{HasMain}
 use Rattle.bal_run.specs.Packages.{ImportsIo, package_of, source_files}
 use Rattle.bal_run.specs.Readings.{IsMainSource, IsUnread}
-use Rattle.bal_run.specs.Source.{no_main, not_built, refusal_of}
+use Rattle.bal_run.specs.Source.{large_fault, no_main, not_built, refusal_of}
 
 -- ---- the program of one file
 
 -- It has a public `main`, imports nothing but `ballerina/io`, and the front accepts its package over no atoms, with these atoms behind
--- it: what was built is that package and what the front gave for it.
+-- it: what was built is that package and what the front gave for it, which has no more nodes than code is made of.
 pub record IsAccepted (file : SourceFile) (built : Built) (atoms : Atoms) : Type 0 where
   pub main : HasMain file.tree
   pub io : ImportsIo file
@@ -32,13 +35,15 @@ pub record IsAccepted (file : SourceFile) (built : Built) (atoms : Atoms) : Type
   pub accepted : Accepted
   pub gives : front_of Passes (package_of (Some file)) [] (Gives accepted) atoms
   pub typed : built.typed ≡ accepted.«package»
+  pub fits : ¬ PassesNodes built.typed
 
 -- the front, over no atoms, comes to this fault
 abbrev pub HasFrontFault : SourceFile → FaultOf → Type 0
 HasFrontFault file fault = (atoms : Atoms) × front_of Passes (package_of (Some file)) [] (Refuses fault) atoms
 
 -- Why it is refused, and the files in which the events of workers that the refusal shows are found: it has no public `main`; or it
--- imports something else; or the front comes to a fault, whose place is one in the bytes of the file.
+-- imports something else; or the front comes to a fault, whose place is one in the bytes of the file; or it is accepted and has too many
+-- nodes.
 abbrev pub LacksItsMain : SourceFile → Refusal → List SourceFile → Type 0
 LacksItsMain file r files = (¬ (HasMain file.tree)) × (r ≡ no_main) × (files ≡ [])
 
@@ -53,9 +58,23 @@ pub record IsRefusedByFront (bytes : List ℕ) (file : SourceFile) (r : Refusal)
   pub is : r ≡ refusal_of bytes fault
   pub shows : files ≡ file ∷ []
 
+-- the refusal of a program with too many nodes
+abbrev pub large_program : TypedPackage → Refusal
+large_program p = refusal_of [] (large_fault (node_count p))
+
+pub record IsLargeProgram (file : SourceFile) (r : Refusal) (files : List SourceFile) : Type 0 where
+  pub main : HasMain file.tree
+  pub io : ImportsIo file
+  pub accepted : Accepted
+  pub atoms : Atoms
+  pub gives : front_of Passes (package_of (Some file)) [] (Gives accepted) atoms
+  pub passes : PassesNodes accepted.«package»
+  pub is : r ≡ large_program accepted.«package»
+  pub shows : files ≡ []
+
 abbrev pub IsProgramRefused : List ℕ → SourceFile → Refusal → List SourceFile → Type 0
 IsProgramRefused bytes file r files =
-    LacksItsMain file r files ⊎ (ImportsOther file r files ⊎ IsRefusedByFront bytes file r files)
+    LacksItsMain file r files ⊎ (ImportsOther file r files ⊎ (IsRefusedByFront bytes file r files ⊎ IsLargeProgram file r files))
 
 -- ---- the program of a file with these bytes
 

@@ -5,6 +5,7 @@ use Rattle.bal_base.specs.declared.fault.Refusal.{Refusal}
 use Rattle.bal_base.specs.declared.stop.Stop.{Stop}
 use Rattle.bal_base.specs.declared.stop.Stop.TheVariants.{Memory as OutOfMemory, Fault}
 use Rattle.bal_io.specs.Faults.{Rises}
+use Rattle.bal_tree.specs.declared.package.Package.{Package}
 use Rattle.descriptors.specs.Described.{Atoms}
 use Rattle.input_calls.specs.Calls.{CallsReadln}
 use Rattle.machine_model.specs.Outcomes as model
@@ -14,14 +15,13 @@ use Rattle.package_runs.specs.Outside.{NoneFailed}
 use Rattle.package_runs.specs.Outside as run
 use Rattle.package_runs.specs.declared.accepted.RunFault.{RunFault}
 use Rattle.package_runs.specs.declared.accepted.RunFault.TheVariants as fault
-use Rattle.plain_steps.specs.Ended.{ending_of}
-use Rattle.plain_steps.specs.declared.outcome.Outcome.{Outcome}
+use Rattle.code_steps.specs.Ended.{ending_of}
+use Rattle.code_steps.specs.declared.outcome.Outcome.{Outcome}
 use Rattle.type_diagrams.specs.Reach.{Passes as PassesLimit}
 use Rattle.type_model.specs.declared.answers.TypeLimit.{TypeLimit}
 use Rattle.typed_tree.specs.declared.package.TypedPackage.{TypedPackage}
 use Rattle.bal_run.specs.Source.{fault_of, refusal_of}
 use Rattle.bal_run.specs.declared.running.TheConstants.{MOST_TICKS, SEED}
-use Rattle.bal_run.specs.declared.status.Built.{Built}
 use Rattle.bal_run.specs.declared.status.Run.{Run}
 use Rattle.bal_run.specs.declared.status.Status.{Status}
 use Rattle.bal_run.specs.declared.status.Status.TheVariants.{Done, ErrorReturned, Panicked, Refused, GoesOn, Stalled, InputFault, OutFault, Memory, Limit}
@@ -113,8 +113,8 @@ IsStatusOfStop (Fault fault.Input) status = status ≡ InputFault
 IsStatusOfStop (Fault fault.Output) status = status ≡ OutFault
 IsStatusOfStop (Fault (fault.Types limit)) status = IsLargeOr status
 
--- the run of what was built, by what became of it
-abbrev pub IsRunOf : Built → Result Outcome (Stop RunFault) → Run → Type 0
-IsRunOf built (Ok o) run =
-    (run.built ≡ Some built) × IsStatusOf (ending_of o.ending) run.status × (run.turns ≡ o.picks) × (run.spent ≡ o.spent)
-IsRunOf built (Err stop) run = (run.built ≡ Some built) × IsStatusOfStop stop run.status
+-- the run of what was built of this package, by what became of it
+abbrev pub IsRunOf : Package → Result Outcome (Stop RunFault) → Run → Type 0
+IsRunOf source (Ok o) run =
+    (run.built ≡ Some source) × IsStatusOf (ending_of o.ending) run.status × (run.turns ≡ o.picks) × (run.spent ≡ o.spent)
+IsRunOf source (Err stop) run = (run.built ≡ Some source) × IsStatusOfStop stop run.status

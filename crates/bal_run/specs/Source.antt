@@ -4,8 +4,8 @@ use Rattle.std.specs.Prelude.{◌≡◌, ◌≤◌, ◌<◌, ◌⊎◌, ℕ, Lis
 use Rattle.bal_base.specs.Place.{line_after, column_after}
 use Rattle.bal_base.specs.declared.fault.Fault.{Fault}
 use Rattle.bal_base.specs.declared.fault.FaultCode.{FaultCode}
-use Rattle.bal_base.specs.declared.fault.FaultCode.TheVariants.{NotUtf8, Syntax, NotBuilt, NoMain}
-use Rattle.bal_base.specs.declared.fault.Kept.TheVariants.{Nothing}
+use Rattle.bal_base.specs.declared.fault.FaultCode.TheVariants.{CodeLimit, NotUtf8, Syntax, NotBuilt, NoMain}
+use Rattle.bal_base.specs.declared.fault.Kept.TheVariants.{Count, Nothing}
 use Rattle.bal_base.specs.declared.fault.Refusal.{Refusal}
 use Rattle.bal_base.specs.declared.limits.TheConstants.{MOST_FILE_BYTES}
 use Rattle.bal_base.specs.declared.place.Place.{Place}
@@ -49,6 +49,10 @@ fault_at code at = record { code = code; at = Some (record { file = 0; at = at }
 -- the fault with this code, which has no place
 abbrev pub fault_of : FaultCode → Fault
 fault_of code = record { code = code; at = None; kept = Nothing }
+
+-- the fault of a program with so many nodes, which has no place
+abbrev pub large_fault : ℕ → Fault
+large_fault count = record { code = CodeLimit; at = None; kept = Count count }
 
 -- 103 at the start: more bytes than a file may have
 abbrev pub TooLong : List ℕ → Fault → Type 0

@@ -1,26 +1,37 @@
 //! Compiling: from the folder's `main.bal` to a package that the front accepts, with the types over which it was checked.
-ghost use Rattle.std.specs.Prelude.{◌≡◌, IfOk, Ok, Some, chars};
-ghost use Rattle.bal_run.specs.Compiling.{ComesOfPackage, CountsCompileFaults, IsOfSource, IsStopRefused, IsStopShown, IsStopUnread};
+ghost use Rattle.std.specs.Prelude.{◌≡◌, IfErr, IfOk, Ok, OnOk, Some, chars};
+ghost use Rattle.lower_package.specs.Limits.{PassesNodes};
+ghost use Rattle.bal_run.specs.Compiling.{ComesOfPackage, CountsCompileFaults, IsLargeStop, IsOfSource, IsStopRefused, IsStopShown, IsStopUnread};
 ghost use Rattle.bal_run.specs.Files.{main_name};
 ghost use Rattle.bal_run.specs.Packages.{package_of as package_with};
 ghost use Rattle.bal_run.specs.Programs.{Compiled, IsProgramOf};
-ghost use Rattle.bal_run.specs.Source.{IsText, no_main};
+ghost use Rattle.bal_run.specs.Source.{IsText, large_fault, no_main};
 ghost use Rattle.bal_run.specs.Work.{IsTreeReading};
 
 use crate::load::{main_front, refusal, refusal_within};
 use crate::main_function::has_main;
 use crate::package::{all_import_io, package_of, source_file};
 use crate::source::{text_of, tree_of, unplaced};
-use crate::status::Built;
-use bal_base::{Failed, Fault, FaultCode, Memory, Refusal, Stop};
+use bal_base::{Failed, Fault, FaultCode, Kept, Memory, Refusal, Stop};
 use bal_io::Folder;
 use bal_tree::{FileTree, Package};
 use compile_front::{Answered, accept};
+use lower_package::MOST_NODES;
 use package_questions::home_files;
 use std::alloc::Global;
 use subtype_decider::Decider;
+use typed_tree::{TypedPackage, nodes};
 
-/// A package that was accepted, and the types over which it was checked.
+/// A program that was accepted.
+#[derive(Drop)]
+pub struct Built {
+    /// The package that was read.
+    pub source: Package,
+    /// Its bodies, typed, which say what it does, and of which its code is made.
+    pub typed: TypedPackage,
+}
+
+/// A program that was accepted, and the types over which it was checked.
 #[derive(Drop)]
 pub struct Ready {
     pub types: Decider,
@@ -127,14 +138,40 @@ fn package_program(alloc: Global, text: &str, source: Package) -> Result<Ready, 
     }
     let Answered { types, answer } = accept(alloc, Decider::new(alloc), &source);
     match answer {
-        Ok(accepted) => Ok(Ready {
-            types,
-            built: Built {
-                source,
-                typed: accepted.package,
-            },
-        }),
+        Ok(accepted) => match within_nodes(alloc, &accepted.package) {
+            Ok(()) => Ok(Ready {
+                types,
+                built: Built {
+                    source,
+                    typed: accepted.package,
+                },
+            }),
+            Err(stop) => Err(stop),
+        },
         Err(stop) => Err(refused(alloc, text, stop, source)),
+    }
+}
+
+/// Refuses trees with more nodes than code is made of.
+fn within_nodes(alloc: Global, typed: &TypedPackage) -> Result<(), Stop<Refusing>>
+    ensures within { OnOk result (¬ PassesNodes typed.now) }
+    ensures large { IfErr result (IsLargeStop typed.now) }
+{
+    let count = nodes(typed);
+    if count > MOST_NODES {
+        return Err(unread(refusal(alloc, "", too_large(count))));
+    }
+    Ok(())
+}
+
+/// The fault of so many nodes.
+fn too_large(count: u64) -> Fault
+    ensures { result ≡ large_fault count }
+{
+    Fault {
+        code: FaultCode::CodeLimit,
+        at: None,
+        kept: Kept::Count(count),
     }
 }
 

@@ -1,7 +1,7 @@
 //! The top call: from a folder's bytes to output bytes.
 //!
-//! - [`bal_run`] compiles a folder and runs it, or answers a question about types. It answers with a [`Run`], which keeps what was
-//!   [`Built`].
+//! - [`bal_run`] compiles a folder and runs it, or answers a question about types. It answers with a [`Run`], which keeps the package
+//!   that was compiled.
 //! - [`Status`] and [`status_number`]: how a call ended, and the exit status of a program that ends so.
 //! - [`dir_of`]: the folder that the words of a command name.
 //!
@@ -22,6 +22,6 @@ mod status;
 mod top;
 mod words;
 
-pub use status::{Built, Run, Status, status_number};
+pub use status::{Run, Status, status_number};
 pub use top::bal_run;
 pub use words::dir_of;

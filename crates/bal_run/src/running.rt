@@ -4,16 +4,17 @@ ghost use Rattle.input_calls.specs.Calls.{CallsReadln};
 ghost use Rattle.bal_run.specs.Outside.{IsAsBefore, sides, sink_tells, source_tells};
 ghost use Rattle.bal_run.specs.Report.{CanReport};
 ghost use Rattle.bal_run.specs.Runs.{IsStalledBy, IsStatusOf, IsLargeOr, IsRunOf, IsStatusOfStop, RunEnded};
-ghost use Rattle.plain_steps.specs.Ended.{ending_of};
+ghost use Rattle.code_steps.specs.Ended.{ending_of};
 
-use crate::compile::Ready;
+use crate::compile::{Built, Ready};
 use crate::load::refusal;
 use crate::source::unplaced;
-use crate::status::{Built, Run, Status};
+use crate::status::{Run, Status};
 use bal_base::{FaultCode, Memory, Ring, Stop};
 use bal_io::{Sink, Source};
+use bal_tree::Package;
+use code_steps::{Ending, Outcome};
 use package_runs::{Bounds, RunFault, run_accepted};
-use plain_steps::{Ending, Outcome};
 use std::alloc::Global;
 
 /// How many ticks a run may spend.
@@ -24,7 +25,7 @@ pub const SEED: u64 = 0;
 
 /// Runs the program that was compiled.
 pub fn execute<I: Source, O: Sink>(alloc: Global, ready: Ready, input: &mut I, out: &mut O) -> Run
-    ensures kept { result.built ≡ Some ready.built }
+    ensures kept { result.built ≡ Some ready.built.source }
     ensures ended { RunEnded ready.types.atoms ready.built.typed
         (sides (source_tells (I.faults input.old) (I.rest input.old)) (sink_tells (O.faults out.old) (O.written out.old)))
         (sides (source_tells (I.faults input.new) (I.rest input.new)) (sink_tells (O.faults out.new) (O.written out.new)))
@@ -33,25 +34,27 @@ pub fn execute<I: Source, O: Sink>(alloc: Global, ready: Ready, input: &mut I, o
     ensures text { CanReport result.status }
 {
     let Ready { types, built } = ready;
+    let Built { source, typed } = built;
     let mut types = types;
+    let mut typed = typed;
     let bounds = Bounds {
         words: &[],
         ticks: MOST_TICKS,
         seed: SEED,
     };
-    let ended = run_accepted(alloc, &mut types, &built.typed, bounds, input, out);
-    run_of(alloc, built, ended)
+    let ended = run_accepted(alloc, &mut types, &mut typed, bounds, input, out);
+    run_of(alloc, source, ended)
 }
 
-/// The run of a program that ended so.
-fn run_of(alloc: Global, built: Built, ended: Result<Outcome, Stop<RunFault>>) -> Run
-    ensures { IsRunOf built ended result }
+/// The run of a program of this package that ended so.
+fn run_of(alloc: Global, source: Package, ended: Result<Outcome, Stop<RunFault>>) -> Run
+    ensures { IsRunOf source ended result }
 {
     match ended {
-        Ok(outcome) => came(alloc, built, outcome),
+        Ok(outcome) => came(alloc, source, outcome),
         Err(stop) => Run {
             status: stopped(alloc, stop),
-            built: Some(built),
+            built: Some(source),
             turns: 0,
             spent: 0,
         },
@@ -59,14 +62,14 @@ fn run_of(alloc: Global, built: Built, ended: Result<Outcome, Stop<RunFault>>) -
 }
 
 /// The run of a program that came to this outcome.
-fn came(alloc: Global, built: Built, outcome: Outcome) -> Run
-    ensures { IsRunOf built (Ok outcome) result }
+fn came(alloc: Global, source: Package, outcome: Outcome) -> Run
+    ensures { IsRunOf source (Ok outcome) result }
 {
     let turns = outcome.picks;
     let spent = outcome.spent;
     Run {
         status: status_of(alloc, outcome.ending),
-        built: Some(built),
+        built: Some(source),
         turns,
         spent,
     }

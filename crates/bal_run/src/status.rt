@@ -4,28 +4,18 @@ ghost use Rattle.bal_run.specs.Status.{exit_status};
 
 use bal_base::{LimitKind, Refusal, Ring, Text};
 use bal_tree::Package;
-use typed_tree::TypedPackage;
 
 /// What a call of the top came to.
 #[derive(Drop)]
 pub struct Run {
     /// How it ended.
     pub status: Status,
-    /// What was compiled, if compiling succeeded.
-    pub built: Option<Built>,
+    /// The package that was compiled, if compiling succeeded.
+    pub built: Option<Package>,
     /// How often a strand was picked to run, modulo 2 to the power 64, and 0 where no run came to an outcome.
     pub turns: u64,
     /// How many ticks were spent, and 0 where no run came to an outcome.
     pub spent: u64,
-}
-
-/// A compiled program.
-#[derive(Drop)]
-pub struct Built {
-    /// The package that was read.
-    pub source: Package,
-    /// Its bodies, typed, by which it runs.
-    pub typed: TypedPackage,
 }
 
 /// How a call of the top ended.

@@ -2,7 +2,7 @@
 use Rattle.std.specs.Prelude.{◌≡◌, ℕ, Some, length}
 use Rattle.std.specs.List.{AllZip}
 use Rattle.typed_tree.specs.Units.{UnitTree}
-use Rattle.run_model.specs.Facts.{WorkerFacts}
+use Rattle.op_model.specs.ProgramFacts.{WorkerFacts}
 use Rattle.eval_model.specs.Trees.{unit_facts as tree_facts}
 use Rattle.stack_code.specs.declared.code.Spawn.{Spawn}
 use Rattle.stack_code.specs.declared.code.Unit.{Unit as CodeUnit}

@@ -3,7 +3,7 @@
 
 ghost use Rattle.std.specs.Prelude.{◌≡◌, [], IfOk};
 ghost use Rattle.operations.specs.declared.operation.Operation.TheVariants.{Workers};
-ghost use Rattle.run_model.specs.Local.{captures};
+ghost use Rattle.op_model.specs.Local.{captures};
 ghost use Rattle.code_frames.specs.Asking.{captured_act};
 ghost use Rattle.code_frames.specs.Frames.{local_of};
 

@@ -1,7 +1,7 @@
 //! Laws of machines that run alike. This call does nothing: its clauses are laws.
 ghost use Rattle.code_frames.specs.Laws.{AlikeAreAllowed, AlikeAreReached, AlikeStarts, AlikeSteps};
 
-use run_model::Meaning;
+use op_model::Meaning;
 
 /// Machines that run alike begin alike, have the same steps, reach the same states in as many steps by the same picks, and have the same
 /// outcomes, whatever the calls of the library come to.

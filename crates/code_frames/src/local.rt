@@ -2,7 +2,7 @@
 #![tactic(auto, using(crate::proofs::Acting::acting))]
 
 ghost use Rattle.std.specs.Prelude.{◌≡◌, ◌≤◌, ◌∷◌, [], IfOk, List, OnOk, Some, slice_get, slice_set, suc, ℕ};
-ghost use Rattle.run_model.specs.Local.{Now, acts, constant_value, futures_in, dropped, loaded, pushed, stored, takes as takes_of, twice};
+ghost use Rattle.op_model.specs.Local.{Now, acts, constant_value, futures_in, dropped, loaded, pushed, stored, takes as takes_of, twice};
 ghost use Rattle.held_operations.specs.Operation.{operation_of};
 ghost use Rattle.code_frames.specs.Asking.{HasOperands, Stays, TakesLast, act_of};
 ghost use Rattle.code_frames.specs.Frames.{local_of};

@@ -6,9 +6,9 @@ use Rattle.operations.specs.Talk.{NoTalk, talk_of}
 use Rattle.value_model.specs.declared.filler.Filler.{Filler}
 use Rattle.value_model.specs.declared.value.Value.{Value}
 use Rattle.value_model.specs.Meaning.{Answers}
-use Rattle.run_model.specs.Common.{Common}
-use Rattle.run_model.specs.Effects.{Effect, Gives, Fails, Waits, Enters, Leaves, Spawns, NoTick, Beyond}
-use Rattle.run_model.specs.Local.{Local, acts, takes, with_stack}
+use Rattle.op_model.specs.Common.{Common}
+use Rattle.op_model.specs.Effects.{Effect, Gives, Fails, Waits, Enters, Leaves, Spawns, NoTick, Beyond}
+use Rattle.op_model.specs.Local.{Local, acts, takes, with_stack}
 use Rattle.machine_model.specs.Following.{EndsFrame}
 use Rattle.machine_model.specs.Keeping.{AskFits, EffectFits}
 use Rattle.machine_model.specs.Machine.{Ask, Frame, asks, captured_slots}

@@ -22,9 +22,9 @@ use Rattle.value_model.specs.declared.value.Value.TheVariants.{Str, Struct}
 use Rattle.value_model.specs.Heap.{IsClosed, IsThere, Items, Structure, values_of}
 use Rattle.value_model.specs.Stands.{BelongsIf, MembersBelong}
 use Rattle.value_model.specs.Valid.{AreValidMembers, IsValidValue}
-use Rattle.run_model.specs.Common.{Common, IsActive, IsBlocked, Need, Strand}
-use Rattle.run_model.specs.Strands.{has_ended, met}
-use Rattle.run_model.specs.Rows.{new_structure, size_of}
+use Rattle.op_model.specs.Common.{Common, IsActive, IsBlocked, Need, Strand}
+use Rattle.op_model.specs.Strands.{has_ended, met}
+use Rattle.op_model.specs.Rows.{new_structure, size_of}
 use Rattle.machine_model.specs.Keeping.{IsIdle}
 use Rattle.machine_model.specs.Machine.{Frame, Launch, State, words_of}
 use Rattle.machine_model.specs.Runs.{Picking, begins_with, first_common, first_world, main_arguments, AreWords}

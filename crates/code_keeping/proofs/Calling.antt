@@ -11,9 +11,9 @@ use Rattle.operations.specs.Rows.{AreBelow, IsWithin, ResultHas, Signature}
 use Rattle.value_model.specs.declared.filler.Filler.{Filler}
 use Rattle.value_model.specs.declared.value.Value.{Value}
 use Rattle.value_model.specs.Meaning.{Answers}
-use Rattle.run_model.specs.Common.{Common}
-use Rattle.run_model.specs.Effects.{Enters}
-use Rattle.run_model.specs.Local.{Local, takes, with_stack}
+use Rattle.op_model.specs.Common.{Common}
+use Rattle.op_model.specs.Effects.{Enters}
+use Rattle.op_model.specs.Local.{Local, takes, with_stack}
 use Rattle.machine_model.specs.Keeping.{AskFits, EffectFits}
 use Rattle.machine_model.specs.Machine.{Ask, Frame, asks, captured_slots, goes_to}
 use Rattle.machine_model.specs.Runs.{Running}

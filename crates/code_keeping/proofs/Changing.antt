@@ -2,8 +2,8 @@
 use Rattle.std.proofs.Common.{◌≡◌, ◌≢◌, ◌≤◌, ◌<◌, ◌+◌, ◌∙◌, ℕ, zero, suc, List, [], ◌∷◌, ◌++◌, Some, inl, inr, length, refl, sym, ap, subst, arith}
 use Rattle.std.proofs.lemmas.List.Elements.{All-head, All-tail}
 use Rattle.std.specs.Prelude.{◌⊎◌, All, get_or, slice_get, slice_set}
-use Rattle.run_model.specs.Common.{Activation, Channel}
-use Rattle.run_model.specs.Strands.{no_channel}
+use Rattle.op_model.specs.Common.{Activation, Channel}
+use Rattle.op_model.specs.Strands.{no_channel}
 use Rattle.machine_model.proofs.Once.{some-same}
 use Rattle.stack_code.specs.Frames.{channel_in}
 

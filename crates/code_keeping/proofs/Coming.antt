@@ -17,10 +17,10 @@ use Rattle.value_model.specs.Meaning.{Answers}
 use Rattle.value_model.specs.PanicName.{panic_message}
 use Rattle.value_model.specs.Stands.{Stands}
 use Rattle.value_model.specs.World.{Came, World}
-use Rattle.run_model.specs.Common.{Asker, Common}
-use Rattle.run_model.specs.Effects.{Effect, lifted}
-use Rattle.run_model.specs.Performs.{OnWorld, Performs}
-use Rattle.run_model.specs.Rows.{Else, Tells, Unless, Where, found, gives, panics}
+use Rattle.op_model.specs.Common.{Caller, Common}
+use Rattle.op_model.specs.Effects.{Effect, lifted}
+use Rattle.op_model.specs.Performs.{OnWorld, Performs}
+use Rattle.op_model.specs.Rows.{Else, Tells, Unless, Where, found, gives, panics}
 use Rattle.machine_model.specs.Runs.{Running}
 use Rattle.stack_code.specs.declared.code.Code.{Code}
 use Rattle.stack_code.specs.CodeMachine.{code_facts}
@@ -38,14 +38,14 @@ AllCome code c result Q = ((effect : Effect) → Q effect → EffectTyped code c
 -- what an operation owes, on operands that fit its row
 abbrev pub RowHolds : (code : Code) (fillers : ℕ → List Filler) (natives : Answers) → Common → Surroundings → Operation → Type 0
 RowHolds code fillers natives c place o =
-    (operands : List SemType) (result : Option SemType) (vs : List Value) (asker : Asker) → GoodCommon code c Running → OpTyped code.atoms place o operands result → AllFit code c vs operands →
-    AllCome code c result (Performs (code_facts fillers code) natives o vs asker c)
+    (operands : List SemType) (result : Option SemType) (vs : List Value) (caller : Caller) → GoodCommon code c Running → OpTyped code.atoms place o operands result → AllFit code c vs operands →
+    AllCome code c result (Performs (code_facts fillers code) natives o vs caller c)
 
 pub row-keeps : (code : Code) (fillers : ℕ → List Filler) (natives : Answers) (c : Common) (place : Surroundings) (o : Operation) → RowHolds code fillers natives c place o → RowKeeps code fillers natives c place o
-row-keeps code fillers natives c place o row operands result vs asker effect good typed fit does = (row operands result vs asker good typed fit).0 effect does
+row-keeps code fillers natives c place o row operands result vs caller effect good typed fit does = (row operands result vs caller good typed fit).0 effect does
 
 pub row-comes : (code : Code) (fillers : ℕ → List Filler) (natives : Answers) (c : Common) (place : Surroundings) (o : Operation) → RowHolds code fillers natives c place o → RowComes code fillers natives c place o
-row-comes code fillers natives c place o row operands result vs asker good typed fit = (row operands result vs asker good typed fit).1
+row-comes code fillers natives c place o row operands result vs caller good typed fit = (row operands result vs caller good typed fit).1
 
 module _ (code : Code) (c : Common) (good : GoodCommon code c Running) (result : Option SemType) where
   abbrev pub IsTyped : Came → Type 0

@@ -7,8 +7,8 @@ use Rattle.type_model.specs.declared.basic.SemType.{SemType}
 use Rattle.operations.specs.declared.operation.Operation.{Operation}
 use Rattle.operations.specs.Talk.{NoTalk, talk_of}
 use Rattle.value_model.specs.declared.value.Value.{Value}
-use Rattle.run_model.specs.Common.{Common, Role}
-use Rattle.run_model.specs.Local.{Local, with_stack}
+use Rattle.op_model.specs.Common.{Common, Role}
+use Rattle.op_model.specs.Local.{Local, with_stack}
 use Rattle.machine_model.specs.Following.{EndsFrame}
 use Rattle.machine_model.specs.Machine.{Frame, goes_to}
 use Rattle.stack_code.specs.declared.code.Code.{Code}

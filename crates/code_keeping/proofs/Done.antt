@@ -9,8 +9,8 @@ use Rattle.operations.specs.Talk.{NoTalk, talk_of}
 use Rattle.operations.specs.Typing.{OpTyped}
 use Rattle.value_model.specs.declared.filler.Filler.{Filler}
 use Rattle.value_model.specs.Meaning.{Answers}
-use Rattle.run_model.specs.Common.{Common}
-use Rattle.run_model.specs.Local.{Local, acts, takes}
+use Rattle.op_model.specs.Common.{Common}
+use Rattle.op_model.specs.Local.{Local, acts, takes}
 use Rattle.machine_model.specs.Following.{EndsFrame}
 use Rattle.stack_code.specs.declared.code.Code.{Code}
 use Rattle.stack_code.specs.declared.code.Unit.{Unit as CodeUnit}

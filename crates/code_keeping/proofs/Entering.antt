@@ -9,8 +9,8 @@ use Rattle.operations.specs.declared.operation.Operation.TheVariants as op
 use Rattle.operations.specs.Talk.{NoTalk, talk_of}
 use Rattle.value_model.specs.declared.value.Value.{Value}
 use Rattle.value_model.specs.Heap.{IsClosed}
-use Rattle.run_model.specs.Common.{Common, Role}
-use Rattle.run_model.specs.Local.{with_stack}
+use Rattle.op_model.specs.Common.{Common, Role}
+use Rattle.op_model.specs.Local.{with_stack}
 use Rattle.machine_model.specs.Following.{EndsFrame}
 use Rattle.machine_model.specs.Keeping.{Caught}
 use Rattle.machine_model.specs.Machine.{Frame, first_slots, goes_to}

@@ -4,7 +4,7 @@ use Rattle.std.specs.Prelude.{◌⊎◌, IsSomeAnd, get_or, slice_get}
 use Rattle.operations.specs.declared.operation.Operation.{Operation}
 use Rattle.operations.specs.declared.operation.Operation.TheVariants as op
 use Rattle.operations.specs.Talk.{Flushes, talk_of}
-use Rattle.run_model.specs.Common.{Activation, Channel, Common, End, Returned, Panicked, Role}
+use Rattle.op_model.specs.Common.{Activation, Channel, Common, End, Returned, Panicked, Role}
 use Rattle.machine_model.specs.Machine.{Frame}
 use Rattle.stack_code.specs.declared.code.Code.{Code}
 use Rattle.stack_code.specs.CodeMachine.{Standing}

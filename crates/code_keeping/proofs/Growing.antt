@@ -23,11 +23,11 @@ use Rattle.value_model.specs.Stands.{Belongs, BelongsIf, HasShape, IsUnmarked, M
 use Rattle.value_model.specs.Valid.{AreValidMembers, IsValidValue}
 use Rattle.value_model.specs.World.{Came, Gave, PassesCells, Threw, World}
 use Rattle.value_model.proofs.Stability.{HasShape-stable, stable}
-use Rattle.run_model.specs.Common.{AllEnded, AnyGiven, Common, Message, Need, Received, Role}
-use Rattle.run_model.specs.Effects.{lifted, with_world}
-use Rattle.run_model.specs.Limits.{most_cells}
-use Rattle.run_model.specs.Rows.{within, size_of}
-use Rattle.run_model.specs.Strands.{end_in, met}
+use Rattle.op_model.specs.Common.{AllEnded, AnyGiven, Common, Message, Need, Received, Role}
+use Rattle.op_model.specs.Effects.{lifted, with_world}
+use Rattle.op_model.specs.Limits.{most_cells}
+use Rattle.op_model.specs.Rows.{within, size_of}
+use Rattle.op_model.specs.Strands.{end_in, met}
 use Rattle.machine_model.specs.Runs.{Phase, Running}
 use Rattle.stack_code.specs.declared.code.Code.{Code}
 use Rattle.stack_code.specs.Good.{GoodCommon, IsLater, NearlyCommon, NeedIsThere, RunsOne, WorkerStays}

@@ -18,8 +18,8 @@ use Rattle.value_model.specs.declared.value.Value.{Value}
 use Rattle.value_model.specs.declared.value.Value.TheVariants.{Nil, Bool as Truth, Int, Str, Struct, Error, Function, Future}
 use Rattle.value_model.specs.Heap.{IsClosed}
 use Rattle.value_model.specs.Stands.{HasShape, Stands}
-use Rattle.run_model.specs.Common.{Common}
-use Rattle.run_model.specs.Local.{Local, acts, captured_from, captures, constant_value, dropped, futures_in, loaded, pushed, stored, taken, twice, with_stack}
+use Rattle.op_model.specs.Common.{Common}
+use Rattle.op_model.specs.Local.{Local, acts, captured_from, captures, constant_value, dropped, futures_in, loaded, pushed, stored, taken, twice, with_stack}
 use Rattle.machine_model.specs.Following.{EndsFrame}
 use Rattle.machine_model.specs.Machine.{Frame, On, asks, captured_slots, goes_to}
 use Rattle.stack_code.specs.declared.code.Code.{Code}

@@ -13,8 +13,8 @@ use Rattle.value_model.specs.declared.value.Value.{Value}
 use Rattle.value_model.specs.declared.value.Value.TheVariants.{Nil, Bool as Truth, Int, Str, Struct, Error, Function, Future}
 use Rattle.value_model.specs.Heap.{Heap, IsClosed}
 use Rattle.value_model.specs.Stands.{HasShape}
-use Rattle.run_model.specs.Common.{Common}
-use Rattle.run_model.specs.Local.{Local, with_stack}
+use Rattle.op_model.specs.Common.{Common}
+use Rattle.op_model.specs.Local.{Local, with_stack}
 use Rattle.machine_model.specs.Keeping.{Caught}
 use Rattle.machine_model.specs.Machine.{Frame}
 use Rattle.stack_code.specs.declared.code.Code.{Code}

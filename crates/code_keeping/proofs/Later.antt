@@ -4,7 +4,7 @@ use Rattle.std.specs.Prelude.{All, IsSomeAnd, slice_get}
 use Rattle.std.specs.List.{AllZip}
 use Rattle.type_model.specs.declared.basic.SemType.{SemType}
 use Rattle.value_model.specs.declared.value.Value.{Value}
-use Rattle.run_model.specs.Common.{Activation, Common, End, Panicked, Returned, Role, Strand}
+use Rattle.op_model.specs.Common.{Activation, Common, End, Panicked, Returned, Role, Strand}
 use Rattle.stack_code.specs.declared.code.Code.{Code}
 use Rattle.stack_code.specs.Activations.{GoodActivation, WorkerEndFits}
 use Rattle.stack_code.specs.Frames.{end_in_call}

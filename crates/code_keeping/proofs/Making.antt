@@ -24,11 +24,11 @@ use Rattle.value_model.specs.Stands.{BelongsIf, HasShape, IsUnmarked, MembersBel
 use Rattle.value_model.specs.Valid.{AreValidMembers}
 use Rattle.value_model.specs.World.{PassesCells, Threw}
 use Rattle.value_model.proofs.Stability.{HasShape-stable, stable}
-use Rattle.run_model.specs.Common.{AllEnded, AnyGiven, Common, Message, Need, Received, Role}
-use Rattle.run_model.specs.Effects.{lifted, with_world}
-use Rattle.run_model.specs.Limits.{most_cells}
-use Rattle.run_model.specs.Rows.{makes_error, new_structure, next_error, panics, size_of}
-use Rattle.run_model.specs.Strands.{end_in}
+use Rattle.op_model.specs.Common.{AllEnded, AnyGiven, Common, Message, Need, Received, Role}
+use Rattle.op_model.specs.Effects.{lifted, with_world}
+use Rattle.op_model.specs.Limits.{most_cells}
+use Rattle.op_model.specs.Rows.{makes_error, new_structure, next_error, panics, size_of}
+use Rattle.op_model.specs.Strands.{end_in}
 use Rattle.machine_model.specs.Runs.{Running}
 use Rattle.stack_code.specs.declared.code.Code.{Code}
 use Rattle.stack_code.specs.Good.{IsLater, NearlyCommon, NeedIsThere, WorkerStays}

@@ -6,8 +6,8 @@ use Rattle.std.specs.List.{AllZip}
 use Rattle.type_model.specs.declared.basic.SemType.{SemType}
 use Rattle.operations.specs.declared.operation.Operation.TheVariants as op
 use Rattle.value_model.specs.declared.value.Value.{Value}
-use Rattle.run_model.specs.Common.{Common}
-use Rattle.run_model.specs.Local.{Local}
+use Rattle.op_model.specs.Common.{Common}
+use Rattle.op_model.specs.Local.{Local}
 use Rattle.machine_model.specs.Machine.{Frame, goes_to}
 use Rattle.machine_model.proofs.Once.{some-same}
 use Rattle.stack_code.specs.declared.code.Code.{Code}

@@ -8,7 +8,7 @@ use Rattle.operations.specs.Rows.{NoOperand, One, OneAndMore, Three, Two}
 use Rattle.value_model.specs.declared.value.Value.{Value}
 use Rattle.value_model.specs.declared.value.Value.TheVariants.{Nil, Bool as Truth, Int, Str, Struct, Error, Function, Future}
 use Rattle.value_model.specs.Heap.{Entries, Heap, Items, Members, Structure}
-use Rattle.run_model.specs.Common.{Common}
+use Rattle.op_model.specs.Common.{Common}
 use Rattle.stack_code.specs.declared.code.Code.{Code}
 use Rattle.stack_code.specs.Values.{AllFit, Fits}
 use Rattle.code_keeping.specs.Kinds.{Booleans, Errors, Functions, Futures, Ints, Kind, Lists, Mappings, Nils, Nothings, Strings, kind_of, members_kind, structure_kind, value_kind}

@@ -12,11 +12,11 @@ use Rattle.value_model.specs.declared.panics.PanicName.TheVariants.{NotInitialis
 use Rattle.value_model.specs.declared.value.Value.{Value}
 use Rattle.value_model.specs.declared.value.Value.TheVariants.{Error}
 use Rattle.value_model.specs.Meaning.{Answers}
-use Rattle.run_model.specs.Common.{Common}
-use Rattle.run_model.specs.Effects.{Effect, Fails, lifted}
-use Rattle.run_model.specs.Local.{Local, acts, loaded, pushed, takes, with_stack}
-use Rattle.run_model.specs.Performs.{Performs}
-use Rattle.run_model.specs.Rows.{panics}
+use Rattle.op_model.specs.Common.{Common}
+use Rattle.op_model.specs.Effects.{Effect, Fails, lifted}
+use Rattle.op_model.specs.Local.{Local, acts, loaded, pushed, takes, with_stack}
+use Rattle.op_model.specs.Performs.{Performs}
+use Rattle.op_model.specs.Rows.{panics}
 use Rattle.machine_model.specs.Keeping.{AskFits, EffectFits}
 use Rattle.machine_model.specs.Machine.{Ask, Frame, On, asks, captured_slots, goes_to}
 use Rattle.machine_model.specs.Runs.{Running}

@@ -2,7 +2,7 @@
 use Rattle.std.proofs.Common.{◌≡◌, ◌≤◌, ◌∙◌, ◌+◌, ◌-◌, ℕ, suc, List, ◌∷◌, Option, Some, None, refl, ap, arith}
 use Rattle.std.specs.Prelude.{slice_get, ⊤}
 use Rattle.operations.specs.declared.operation.Operation.{Operation}
-use Rattle.run_model.specs.Common.{Common, Role}
+use Rattle.op_model.specs.Common.{Common, Role}
 use Rattle.machine_model.specs.Machine.{Frame}
 use Rattle.stack_code.specs.declared.code.Code.{Code}
 use Rattle.stack_code.specs.declared.code.Unit.{Unit as CodeUnit}

@@ -4,9 +4,9 @@ use Rattle.std.specs.Prelude.{◌⊎◌, IsSomeAnd, IsTrue, get_or, is_some, opt
 use Rattle.operations.specs.declared.operation.Operation.TheVariants as op
 use Rattle.operations.specs.Talk.{Receives}
 use Rattle.value_model.specs.declared.value.Value.{Value}
-use Rattle.run_model.specs.Common.{Activation, Channel, Common, End, Returned, Panicked, Role}
-use Rattle.run_model.specs.Messages.{one_received}
-use Rattle.run_model.specs.Strands.{is_error}
+use Rattle.op_model.specs.Common.{Activation, Channel, Common, End, Returned, Panicked, Role}
+use Rattle.op_model.specs.Messages.{one_received}
+use Rattle.op_model.specs.Strands.{is_error}
 use Rattle.machine_model.specs.Machine.{Frame}
 use Rattle.stack_code.specs.declared.code.Code.{Code}
 use Rattle.stack_code.specs.CodeMachine.{Standing}

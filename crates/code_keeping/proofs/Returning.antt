@@ -8,11 +8,11 @@ use Rattle.operations.specs.Rows.{IsWithin, One}
 use Rattle.value_model.specs.declared.filler.Filler.{Filler}
 use Rattle.value_model.specs.declared.value.Value.{Value}
 use Rattle.value_model.specs.Meaning.{Answers}
-use Rattle.run_model.specs.Common.{Activation, Common, End, Returned, Need, Message, Received, AllEnded, AnyGiven, Role, Strand}
-use Rattle.run_model.specs.Effects.{Effect, Leaves as LeavesWith}
-use Rattle.run_model.specs.Local.{Local, takes, with_stack}
-use Rattle.run_model.specs.Operands.{One as OneValue}
-use Rattle.run_model.specs.Strands.{end_in, is_error, worker_ended}
+use Rattle.op_model.specs.Common.{Activation, Common, End, Returned, Need, Message, Received, AllEnded, AnyGiven, Role, Strand}
+use Rattle.op_model.specs.Effects.{Effect, Leaves as LeavesWith}
+use Rattle.op_model.specs.Local.{Local, takes, with_stack}
+use Rattle.op_model.specs.Operands.{One as OneValue}
+use Rattle.op_model.specs.Strands.{end_in, is_error, worker_ended}
 use Rattle.machine_model.specs.Keeping.{AskFits, EffectFits}
 use Rattle.machine_model.specs.Machine.{Ask, Frame, asks, captured_slots}
 use Rattle.machine_model.specs.Runs.{Phase, Running}

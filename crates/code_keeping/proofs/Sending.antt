@@ -9,9 +9,9 @@ use Rattle.operations.specs.Rows.{One, Surroundings}
 use Rattle.operations.specs.Talk.{Sends, talk_of}
 use Rattle.operations.specs.Typing.{OpTyped}
 use Rattle.value_model.specs.declared.value.Value.{Value}
-use Rattle.run_model.specs.Common.{Activation, Channel, Common, End, Role}
-use Rattle.run_model.specs.Messages.{one_sent}
-use Rattle.run_model.specs.Strands.{channel_at, with_channel}
+use Rattle.op_model.specs.Common.{Activation, Channel, Common, End, Role}
+use Rattle.op_model.specs.Messages.{one_sent}
+use Rattle.op_model.specs.Strands.{channel_at, with_channel}
 use Rattle.machine_model.specs.Machine.{Frame}
 use Rattle.stack_code.specs.declared.code.Code.{Code}
 use Rattle.stack_code.specs.CodeMachine.{Standing}

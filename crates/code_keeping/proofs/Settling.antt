@@ -5,8 +5,8 @@ use Rattle.std.proofs.lemmas.List.Elements.{All-append, Contains-append_cases, C
 use Rattle.std.specs.Prelude.{◌⊎◌, ◌&&◌, ◌||◌, All, AllPairs, Contains, IsTrue, get_or, if◌then◌else◌, is_some, not, option_map, slice_get}
 use Rattle.std.specs.List.{list_all, list_any}
 use Rattle.value_model.specs.Heap.{values_of}
-use Rattle.run_model.specs.Common.{AllEnded, AnyGiven, Common, End, IsActive, IsBlocked, IsEnded, Message, Need, Received, Role, Status, Strand}
-use Rattle.run_model.specs.Strands.{end_in, end_of, ended_count, has_ended, has_success, is_success, met, no_strand, settled, strand_at, wakes, with_status, woken, woken_from}
+use Rattle.op_model.specs.Common.{AllEnded, AnyGiven, Common, End, IsActive, IsBlocked, IsEnded, Message, Need, Received, Role, Status, Strand}
+use Rattle.op_model.specs.Strands.{end_in, end_of, ended_count, has_ended, has_success, is_success, met, no_strand, settled, strand_at, wakes, with_status, woken, woken_from}
 use Rattle.machine_model.specs.Runs.{Phase, Picking, Running}
 use Rattle.machine_model.proofs.Once.{some-same}
 use Rattle.stack_code.specs.declared.code.Code.{Code}

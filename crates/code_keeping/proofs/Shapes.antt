@@ -15,8 +15,8 @@ use Rattle.value_model.specs.declared.value.Value.{Value}
 use Rattle.value_model.specs.declared.value.Value.TheVariants.{Nil, Bool as Truth, Int, Str, Struct, Error, Function, Future}
 use Rattle.value_model.specs.Heap.{FunctionObject, Items, Entries, Members, Structure}
 use Rattle.value_model.specs.Stands.{HasShape, IsUnmarked, MembersBelong, Stands, StructureStands}
-use Rattle.run_model.specs.Common.{Common}
-use Rattle.run_model.specs.Strands.{is_error}
+use Rattle.op_model.specs.Common.{Common}
+use Rattle.op_model.specs.Strands.{is_error}
 use Rattle.stack_code.specs.declared.code.Code.{Code}
 use Rattle.stack_code.specs.declared.code.Unit.{Unit as CodeUnit}
 use Rattle.stack_code.specs.Tables.{IsArrowOf, IsCallable, IsFutureOf, IsInherent}

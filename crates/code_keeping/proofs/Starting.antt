@@ -10,9 +10,9 @@ use Rattle.operations.specs.Structures.{AwaitsAny}
 use Rattle.value_model.specs.declared.value.Value.{Value}
 use Rattle.value_model.specs.declared.value.Value.TheVariants.{Nil, Bool as Truth, Int, Str, Struct, Error, Function, Future}
 use Rattle.value_model.specs.Meaning.{Answers}
-use Rattle.run_model.specs.Common.{Common, End, Role, Strand}
-use Rattle.run_model.specs.Local.{Local, acts, captured_from, captures, futures_in, loaded, stored, dropped, taken, twice}
-use Rattle.run_model.specs.Strands.{end_in, has_ended, no_strand, strand_at}
+use Rattle.op_model.specs.Common.{Common, End, Role, Strand}
+use Rattle.op_model.specs.Local.{Local, acts, captured_from, captures, futures_in, loaded, stored, dropped, taken, twice}
+use Rattle.op_model.specs.Strands.{end_in, has_ended, no_strand, strand_at}
 use Rattle.machine_model.specs.Keeping.{FramesFit, IsIdle}
 use Rattle.machine_model.specs.Machine.{Does, Frame, State, asks, captured_slots}
 use Rattle.machine_model.specs.Runs.{AreWords, IsReached, Phase, Picking, Running}

@@ -9,7 +9,7 @@ use Rattle.value_model.specs.declared.value.Value.{Value}
 use Rattle.value_model.specs.declared.value.Value.TheVariants.{Nil, Bool as Truth, Int, Str, Struct, Error, Function, Future}
 use Rattle.value_model.specs.Heap.{AreAlike, Begins, Grows, Heap, IsClosed, IsThere, Members, Items, Entries, Stays, Structure}
 use Rattle.value_model.proofs.Stability.{stable}
-use Rattle.run_model.specs.Common.{Activation, Common, Role, Strand}
+use Rattle.op_model.specs.Common.{Activation, Common, Role, Strand}
 use Rattle.stack_code.specs.declared.code.Code.{Code}
 use Rattle.stack_code.specs.declared.code.Unit.{Unit as CodeUnit}
 use Rattle.stack_code.specs.Frames.{IsOfItsUnit, SlotsFit, TallyIs}

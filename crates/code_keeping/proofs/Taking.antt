@@ -4,7 +4,7 @@ use Rattle.std.proofs.lemmas.List.{reverse-reverse, reverse-append, length-rever
 use Rattle.std.specs.List.{AllZip}
 use Rattle.operations.specs.declared.operation.Operation.{Operation}
 use Rattle.value_model.specs.declared.value.Value.{Value}
-use Rattle.run_model.specs.Local.{Local, Later, taken, takes, with_stack}
+use Rattle.op_model.specs.Local.{Local, Later, taken, takes, with_stack}
 
 -- so many are taken off the front of a stack, the first one last
 abbrev pub reversed : List Value → List Value → List Value

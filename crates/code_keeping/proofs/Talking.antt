@@ -3,8 +3,8 @@ use Rattle.std.proofs.Common.{◌≡◌, ◌≢◌, ◌<◌, ◌∙◌, ℕ, tru
 use Rattle.std.specs.Prelude.{◌⊎◌, All, IsSomeAnd, IsTrue, get_or, if◌then◌else◌, slice_get, slice_set}
 use Rattle.operations.specs.declared.operation.Operation.{Operation}
 use Rattle.operations.specs.Talk.{talk_of}
-use Rattle.run_model.specs.Common.{Activation, Channel, Common, End, Role}
-use Rattle.run_model.specs.Strands.{activation_at, no_activation, with_activation}
+use Rattle.op_model.specs.Common.{Activation, Channel, Common, End, Role}
+use Rattle.op_model.specs.Strands.{activation_at, no_activation, with_activation}
 use Rattle.machine_model.specs.Keeping.{AreApart}
 use Rattle.machine_model.specs.Machine.{Frame}
 use Rattle.machine_model.proofs.Once.{some-same}

@@ -9,8 +9,8 @@ use Rattle.operations.specs.Rows.{One}
 use Rattle.value_model.specs.declared.filler.Filler.{Filler}
 use Rattle.value_model.specs.declared.value.Value.{Value}
 use Rattle.value_model.specs.declared.value.Value.TheVariants.{Bool as Truth}
-use Rattle.run_model.specs.Common.{Common}
-use Rattle.run_model.specs.Local.{Local, acts, constant_value, dropped, pushed, stored, with_stack}
+use Rattle.op_model.specs.Common.{Common}
+use Rattle.op_model.specs.Local.{Local, acts, constant_value, dropped, pushed, stored, with_stack}
 use Rattle.machine_model.specs.Machine.{Ask, Frame, On, asks, captured_slots}
 use Rattle.machine_model.specs.Runs.{Running}
 use Rattle.stack_code.specs.declared.code.Code.{Code}

@@ -24,14 +24,14 @@ use Rattle.value_model.specs.declared.value.Value.TheVariants.{Nil, Bool as Trut
 use Rattle.value_model.specs.Meaning.{Answers}
 use Rattle.value_model.specs.Stands.{Belongs, OwnTypes, Stands}
 use Rattle.value_model.specs.World.{Came, World}
-use Rattle.run_model.specs.Common.{Asker, Common}
-use Rattle.run_model.specs.Effects.{Effect}
-use Rattle.run_model.specs.Equality.{AreEqual}
-use Rattle.run_model.specs.Facts.{UnitFacts, own_types}
-use Rattle.run_model.specs.Performs.{OnWorld, Performs}
-use Rattle.run_model.specs.Rows.{Else, GivesInt, GivesText, Tells, found, gives, panics}
-use Rattle.run_model.specs.StructureRows.{at_place, reads_char}
-use Rattle.run_model.specs.ValueRows.{Casts, Divides, IsBefore, IsNotBehind, Remains}
+use Rattle.op_model.specs.Common.{Caller, Common}
+use Rattle.op_model.specs.Effects.{Effect}
+use Rattle.op_model.specs.Equality.{AreEqual}
+use Rattle.op_model.specs.ProgramFacts.{UnitFacts, own_types}
+use Rattle.op_model.specs.Performs.{OnWorld, Performs}
+use Rattle.op_model.specs.Rows.{Else, GivesInt, GivesText, Tells, found, gives, panics}
+use Rattle.op_model.specs.StructureRows.{at_place, reads_char}
+use Rattle.op_model.specs.ValueRows.{Casts, Divides, IsBefore, IsNotBehind, Remains}
 use Rattle.machine_model.specs.Runs.{Running}
 use Rattle.machine_model.proofs.Once.{some-same}
 use Rattle.stack_code.specs.declared.code.Code.{Code}
@@ -165,36 +165,36 @@ module _ (fillers : ℕ → List Filler) (natives : Answers) (code : Code) (t : 
 
   -- on two ints
   ints-row : (P : World → ℤ → ℤ → Came → Type 0) (o : Operation) → ((operands : List SemType) (result : Option SemType) → OpTyped code.atoms place o operands result → IntsTyped code.atoms place operands IsInteger result) →
-      ((x y : ℤ) (asker : Asker) (c : Common) (effect : Effect) → Performs (code_facts fillers code) natives o (Int x ∷ Int y ∷ []) asker c effect ≡ OnWorld (λ w. P w x y) c effect) →
+      ((x y : ℤ) (caller : Caller) (c : Common) (effect : Effect) → Performs (code_facts fillers code) natives o (Int x ∷ Int y ∷ []) caller c effect ≡ OnWorld (λ w. P w x y) c effect) →
       ((c : Common) (good : GoodCommon code c Running) (result : Option SemType) (x y : ℤ) → IsInt x → ResultHas code.atoms result IsInteger → Does code c good result (P c.world x y)) → Holds o
-  ints-row P o typed is does c operands result vs asker good t fit =
-      two-ints c good (λ us. AllCome code c result (Performs (code_facts fillers code) natives o us asker c)) IsInteger result operands vs (typed operands result t) fit
-      (λ x y ix iy has. subst (λ Q. AllCome code c result Q) (λ i effect. sym (is x y asker c effect) i) (on-world code c good result (λ w. P w x y) (does c good result x y ix has)))
+  ints-row P o typed is does c operands result vs caller good t fit =
+      two-ints c good (λ us. AllCome code c result (Performs (code_facts fillers code) natives o us caller c)) IsInteger result operands vs (typed operands result t) fit
+      (λ x y ix iy has. subst (λ Q. AllCome code c result Q) (λ i effect. sym (is x y caller c effect) i) (on-world code c good result (λ w. P w x y) (does c good result x y ix has)))
 
   pub add : Holds op.Add
-  add = ints-row (λ w x y. GivesInt w (x +ℤ y)) op.Add (λ os r t. t) (λ x y asker c e. refl) (λ c good r x y ix has. does-int code c good r (x +ℤ y) has)
+  add = ints-row (λ w x y. GivesInt w (x +ℤ y)) op.Add (λ os r t. t) (λ x y caller c e. refl) (λ c good r x y ix has. does-int code c good r (x +ℤ y) has)
 
   pub subtract : Holds op.Subtract
-  subtract = ints-row (λ w x y. GivesInt w (x -ℤ y)) op.Subtract (λ os r t. t) (λ x y asker c e. refl) (λ c good r x y ix has. does-int code c good r (x -ℤ y) has)
+  subtract = ints-row (λ w x y. GivesInt w (x -ℤ y)) op.Subtract (λ os r t. t) (λ x y caller c e. refl) (λ c good r x y ix has. does-int code c good r (x -ℤ y) has)
 
   pub multiply : Holds op.Multiply
-  multiply = ints-row (λ w x y. GivesInt w (x *ℤ y)) op.Multiply (λ os r t. t) (λ x y asker c e. refl) (λ c good r x y ix has. does-int code c good r (x *ℤ y) has)
+  multiply = ints-row (λ w x y. GivesInt w (x *ℤ y)) op.Multiply (λ os r t. t) (λ x y caller c e. refl) (λ c good r x y ix has. does-int code c good r (x *ℤ y) has)
 
   pub divide : Holds op.Divide
-  divide = ints-row Divides op.Divide (λ os r t. t) (λ x y asker c e. refl) (λ c good r x y ix has. does-divide code c good r x y has)
+  divide = ints-row Divides op.Divide (λ os r t. t) (λ x y caller c e. refl) (λ c good r x y ix has. does-divide code c good r x y has)
 
   pub remainder : Holds op.Remainder
-  remainder = ints-row Remains op.Remainder (λ os r t. t) (λ x y asker c e. refl) (λ c good r x y ix has. does-remain code c good r x y ix has)
+  remainder = ints-row Remains op.Remainder (λ os r t. t) (λ x y caller c e. refl) (λ c good r x y ix has. does-remain code c good r x y ix has)
 
   pub negate : Holds op.Negate
-  negate c operands result vs asker good typed fit =
-      one-fit code c (λ us. AllCome code c result (Performs (code_facts fillers code) natives op.Negate us asker c)) operands vs _ typed fit
-      (λ a v (within, has) f. an-int c.world.heap (λ z. AllCome code c result (Performs (code_facts fillers code) natives op.Negate (z ∷ []) asker c)) v (its-int c good v a f within)
+  negate c operands result vs caller good typed fit =
+      one-fit code c (λ us. AllCome code c result (Performs (code_facts fillers code) natives op.Negate us caller c)) operands vs _ typed fit
+      (λ a v (within, has) f. an-int c.world.heap (λ z. AllCome code c result (Performs (code_facts fillers code) natives op.Negate (z ∷ []) caller c)) v (its-int c good v a f within)
       (λ x. on-world code c good result (λ w. GivesInt w (neg_ℤ x)) (does-int code c good result (neg_ℤ x) has)))
 
   pub concat : Holds op.Concat
-  concat c operands result vs asker good typed fit =
-      two-texts c good (λ us. AllCome code c result (Performs (code_facts fillers code) natives op.Concat us asker c)) IsString result operands vs typed fit
+  concat c operands result vs caller good typed fit =
+      two-texts c good (λ us. AllCome code c result (Performs (code_facts fillers code) natives op.Concat us caller c)) IsString result operands vs typed fit
       (λ s u ts tu has. on-world code c good result (λ w. GivesText w (s ++ u)) (does-text code c good result (s ++ u) (text-append s u ts tu) has))
 
   -- on two ints or two strings
@@ -209,45 +209,45 @@ module _ (fillers : ℕ → List Filler) (natives : Answers) (code : Code) (t : 
       (λ s u ts tu has. subst (λ S. AllCome code c result S) (sym (text-is s u)) (on-world code c good result (λ w. Tells w (Q s u)) (does-tell code c good result (Q s u) has)))
 
   pub less : Holds op.Less
-  less c operands result vs asker good typed fit =
-      compared (λ x y. x <ℤ y) IsBefore (λ us. Performs (code_facts fillers code) natives op.Less us asker c) c operands result vs good typed fit (λ x y. refl) (λ s u. refl)
+  less c operands result vs caller good typed fit =
+      compared (λ x y. x <ℤ y) IsBefore (λ us. Performs (code_facts fillers code) natives op.Less us caller c) c operands result vs good typed fit (λ x y. refl) (λ s u. refl)
 
   pub less-equal : Holds op.LessEqual
-  less-equal c operands result vs asker good typed fit =
-      compared (λ x y. x ≤ℤ y) IsNotBehind (λ us. Performs (code_facts fillers code) natives op.LessEqual us asker c) c operands result vs good typed fit (λ x y. refl) (λ s u. refl)
+  less-equal c operands result vs caller good typed fit =
+      compared (λ x y. x ≤ℤ y) IsNotBehind (λ us. Performs (code_facts fillers code) natives op.LessEqual us caller c) c operands result vs good typed fit (λ x y. refl) (λ s u. refl)
 
   pub negation : Holds op.Not
-  negation c operands result vs asker good typed fit =
-      one-fit code c (λ us. AllCome code c result (Performs (code_facts fillers code) natives op.Not us asker c)) operands vs _ typed fit
-      (λ a v (within, has) f. a-boolean c.world.heap (λ z. AllCome code c result (Performs (code_facts fillers code) natives op.Not (z ∷ []) asker c)) v (its-truth c good v a f within)
+  negation c operands result vs caller good typed fit =
+      one-fit code c (λ us. AllCome code c result (Performs (code_facts fillers code) natives op.Not us caller c)) operands vs _ typed fit
+      (λ a v (within, has) f. a-boolean c.world.heap (λ z. AllCome code c result (Performs (code_facts fillers code) natives op.Not (z ∷ []) caller c)) v (its-truth c good v a f within)
       (λ b. at-once code c good result (gives c.world (Truth (not b))) (boolean-typed code c good result (not b) has)))
 
   pub equal : Holds op.Equal
-  equal c operands result vs asker good typed fit =
-      two-fit code c (λ us. AllCome code c result (Performs (code_facts fillers code) natives op.Equal us asker c)) operands vs _ typed fit
+  equal c operands result vs caller good typed fit =
+      two-fit code c (λ us. AllCome code c result (Performs (code_facts fillers code) natives op.Equal us caller c)) operands vs _ typed fit
       (λ a b v w (first, second, has) f g. on-world code c good result (λ x. Tells x (AreEqual x.heap v w)) (does-tell code c good result (AreEqual c.world.heap v w) has))
 
   pub identical : Holds op.Same
-  identical c operands result vs asker good typed fit =
-      two-fit code c (λ us. AllCome code c result (Performs (code_facts fillers code) natives op.Same us asker c)) operands vs _ typed fit
+  identical c operands result vs caller good typed fit =
+      two-fit code c (λ us. AllCome code c result (Performs (code_facts fillers code) natives op.Same us caller c)) operands vs _ typed fit
       (λ a b v w has f g. on-world code c good result (λ x. Tells x (v ≡ w)) (does-tell code c good result (v ≡ w) has))
 
   pub test : (s : SemType) → Holds (op.Test s)
-  test s c operands result vs asker good typed fit =
-      one-fit code c (λ us. AllCome code c result (Performs (code_facts fillers code) natives (op.Test s) us asker c)) operands vs _ typed fit
+  test s c operands result vs caller good typed fit =
+      one-fit code c (λ us. AllCome code c result (Performs (code_facts fillers code) natives (op.Test s) us caller c)) operands vs _ typed fit
       (λ a v has f. on-world code c good result (λ x. Tells x (Belongs (own_types (code_facts fillers code)) x.heap v s)) (does-tell code c good result (Belongs (own_types (code_facts fillers code)) c.world.heap v s) has))
 
   pub cast : (s : SemType) → Holds (op.Cast s)
-  cast s c operands result vs asker good typed fit =
-      one-fit code c (λ us. AllCome code c result (Performs (code_facts fillers code) natives (op.Cast s) us asker c)) operands vs _ typed fit
+  cast s c operands result vs caller good typed fit =
+      one-fit code c (λ us. AllCome code c result (Performs (code_facts fillers code) natives (op.Cast s) us caller c)) operands vs _ typed fit
       (λ a v has f. on-world code c good result (Casts (own_types (code_facts fillers code)) s v)
       (does-unless code c good result (Belongs (own_types (code_facts fillers code)) c.world.heap v s) (panics c.world TypeCastError) (Else (gives c.world v)) (panics-typed code c good result TypeCastError refl)
       (λ belongs. does-else code c good result (gives c.world v)
       (gives-typed code c good result v (λ x. In code.atoms x a × In code.atoms x s) has f.1 (λ x valid stands. (f.2 x valid stands, subst (λ own. Belongs own c.world.heap v s) (own-same fillers code) belongs x valid stands))))))
 
   pub get-char : Holds op.GetChar
-  get-char c operands result vs asker good typed fit =
-      two-fit code c (λ us. AllCome code c result (Performs (code_facts fillers code) natives op.GetChar us asker c)) operands vs _ typed fit
-      (λ a b v w (first, second, has) f g. a-string c.world.heap (λ z. Fits code c z a → AllCome code c result (Performs (code_facts fillers code) natives op.GetChar (z ∷ w ∷ []) asker c)) v (its-text c good v a f first)
-      (λ s fs. an-int c.world.heap (λ z. AllCome code c result (Performs (code_facts fillers code) natives op.GetChar (Str s ∷ z ∷ []) asker c)) w (its-int c good w b g second)
+  get-char c operands result vs caller good typed fit =
+      two-fit code c (λ us. AllCome code c result (Performs (code_facts fillers code) natives op.GetChar us caller c)) operands vs _ typed fit
+      (λ a b v w (first, second, has) f g. a-string c.world.heap (λ z. Fits code c z a → AllCome code c result (Performs (code_facts fillers code) natives op.GetChar (z ∷ w ∷ []) caller c)) v (its-text c good v a f first)
+      (λ s fs. an-int c.world.heap (λ z. AllCome code c result (Performs (code_facts fillers code) natives op.GetChar (Str s ∷ z ∷ []) caller c)) w (its-int c good w b g second)
       (λ i. at-once code c good result (reads_char c.world s i) (char-typed code c good result s i fs.1.1 has))) f)

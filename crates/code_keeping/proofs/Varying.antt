@@ -12,13 +12,13 @@ use Rattle.value_model.specs.declared.panics.PanicName.TheVariants.{NotInitialis
 use Rattle.value_model.specs.declared.value.Value.{Value}
 use Rattle.value_model.specs.Heap.{values_of}
 use Rattle.value_model.specs.Meaning.{Answers}
-use Rattle.run_model.specs.CallRows.{held_after, is_initialiser, ticks}
-use Rattle.run_model.specs.Common.{AllEnded, AnyGiven, Asker, Common, Message, Need, Received, Role}
-use Rattle.run_model.specs.Effects.{Beyond, Effect, Enters, Fails, Gives, Leaves, NoTick, Spawns, Waits, lifted}
-use Rattle.run_model.specs.Limits.{most_frames}
-use Rattle.run_model.specs.Performs.{Performs}
-use Rattle.run_model.specs.Rows.{found, gives, panics}
-use Rattle.run_model.specs.Strands.{end_in, met}
+use Rattle.op_model.specs.CallRows.{held_after, is_initialiser, ticks}
+use Rattle.op_model.specs.Common.{AllEnded, AnyGiven, Caller, Common, Message, Need, Received, Role}
+use Rattle.op_model.specs.Effects.{Beyond, Effect, Enters, Fails, Gives, Leaves, NoTick, Spawns, Waits, lifted}
+use Rattle.op_model.specs.Limits.{most_frames}
+use Rattle.op_model.specs.Performs.{Performs}
+use Rattle.op_model.specs.Rows.{found, gives, panics}
+use Rattle.op_model.specs.Strands.{end_in, met}
 use Rattle.machine_model.specs.Runs.{Phase, Running}
 use Rattle.machine_model.proofs.Once.{some-same}
 use Rattle.stack_code.specs.declared.code.Code.{Code}
@@ -149,13 +149,13 @@ module _ (fillers : ℕ → List Filler) (natives : Answers) (code : Code) (t : 
   Holds o = (c : Common) → RowHolds code fillers natives c (surroundings code u station) o
 
   pub tick : Holds op.Tick
-  tick c operands result vs asker good (none, nothing) fit =
-      none-fit code c (λ us. AllCome code c result (Performs (code_facts fillers code) natives op.Tick us asker c)) operands vs none fit
-      ((λ effect e. subst (λ x. EffectTyped code c result x) (sym e) (tick-typed code c result asker.depth c.ticks good nothing)), (λ never. never (ticks c asker.depth c.ticks) refl))
+  tick c operands result vs caller good (none, nothing) fit =
+      none-fit code c (λ us. AllCome code c result (Performs (code_facts fillers code) natives op.Tick us caller c)) operands vs none fit
+      ((λ effect e. subst (λ x. EffectTyped code c result x) (sym e) (tick-typed code c result caller.depth c.ticks good nothing)), (λ never. never (ticks c caller.depth c.ticks) refl))
 
   pub load-module : (m : ℕ) → Holds (op.LoadModule m)
-  load-module m c operands result vs asker good (none, reads) fit =
-      none-fit code c (λ us. AllCome code c result (Performs (code_facts fillers code) natives (op.LoadModule m) us asker c)) operands vs none fit
+  load-module m c operands result vs caller good (none, reads) fit =
+      none-fit code c (λ us. AllCome code c result (Performs (code_facts fillers code) natives (op.LoadModule m) us caller c)) operands vs none fit
       (let (x, e) = held-there code c c.variables code.variables m _ good.nearly.variables reads in
       subst (λ o. AllCome code c result (λ effect. IsSomeAnd o (λ held. effect ≡ lifted c (found c.world NotInitialised held)))) (sym e)
       ((λ effect is. subst (λ y. EffectTyped code c result y) (sym is) (by x (held-fits code c c.variables code.variables m x good.nearly.variables e))), (λ never. never (lifted c (found c.world NotInitialised x)) refl)))
@@ -168,9 +168,9 @@ module _ (fillers : ℕ → List Filler) (natives : Answers) (code : Code) (t : 
           let fits = held v refl in
           gives-typed code c good result v (λ x. In code.atoms x s) has fits.1 fits.2
 
-  module _ (m : ℕ) (c : Common) (asker : Asker) (result : Option SemType) (good : GoodCommon code c Running) where
+  module _ (m : ℕ) (c : Common) (caller : Caller) (result : Option SemType) (good : GoodCommon code c Running) where
     abbrev new : Value → Option Value → List (Option Value)
-    new v held = slice_set c.variables m (held_after (is_initialiser (code_facts fillers code) asker.unit) held v)
+    new v held = slice_set c.variables m (held_after (is_initialiser (code_facts fillers code) caller.unit) held v)
 
     abbrev after : Value → Option Value → Common
     after v held = record c { variables = new v held }
@@ -179,15 +179,15 @@ module _ (fillers : ℕ → List Filler) (natives : Answers) (code : Code) (t : 
     stored a v nothing f below x =
         let (s, e, within) = some-there (λ s. IsWithin code.atoms (λ x. In code.atoms x s) a) (slice_get code.variables m) below in
         let fits : Fits code c v s = (f.0, f.1, (λ y valid stands. within y (valid, f.2 y valid stands))) in
-        let initialises : Bool = is_initialiser (code_facts fillers code) asker.unit in
+        let initialises : Bool = is_initialiser (code_facts fillers code) caller.unit in
         let held = set-held code c c.variables code.variables m (held_after initialises x v) good.nearly.variables
         (at-some (λ s. HeldFits code c (held_after initialises x v) s) (slice_get code.variables m) s e (after-fits code c initialises x v s fits)) in
         (good-so code c c.ticks (new v x) held good, (refl, refl), changed-later code c c.ticks (new v x), subst (λ r. AllFit code (after v x) [] (option_to_list r)) (sym nothing) tt)
 
   pub store-module : (m : ℕ) → Holds (op.StoreModule m)
-  store-module m c operands result vs asker good (writes, nothing) fit =
-      one-fit code c (λ us. AllCome code c result (Performs (code_facts fillers code) natives (op.StoreModule m) us asker c)) operands vs _ writes fit
+  store-module m c operands result vs caller good (writes, nothing) fit =
+      one-fit code c (λ us. AllCome code c result (Performs (code_facts fillers code) natives (op.StoreModule m) us caller c)) operands vs _ writes fit
       (λ a v below f.
       let (x, e) = held-there code c c.variables code.variables m _ good.nearly.variables below in
-      subst (λ o. AllCome code c result (λ effect. IsSomeAnd o (λ held. effect ≡ Gives [] (after m c asker result good v held)))) (sym e)
-      ((λ effect is. subst (λ y. EffectTyped code c result y) (sym is) (stored m c asker result good a v nothing f below x)), (λ never. never (Gives [] (after m c asker result good v x)) refl)))
+      subst (λ o. AllCome code c result (λ effect. IsSomeAnd o (λ held. effect ≡ Gives [] (after m c caller result good v held)))) (sym e)
+      ((λ effect is. subst (λ y. EffectTyped code c result y) (sym is) (stored m c caller result good a v nothing f below x)), (λ never. never (Gives [] (after m c caller result good v x)) refl)))

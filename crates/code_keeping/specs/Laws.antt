@@ -13,12 +13,12 @@ use Rattle.value_model.specs.declared.value.Value.{Value}
 use Rattle.value_model.specs.Heap.{IsClosed}
 use Rattle.value_model.specs.Meaning.{Answers}
 use Rattle.value_model.specs.Table.{Serves, TestTable, table_of}
-use Rattle.run_model.specs.Common.{Common, Role, End, Returned, Panicked}
-use Rattle.run_model.specs.Facts.{Facts}
-use Rattle.run_model.specs.Local.{Local, acts, takes}
-use Rattle.run_model.specs.Messages.{one_sent, with_received}
-use Rattle.run_model.specs.Performs.{Performs}
-use Rattle.run_model.specs.Strands.{channel_at, settled, with_channel, worker_end}
+use Rattle.op_model.specs.Common.{Common, Role, End, Returned, Panicked}
+use Rattle.op_model.specs.ProgramFacts.{ProgramFacts}
+use Rattle.op_model.specs.Local.{Local, acts, takes}
+use Rattle.op_model.specs.Messages.{one_sent, with_received}
+use Rattle.op_model.specs.Performs.{Performs}
+use Rattle.op_model.specs.Strands.{channel_at, settled, with_channel, worker_end}
 use Rattle.machine_model.specs.Following.{EndsFrame}
 use Rattle.machine_model.specs.Keeping.{AreApart, AskFits, Caught, IsKept}
 use Rattle.machine_model.specs.Machine.{Ask, Does, Frame, On, State, Stuck, goes_to}
@@ -109,7 +109,7 @@ StrictOperationsKeep natives =
 -- ---- that something comes
 
 -- it can't be that nothing comes of what is asked for
-abbrev pub AskComes : Answers → Facts → Common → ℕ → Frame Standing → Ask Standing → Type 0
+abbrev pub AskComes : Answers → ProgramFacts → Common → ℕ → Frame Standing → Ask Standing → Type 0
 AskComes natives facts c depth f (On next) = ⊤
 AskComes natives facts c depth f (Does o vs k) = Comes (Performs facts natives o vs (record { unit = f.unit; role = f.role; depth = depth }) c)
 AskComes natives facts c depth f Stuck = ⊥

@@ -8,9 +8,9 @@ use Rattle.operations.specs.Uses.{atoms_made, units_valued, use_of}
 use Rattle.value_model.specs.declared.filler.Filler.{Filler}
 use Rattle.value_model.specs.declared.value.Value.{Value}
 use Rattle.value_model.specs.Meaning.{Answers}
-use Rattle.run_model.specs.Common.{Common, Role, Asker}
-use Rattle.run_model.specs.Effects.{Effect, Gives, Fails, Waits, Enters, Leaves, Spawns, NoTick, Beyond}
-use Rattle.run_model.specs.Performs.{Performs}
+use Rattle.op_model.specs.Common.{Common, Role, Caller}
+use Rattle.op_model.specs.Effects.{Effect, Gives, Fails, Waits, Enters, Leaves, Spawns, NoTick, Beyond}
+use Rattle.op_model.specs.Performs.{Performs}
 use Rattle.machine_model.specs.Keeping.{KeepsStrands}
 use Rattle.machine_model.specs.Runs.{Running}
 use Rattle.stack_code.specs.declared.code.Code.{Code}
@@ -48,13 +48,13 @@ module _ (code : Code) where
   -- from operands in the row's types it comes to what is typed
   abbrev pub RowKeeps : (ℕ → List Filler) → Answers → Common → Surroundings → Operation → Type 0
   RowKeeps fillers natives c place o =
-      (operands : List SemType) (result : Option SemType) (vs : List Value) (asker : Asker) (effect : Effect) →
+      (operands : List SemType) (result : Option SemType) (vs : List Value) (caller : Caller) (effect : Effect) →
       GoodCommon code c Running → OpTyped code.atoms place o operands result → AllFit code c vs operands →
-      Performs (code_facts fillers code) natives o vs asker c effect → EffectTyped c result effect
+      Performs (code_facts fillers code) natives o vs caller c effect → EffectTyped c result effect
 
   -- from such operands it comes to something
   abbrev pub RowComes : (ℕ → List Filler) → Answers → Common → Surroundings → Operation → Type 0
   RowComes fillers natives c place o =
-      (operands : List SemType) (result : Option SemType) (vs : List Value) (asker : Asker) →
+      (operands : List SemType) (result : Option SemType) (vs : List Value) (caller : Caller) →
       GoodCommon code c Running → OpTyped code.atoms place o operands result → AllFit code c vs operands →
-      Comes (Performs (code_facts fillers code) natives o vs asker c)
+      Comes (Performs (code_facts fillers code) natives o vs caller c)

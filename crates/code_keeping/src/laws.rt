@@ -1,7 +1,7 @@
 //! Laws of steps. These calls do nothing: their clauses are laws.
 ghost use Rattle.code_keeping.specs.Laws.{AwaitedComes, CallsKeep, EndsKeep, FlushesKeep, GoesOnByItself, GoodHeapsAreServed, MessagesKeep, NeverStuck, NoTrappedReceive, NoTrappedSend, NumbersAndTextsAreDone, OperandsAreOfKinds, PanicsAreDone, ReachedAreGood, ReturnsKeep, SendsKeep, SettlingKeeps, StartsWell, StrandsOfCodeHold, StrictOperationsCome, StrictOperationsKeep, TestsAreDone, VariablesAreDone};
 
-use run_model::Meaning;
+use op_model::Meaning;
 
 /// The state in which a run of well-typed code begins is good.
 pub fn runs_start_well()

@@ -9,11 +9,11 @@ use Rattle.operations.specs.declared.operation.Operation.TheVariants as op
 use Rattle.operations.specs.Uses.{units_called, use_of}
 use Rattle.value_model.specs.declared.filler.Filler.{Filler}
 use Rattle.value_model.specs.declared.value.Value.{Value}
-use Rattle.run_model.specs.Common.{IsActive, Strand}
+use Rattle.op_model.specs.Common.{IsActive, Strand}
 use Rattle.value_model.specs.Meaning.{Answers}
-use Rattle.run_model.specs.Strands.{end_in}
+use Rattle.op_model.specs.Strands.{end_in}
 use Rattle.machine_model.specs.Keeping.{AskFits, FramesFit}
-use Rattle.machine_model.specs.Machine.{Ask, Does, Frame, Moved, On, State, Stuck, Takes, TakesTop, asker, captured_slots, goes_to, put}
+use Rattle.machine_model.specs.Machine.{Ask, Does, Frame, Moved, On, State, Stuck, Takes, TakesTop, caller, captured_slots, goes_to, put}
 use Rattle.machine_model.specs.Runs.{AreWords, IsReached, Phase, Picking, Running}
 use Rattle.machine_model.specs.Strands.{StrandsHold, frames_of}
 use Rattle.stack_code.specs.declared.code.Code.{Code}
@@ -84,7 +84,7 @@ module _ (natives : Answers) (fillers : ℕ → List Filler) (code : Code) (t : 
     steps (On k) looks fit comes = λ never. never (Moved (put s s.common (goes_to f k ∷ fs))) refl
     steps (Does o vs k) looks fit comes = λ never.
         comes (λ effect does.
-        let (next, e) = is-carried fillers natives code s f k fs (length (f ∷ fs)) effect (has-units code t fillers natives vs (asker f fs) s.common effect o (called o vs k looks) does) (fit effect does) in
+        let (next, e) = is-carried fillers natives code s f k fs (length (f ∷ fs)) effect (has-units code t fillers natives vs (caller f fs) s.common effect o (called o vs k looks) does) (fit effect does) in
         never next (effect, does, e))
     steps Stuck looks fit comes = absurd comes
 

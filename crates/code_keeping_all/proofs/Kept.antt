@@ -6,9 +6,9 @@ use Rattle.operations.specs.declared.operation.Operation.TheVariants as op
 use Rattle.operations.specs.Structures.{AwaitsAny}
 use Rattle.value_model.specs.declared.filler.Filler.{Filler}
 use Rattle.value_model.specs.Meaning.{Answers}
-use Rattle.run_model.specs.Common.{Common, End, Panicked, Returned, Strand}
-use Rattle.run_model.specs.Effects.{Beyond, Effect, Enters, Fails, Gives, Leaves, NoTick, Spawned, Spawns, Waits}
-use Rattle.run_model.specs.Strands.{end_in}
+use Rattle.op_model.specs.Common.{Common, End, Panicked, Returned, Strand}
+use Rattle.op_model.specs.Effects.{Beyond, Effect, Enters, Fails, Gives, Leaves, NoTick, Spawned, Spawns, Waits}
+use Rattle.op_model.specs.Strands.{end_in}
 use Rattle.machine_model.specs.Keeping.{AllBegin, AskFits, BelowFit, EffectFits, EndFits, FramesFit, Invariant, IsIdle, IsKept, OthersFit, RunningFits, StateFits}
 use Rattle.machine_model.specs.Machine.{Ask, Does, Frame, On, State, Stuck, captured_slots}
 use Rattle.machine_model.specs.Runs.{AreWords, IsReached, Phase, Picking, Running}

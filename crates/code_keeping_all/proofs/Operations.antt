@@ -5,9 +5,9 @@ use Rattle.operations.specs.declared.operation.Operation.{Operation}
 use Rattle.operations.specs.declared.operation.Operation.TheVariants as op
 use Rattle.value_model.specs.declared.filler.Filler.{Filler}
 use Rattle.value_model.specs.Meaning.{Answers}
-use Rattle.run_model.specs.Common.{Common}
-use Rattle.run_model.specs.Effects.{Enters, Leaves}
-use Rattle.run_model.specs.Performs.{Performs}
+use Rattle.op_model.specs.Common.{Common}
+use Rattle.op_model.specs.Effects.{Enters, Leaves}
+use Rattle.op_model.specs.Performs.{Performs}
 use Rattle.machine_model.specs.Keeping.{AskFits}
 use Rattle.machine_model.specs.Machine.{Ask, Frame}
 use Rattle.machine_model.specs.Runs.{Running}
@@ -46,13 +46,13 @@ module _ (natives : Answers) (fillers : ℕ → List Filler) (code : Code) (t : 
   call-comes : (unit count : ℕ) → AskedComes fillers natives code c (op.Call unit count)
   call-comes unit count =
       strict-operations-come natives fillers code c (op.Call unit count) t (takes-all count (op.Call unit count) (λ captured l. refl) (λ code place os r h. h.0))
-      (λ u station names operands result vs asker good typed fit never. never (Enters unit vs c) refl)
+      (λ u station names operands result vs caller good typed fit never. never (Enters unit vs c) refl)
 
   return-comes : AskedComes fillers natives code c op.Return
   return-comes =
       strict-operations-come natives fillers code c op.Return t (takes-all 1 op.Return (λ captured l. refl) (λ code place os r h. one-long os _ h.0))
-      (λ u station names operands result vs asker good typed fit.
-      one-fit code c (λ us. Comes (Performs (code_facts fillers code) natives op.Return us asker c)) operands vs _ typed.0 fit (λ a v below f never. never (Leaves v) refl))
+      (λ u station names operands result vs caller good typed fit.
+      one-fit code c (λ us. Comes (Performs (code_facts fillers code) natives op.Return us caller c)) operands vs _ typed.0 fit (λ a v below f never. never (Leaves v) refl))
 
   module _ (knows : FillersAreKnown fillers code) (library : LibraryIsDone fillers natives code) (depth : ℕ) (good : GoodCommon code c Running) (f : Frame Standing) (fits : TopFits code c f) where
     abbrev p : ℕ

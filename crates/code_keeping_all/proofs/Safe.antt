@@ -1,7 +1,7 @@
 -- Each call of the library is done, so well-typed code is safe.
 use Rattle.operations.specs.declared.library.LibraryCall.{LibraryCall}
 use Rattle.operations.specs.declared.library.LibraryCall.TheVariants.{Println, Print, Readln, FromString, Abs, ToString, Clone, CloneReadOnly, StringLength, StartsWith, Trim, Substring, ToUpperAscii, ToLowerAscii, ToCodePointInts, ListLength, Push, Pop, RemoveItem, Slice, Reverse, MappingLength, Keys, HasKey, Get, RemoveKey, Message, Cause, Detail}
-use Rattle.run_model.specs.Library.{LibraryAnswers}
+use Rattle.op_model.specs.Library.{LibraryAnswers}
 use Rattle.code_keeping_all.specs.Laws.{LibraryCallsAreDone, WellTypedCodeBegins, WellTypedCodeIsSafe}
 use Rattle.code_keeping_changes.proofs.Pushing.{pushes-are-done}
 use Rattle.code_keeping_changes.proofs.Removing.{removals-are-done}

@@ -14,17 +14,17 @@ use Rattle.value_model.specs.declared.value.Value.TheVariants.{Future, Nil}
 use Rattle.value_model.specs.Heap.{cells}
 use Rattle.value_model.specs.Meaning.{Answers}
 use Rattle.value_model.specs.World.{Came, Gave, PassesCells, Threw}
-use Rattle.run_model.specs.CallRows.{arguments, checked, starts, starts_workers, ticks, with_arguments, workers_from}
-use Rattle.run_model.specs.Common.{AllEnded, AnyGiven, Asker, Common, End, Panicked, Returned, Role}
-use Rattle.run_model.specs.Copies.{copy_of, with_copies}
-use Rattle.run_model.specs.Effects.{Beyond, Effect, Enters, Fails, Gives, Leaves, NoTick, Spawned, Spawns, Waits, lifted, with_world}
-use Rattle.run_model.specs.Facts.{UnitFacts, WorkerFacts}
-use Rattle.run_model.specs.Limits.{most_cells, most_frames, most_strands}
-use Rattle.run_model.specs.Messages.{flushes, flushes_end, one_sent, receives_end, receives_from, sends}
-use Rattle.run_model.specs.Performs.{Performs}
-use Rattle.run_model.specs.Rows.{panics}
-use Rattle.run_model.specs.Strands.{channel_at, end_of, met, settled, strand_made, with_channel, worker_end}
-use Rattle.run_model.specs.Waits.{Collected, FirstPanic, Results, Target, collects, ends_with, field_names, future_target, gives_chosen, gives_results, is_taken, strands_in, targets, took, waits, waits_all, waits_any, waits_for, worker_target}
+use Rattle.op_model.specs.CallRows.{arguments, checked, starts, starts_workers, ticks, with_arguments, workers_from}
+use Rattle.op_model.specs.Common.{AllEnded, AnyGiven, Caller, Common, End, Panicked, Returned, Role}
+use Rattle.op_model.specs.Copies.{copy_of, with_copies}
+use Rattle.op_model.specs.Effects.{Beyond, Effect, Enters, Fails, Gives, Leaves, NoTick, Spawned, Spawns, Waits, lifted, with_world}
+use Rattle.op_model.specs.ProgramFacts.{UnitFacts, WorkerFacts}
+use Rattle.op_model.specs.Limits.{most_cells, most_frames, most_strands}
+use Rattle.op_model.specs.Messages.{flushes, flushes_end, one_sent, receives_end, receives_from, sends}
+use Rattle.op_model.specs.Performs.{Performs}
+use Rattle.op_model.specs.Rows.{panics}
+use Rattle.op_model.specs.Strands.{channel_at, end_of, met, settled, strand_made, with_channel, worker_end}
+use Rattle.op_model.specs.Waits.{Collected, FirstPanic, Results, Target, collects, ends_with, field_names, future_target, gives_chosen, gives_results, is_taken, strands_in, targets, took, waits, waits_all, waits_any, waits_for, worker_target}
 use Rattle.machine_model.proofs.Shapes.{in-boolean, in-error, in-function, in-future, in-if, in-int, in-more, in-none, in-one, in-some, in-string, in-structure, in-three, in-two}
 use Rattle.stack_code.specs.declared.code.Code.{Code}
 use Rattle.stack_code.specs.declared.code.Spawn.{Spawn}
@@ -153,7 +153,7 @@ module _ (code : Code) where
 
 -- ---- all operations
 
-module _ (code : Code) (t : WellTyped code) (fillers : ℕ → List Filler) (natives : Answers) (vs : List Value) (asker : Asker) (c : Common) (effect : Effect) where
+module _ (code : Code) (t : WellTyped code) (fillers : ℕ → List Filler) (natives : Answers) (vs : List Value) (caller : Caller) (c : Common) (effect : Effect) where
   abbrev Has : Type 0
   Has = HasUnits code effect
 
@@ -166,14 +166,14 @@ module _ (code : Code) (t : WellTyped code) (fillers : ℕ → List Filler) (nat
   world : {P : Came → Type 0} → (came : Came) × P came × (effect ≡ lifted c came) → Has
   world (came, p, e) = only came e
 
-  pub has-units : (op : Operation) → All (IsUnit code) (units_called (use_of op)) → Performs (code_facts fillers code) natives op vs asker c effect → Has
+  pub has-units : (op : Operation) → All (IsUnit code) (units_called (use_of op)) → Performs (code_facts fillers code) natives op vs caller c effect → Has
   has-units (Const k) called h = absurd h
   has-units (Load slot) called h = in-none vs h (λ none e. only _ e)
   has-units (Store slot) called h = absurd h
   has-units Pop called h = absurd h
   has-units (LoadModule m) called h = in-none vs h (λ none k. in-some (slice_get c.variables m) k (λ held is e. only _ e))
   has-units (StoreModule m) called h = in-one vs h (λ v is k. in-some (slice_get c.variables m) k (λ held there e. so _ e tt))
-  has-units Tick called h = in-none vs h (λ none e. so _ e (ticks-units code c asker.depth c.ticks))
+  has-units Tick called h = in-none vs h (λ none e. so _ e (ticks-units code c caller.depth c.ticks))
   has-units Add called h = in-two vs h (λ a b k. in-int a k (λ x k. in-int b k (λ y k. world k)))
   has-units Subtract called h = in-two vs h (λ a b k. in-int a k (λ x k. in-int b k (λ y k. world k)))
   has-units Multiply called h = in-two vs h (λ a b k. in-int a k (λ x k. in-int b k (λ y k. world k)))
@@ -206,18 +206,18 @@ module _ (code : Code) (t : WellTyped code) (fillers : ℕ → List Filler) (nat
   has-units (Library call atom count) called h = world h
   has-units Return called h = in-one vs h (λ v is e. so _ e tt)
   has-units Panic called h = in-one vs h (λ v is k. in-error v k (λ n e. so _ e tt))
-  has-units (Start unit count) called e = so _ e (starts-units code c asker.role unit vs (All-head (IsUnit code) unit [] called))
+  has-units (Start unit count) called e = so _ e (starts-units code c caller.role unit vs (All-head (IsUnit code) unit [] called))
   has-units (StartValue count) called h =
       in-more vs h (λ f args k. in-function f k (λ n k. in-some (slice_get c.world.heap.functions n) k (λ o there k. in-some (slice_get (code_facts fillers code).units o.unit) k (λ u is e.
       let d = with_arguments c u args in
-      so _ e (checked-units code d (starts d asker.role o.unit (arguments c o u args)) (starts-units code d asker.role o.unit (arguments c o u args) (unit-of code fillers o.unit u is)))))))
-  has-units Workers called h = in-some (slice_get (code_facts fillers code).units asker.unit) h (λ u is e. so _ e (crew-units code t fillers c asker.unit u vs is))
-  has-units (Send w) called h = in-one vs h (λ v is k. in-some asker.role k (λ r role e. so _ e (sends-units code c r w v (Nil ∷ []))))
-  has-units (Post w) called h = in-one vs h (λ v is k. in-some asker.role k (λ r role e. so _ e (sends-units code c r w v [])))
-  has-units (Done w) called h = in-none vs h (λ none k. in-some asker.role k (λ r role e. so _ e (flushes-units code c r w)))
-  has-units (Receive w) called h = in-none vs h (λ none k. in-some asker.role k (λ r role e. so _ e (receives-from code c r w (channel_at c r.activation w r.worker).queue)))
-  has-units (Flush w) called h = in-none vs h (λ none k. in-some asker.role k (λ r role e. so _ e (flushes-units code c r w)))
-  has-units (WaitWorker w) called h = in-none vs h (λ none k. in-some asker.role k (λ r role k. in-some (worker_target c r w) k (λ t is e. so _ e (waits-units code c t))))
+      so _ e (checked-units code d (starts d caller.role o.unit (arguments c o u args)) (starts-units code d caller.role o.unit (arguments c o u args) (unit-of code fillers o.unit u is)))))))
+  has-units Workers called h = in-some (slice_get (code_facts fillers code).units caller.unit) h (λ u is e. so _ e (crew-units code t fillers c caller.unit u vs is))
+  has-units (Send w) called h = in-one vs h (λ v is k. in-some caller.role k (λ r role e. so _ e (sends-units code c r w v (Nil ∷ []))))
+  has-units (Post w) called h = in-one vs h (λ v is k. in-some caller.role k (λ r role e. so _ e (sends-units code c r w v [])))
+  has-units (Done w) called h = in-none vs h (λ none k. in-some caller.role k (λ r role e. so _ e (flushes-units code c r w)))
+  has-units (Receive w) called h = in-none vs h (λ none k. in-some caller.role k (λ r role e. so _ e (receives-from code c r w (channel_at c r.activation w r.worker).queue)))
+  has-units (Flush w) called h = in-none vs h (λ none k. in-some caller.role k (λ r role e. so _ e (flushes-units code c r w)))
+  has-units (WaitWorker w) called h = in-none vs h (λ none k. in-some caller.role k (λ r role k. in-some (worker_target c r w) k (λ t is e. so _ e (waits-units code c t))))
   has-units WaitFuture called h = in-one vs h (λ f is k. in-future f k (λ n unit same e. so _ e (waits-units code c (future_target n))))
-  has-units (WaitAny names) called h = in-some (targets c asker.role names vs) h (λ ts is e. so _ e (any-units code c ts))
-  has-units (WaitAll atom names) called h = in-some (slice_get (code_facts fillers code).atoms atom) h (λ d there k. in-some (targets c asker.role names vs) k (λ ts is e. so _ e (all-units code c atom (field_names d) ts)))
+  has-units (WaitAny names) called h = in-some (targets c caller.role names vs) h (λ ts is e. so _ e (any-units code c ts))
+  has-units (WaitAll atom names) called h = in-some (slice_get (code_facts fillers code).atoms atom) h (λ d there k. in-some (targets c caller.role names vs) k (λ ts is e. so _ e (all-units code c atom (field_names d) ts)))

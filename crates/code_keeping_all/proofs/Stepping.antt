@@ -5,9 +5,9 @@ use Rattle.std.specs.Prelude.{◌==◌, ◌&&◌, All, if◌then◌else◌, opti
 use Rattle.bal_base.specs.declared.text.Text.{Text}
 use Rattle.value_model.specs.declared.filler.Filler.{Filler}
 use Rattle.value_model.specs.declared.value.Value.{Value}
-use Rattle.run_model.specs.Common.{Common, End, Panicked, Returned, Role}
-use Rattle.run_model.specs.Effects.{Beyond, Effect, Enters, Fails, Gives, Leaves, NoTick, Spawned, Spawns, Waits}
-use Rattle.run_model.specs.Strands.{is_success, settled, worker_ended, workers_ended}
+use Rattle.op_model.specs.Common.{Common, End, Panicked, Returned, Role}
+use Rattle.op_model.specs.Effects.{Beyond, Effect, Enters, Fails, Gives, Leaves, NoTick, Spawned, Spawns, Waits}
+use Rattle.op_model.specs.Strands.{is_success, settled, worker_ended, workers_ended}
 use Rattle.value_model.specs.Meaning.{Answers}
 use Rattle.machine_model.specs.Keeping.{EffectFits}
 use Rattle.machine_model.specs.Machine.{Frame, Machine, Moved, Next, State, all_begun, begun, carried, given, goes_on, goes_to, left_with, next_units, put, roles_left, unwound, with_begun}

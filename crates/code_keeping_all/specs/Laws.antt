@@ -6,9 +6,9 @@ use Rattle.operations.specs.declared.operation.Operation.TheVariants as op
 use Rattle.value_model.specs.declared.filler.Filler.{Filler}
 use Rattle.value_model.specs.Heap.{IsClosed}
 use Rattle.value_model.specs.Meaning.{Answers}
-use Rattle.run_model.specs.Common.{Common}
-use Rattle.run_model.specs.Facts.{KnowsFillers}
-use Rattle.run_model.specs.Library.{LibraryAnswers}
+use Rattle.op_model.specs.Common.{Common}
+use Rattle.op_model.specs.ProgramFacts.{KnowsFillers}
+use Rattle.op_model.specs.Library.{LibraryAnswers}
 use Rattle.machine_model.specs.Keeping.{Invariant, IsKept}
 use Rattle.machine_model.specs.Machine.{Frame, State, Step}
 use Rattle.machine_model.specs.Runs.{AreWords, IsReached, Phase, Running, start}

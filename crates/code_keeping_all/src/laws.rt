@@ -1,7 +1,7 @@
 //! Laws of each step of well-typed code. These calls do nothing: their clauses are laws.
 ghost use Rattle.code_keeping_all.specs.Laws.{CallsAreNotThere, CodeGoesOn, CodeIsKept, LibraryCallsAreDone, ReachedCodeIsGood, WellTypedCodeBegins, WellTypedCodeIsSafe};
 
-use run_model::Meaning;
+use op_model::Meaning;
 
 /// Where calls of the library are done, each step of well-typed code keeps what is good, each state that it reaches is good and has the
 /// strands of a machine, and a frame that runs is never stuck. Nothing is asked of code that has no such calls. The fillers are those that

@@ -27,7 +27,7 @@ use Rattle.value_model.specs.declared.value.Value.{Value}
 use Rattle.value_model.specs.declared.value.Value.TheVariants.{Function}
 use Rattle.value_model.specs.Heap.{FunctionObject, Heap}
 use Rattle.value_model.specs.Stands.{Stands}
-use Rattle.run_model.specs.Common.{Common}
+use Rattle.op_model.specs.Common.{Common}
 use Rattle.machine_model.proofs.Once.{some-same}
 use Rattle.stack_code.specs.declared.code.Code.{Code}
 use Rattle.stack_code.specs.declared.code.Unit.{Unit as CodeUnit}

@@ -20,14 +20,14 @@ use Rattle.value_model.specs.declared.value.Value.{Value}
 use Rattle.value_model.specs.declared.value.Value.TheVariants.{Function, Future}
 use Rattle.value_model.specs.Heap.{FunctionObject, cells}
 use Rattle.value_model.specs.Meaning.{Answers}
-use Rattle.run_model.specs.CallRows.{checked, passed, starts, with_rest}
-use Rattle.run_model.specs.Common.{Common, Role, Strand}
-use Rattle.run_model.specs.Effects.{Beyond, Effect, Enters, Spawns, with_world}
-use Rattle.run_model.specs.Facts.{UnitFacts}
-use Rattle.run_model.specs.Limits.{most_cells, most_strands}
-use Rattle.run_model.specs.Local.{Later, Local, acts, takes, with_stack}
-use Rattle.run_model.specs.Performs.{Performs}
-use Rattle.run_model.specs.Strands.{strand_made}
+use Rattle.op_model.specs.CallRows.{checked, passed, starts, with_rest}
+use Rattle.op_model.specs.Common.{Common, Role, Strand}
+use Rattle.op_model.specs.Effects.{Beyond, Effect, Enters, Spawns, with_world}
+use Rattle.op_model.specs.ProgramFacts.{UnitFacts}
+use Rattle.op_model.specs.Limits.{most_cells, most_strands}
+use Rattle.op_model.specs.Local.{Later, Local, acts, takes, with_stack}
+use Rattle.op_model.specs.Performs.{Performs}
+use Rattle.op_model.specs.Strands.{strand_made}
 use Rattle.machine_model.specs.Keeping.{AskFits, EffectFits}
 use Rattle.machine_model.specs.Machine.{Ask, Frame, asks, captured_slots, goes_to}
 use Rattle.machine_model.specs.Runs.{Running}

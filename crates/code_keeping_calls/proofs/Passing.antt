@@ -21,12 +21,12 @@ use Rattle.value_model.specs.declared.value.Value.TheVariants.{Function, Struct}
 use Rattle.value_model.specs.Heap.{FunctionObject, cells}
 use Rattle.value_model.specs.Stands.{Stands}
 use Rattle.value_model.specs.World.{Gave, PassesCells}
-use Rattle.run_model.specs.CallRows.{passed, with_rest}
-use Rattle.run_model.specs.Common.{Common, Role}
-use Rattle.run_model.specs.Effects.{lifted, with_world}
-use Rattle.run_model.specs.Limits.{most_cells}
-use Rattle.run_model.specs.Rows.{next_structure}
-use Rattle.run_model.specs.StructureRows.{makes_list}
+use Rattle.op_model.specs.CallRows.{passed, with_rest}
+use Rattle.op_model.specs.Common.{Common, Role}
+use Rattle.op_model.specs.Effects.{lifted, with_world}
+use Rattle.op_model.specs.Limits.{most_cells}
+use Rattle.op_model.specs.Rows.{next_structure}
+use Rattle.op_model.specs.StructureRows.{makes_list}
 use Rattle.machine_model.specs.Keeping.{KeepsStrands}
 use Rattle.machine_model.specs.Runs.{Running}
 use Rattle.machine_model.proofs.Once.{some-same}

@@ -12,11 +12,11 @@ use Rattle.value_model.specs.declared.value.Value.{Value}
 use Rattle.value_model.specs.declared.value.Value.TheVariants.{Nil, Struct}
 use Rattle.value_model.specs.Heap.{AreAlike, Entries, Items, Members, Stays, Structure}
 use Rattle.value_model.specs.World.{Came, Gave, PassesCells, Threw, World}
-use Rattle.run_model.specs.Common.{Common, Role}
-use Rattle.run_model.specs.Effects.{lifted, with_world}
-use Rattle.run_model.specs.Library.{Pushes, Then}
-use Rattle.run_model.specs.Rows.{ListAt, gives}
-use Rattle.run_model.specs.Stores.{StoresAt}
+use Rattle.op_model.specs.Common.{Common, Role}
+use Rattle.op_model.specs.Effects.{lifted, with_world}
+use Rattle.op_model.specs.Library.{Pushes, Then}
+use Rattle.op_model.specs.Rows.{ListAt, gives}
+use Rattle.op_model.specs.Stores.{StoresAt}
 use Rattle.machine_model.specs.Runs.{Running}
 use Rattle.stack_code.specs.declared.code.Code.{Code}
 use Rattle.stack_code.specs.Good.{GoodCommon, IsLater}
@@ -103,11 +103,11 @@ module _ (code : Code) (t : WellTyped code) (result : Option SemType) (has : Res
 -- ---- the row
 
 pub push : (fillers : ℕ → List Filler) (code : Code) (t : WellTyped code) (place : Surroundings) (c : Common) → Row fillers code t place c Push
-push fillers code t place c atom count names operands result vs asker good (long, typed) fit =
-    more-fit code c (Answered fillers code t place c Push atom count asker result) operands vs _ typed fit
+push fillers code t place c atom count names operands result vs caller good (long, typed) fit =
+    more-fit code c (Answered fillers code t place c Push atom count caller result) operands vs _ typed fit
     (λ a more v ws (within, each, (none, has)) f fits.
-    a-list c.world.heap (λ z. Answered fillers code t place c Push atom count asker result (z ∷ ws)) v (of-kind code t c good.nearly.heap (λ k. k ≡ Lists) v a f (λ x h. lists x (within x h)))
-    (λ n s items e is. does-call-at fillers code t place c good result Push atom count asker (Struct n ∷ ws)
+    a-list c.world.heap (λ z. Answered fillers code t place c Push atom count caller result (z ∷ ws)) v (of-kind code t c good.nearly.heap (λ k. k ≡ Lists) v a f (λ x h. lists x (within x h)))
+    (λ n s items e is. does-call-at fillers code t place c good result Push atom count caller (Struct n ∷ ws)
     (subst (λ own. Does code c good result (λ came. Pushes own n ws c.world came)) (sym (own-same fillers code))
     (pushes code t result has n ws c good (s, items, e, is) (all-zipped (Fits code c) (IsMade code c) (λ v t h. h.1) ws more fits)))))
 

@@ -18,10 +18,10 @@ use Rattle.value_model.specs.declared.value.Value.TheVariants.{Int, Str, Struct}
 use Rattle.value_model.specs.Heap.{AreAlike, Entries, IsThere, Items, Members, Structure, entry_at, values_of}
 use Rattle.value_model.specs.Stands.{MembersBelong}
 use Rattle.value_model.specs.Valid.{AreValidMembers, IsValidValue}
-use Rattle.run_model.specs.Common.{Common}
-use Rattle.run_model.specs.Library.{RemovesAt, RemovesKey, last_place}
-use Rattle.run_model.specs.Rows.{ListAt, MappingAt, found, gives, panics, place_of, size_of}
-use Rattle.run_model.specs.Stores.{StillFits, atom_of, remove_entry, stored}
+use Rattle.op_model.specs.Common.{Common}
+use Rattle.op_model.specs.Library.{RemovesAt, RemovesKey, last_place}
+use Rattle.op_model.specs.Rows.{ListAt, MappingAt, found, gives, panics, place_of, size_of}
+use Rattle.op_model.specs.Stores.{StillFits, atom_of, remove_entry, stored}
 use Rattle.machine_model.specs.Runs.{Running}
 use Rattle.stack_code.specs.declared.code.Code.{Code}
 use Rattle.stack_code.specs.Good.{GoodCommon}
@@ -162,33 +162,33 @@ module _ (code : Code) (t : WellTyped code) (c : Common) (good : GoodCommon code
 
 module _ (fillers : ℕ → List Filler) (code : Code) (t : WellTyped code) (place : Surroundings) (c : Common) where
   pub pop : Row fillers code t place c Pop
-  pop atom count names operands result vs asker good (long, typed) fit =
-      one-fit code c (Answered fillers code t place c Pop atom count asker result) operands vs _ typed fit
+  pop atom count names operands result vs caller good (long, typed) fit =
+      one-fit code c (Answered fillers code t place c Pop atom count caller result) operands vs _ typed fit
       (λ a v (within, (none, has)) f.
-      a-list c.world.heap (λ z. Fits code c z a → Answered fillers code t place c Pop atom count asker result (z ∷ [])) v (of-kind code t c good.nearly.heap (λ k. k ≡ Lists) v a f (λ x h. lists x (within x h)))
-      (λ n s items e is fn. does-call-at fillers code t place c good result Pop atom count asker (Struct n ∷ [])
+      a-list c.world.heap (λ z. Fits code c z a → Answered fillers code t place c Pop atom count caller result (z ∷ [])) v (of-kind code t c good.nearly.heap (λ k. k ≡ Lists) v a f (λ x h. lists x (within x h)))
+      (λ n s items e is fn. does-call-at fillers code t place c good result Pop atom count caller (Struct n ∷ [])
       (subst (λ own. Does code c good result (λ came. ListAt c.world n (λ s vs. RemovesAt own c.world n s vs (last_place vs) came))) (sym (own-same fillers code))
       (at-list code t c good result n s items e is (λ s vs came. RemovesAt (code_types code) c.world n s vs (last_place vs) came) (does-remove code t c good result n s e a fn items is (last_place items) has)))) f)
 
   pub remove-item : Row fillers code t place c RemoveItem
-  remove-item atom count names operands result vs asker good (long, typed) fit =
-      two-fit code c (Answered fillers code t place c RemoveItem atom count asker result) operands vs _ typed fit
+  remove-item atom count names operands result vs caller good (long, typed) fit =
+      two-fit code c (Answered fillers code t place c RemoveItem atom count caller result) operands vs _ typed fit
       (λ a b v w (first, second, (none, has)) f g.
-      a-list c.world.heap (λ z. Fits code c z a → Answered fillers code t place c RemoveItem atom count asker result (z ∷ w ∷ [])) v (of-kind code t c good.nearly.heap (λ k. k ≡ Lists) v a f (λ x h. lists x (first x h)))
+      a-list c.world.heap (λ z. Fits code c z a → Answered fillers code t place c RemoveItem atom count caller result (z ∷ w ∷ [])) v (of-kind code t c good.nearly.heap (λ k. k ≡ Lists) v a f (λ x h. lists x (first x h)))
       (λ n s items e is fn.
-      an-int c.world.heap (λ z. Answered fillers code t place c RemoveItem atom count asker result (Struct n ∷ z ∷ [])) w (of-kind code t c good.nearly.heap (λ k. k ≡ Ints) w b g (λ x h. integers x (second x h)))
-      (λ i. does-call-at fillers code t place c good result RemoveItem atom count asker (Struct n ∷ Int i ∷ [])
+      an-int c.world.heap (λ z. Answered fillers code t place c RemoveItem atom count caller result (Struct n ∷ z ∷ [])) w (of-kind code t c good.nearly.heap (λ k. k ≡ Ints) w b g (λ x h. integers x (second x h)))
+      (λ i. does-call-at fillers code t place c good result RemoveItem atom count caller (Struct n ∷ Int i ∷ [])
       (subst (λ own. Does code c good result (λ came. ListAt c.world n (λ s vs. RemovesAt own c.world n s vs (place_of i) came))) (sym (own-same fillers code))
       (at-list code t c good result n s items e is (λ s vs came. RemovesAt (code_types code) c.world n s vs (place_of i) came) (does-remove code t c good result n s e a fn items is (place_of i) has))))) f)
 
   pub remove-key : Row fillers code t place c RemoveKey
-  remove-key atom count names operands result vs asker good (long, typed) fit =
-      two-fit code c (Answered fillers code t place c RemoveKey atom count asker result) operands vs _ typed fit
+  remove-key atom count names operands result vs caller good (long, typed) fit =
+      two-fit code c (Answered fillers code t place c RemoveKey atom count caller result) operands vs _ typed fit
       (λ a b v w (first, second, (none, has)) f g.
-      a-mapping c.world.heap (λ z. Fits code c z a → Answered fillers code t place c RemoveKey atom count asker result (z ∷ w ∷ [])) v (of-kind code t c good.nearly.heap (λ k. k ≡ Mappings) v a f (λ x h. mappings x (first x h)))
+      a-mapping c.world.heap (λ z. Fits code c z a → Answered fillers code t place c RemoveKey atom count caller result (z ∷ w ∷ [])) v (of-kind code t c good.nearly.heap (λ k. k ≡ Mappings) v a f (λ x h. mappings x (first x h)))
       (λ n s es e is fn.
-      a-string c.world.heap (λ z. Answered fillers code t place c RemoveKey atom count asker result (Struct n ∷ z ∷ [])) w (of-kind code t c good.nearly.heap (λ k. k ≡ Strings) w b g (λ x h. strings x (second x h)))
-      (λ key. does-call-at fillers code t place c good result RemoveKey atom count asker (Struct n ∷ Str key ∷ [])
+      a-string c.world.heap (λ z. Answered fillers code t place c RemoveKey atom count caller result (Struct n ∷ z ∷ [])) w (of-kind code t c good.nearly.heap (λ k. k ≡ Strings) w b g (λ x h. strings x (second x h)))
+      (λ key. does-call-at fillers code t place c good result RemoveKey atom count caller (Struct n ∷ Str key ∷ [])
       (subst (λ own. Does code c good result (λ came. MappingAt c.world n (λ s es. RemovesKey own c.world n s es key (entry_at es key) came))) (sym (own-same fillers code))
       (at-mapping code t c good result n s es e is (λ s es came. RemovesKey (code_types code) c.world n s es key (entry_at es key) came) (does-remove-key code t c good result n s e a fn es is key (entry_at es key) refl has))))) f)
 

@@ -7,8 +7,8 @@ use Rattle.operations.specs.declared.library.LibraryCall.TheVariants.{Clone}
 use Rattle.operations.specs.Rows.{ResultHas, Surroundings}
 use Rattle.value_model.specs.declared.filler.Filler.{Filler}
 use Rattle.value_model.specs.declared.value.Value.{Value}
-use Rattle.run_model.specs.Common.{Common}
-use Rattle.run_model.specs.Copies.{clones, copy_of}
+use Rattle.op_model.specs.Common.{Common}
+use Rattle.op_model.specs.Copies.{clones, copy_of}
 use Rattle.machine_model.specs.Runs.{Running}
 use Rattle.stack_code.specs.declared.code.Code.{Code}
 use Rattle.stack_code.specs.Good.{GoodCommon}
@@ -36,9 +36,9 @@ module _ (code : Code) (c : Common) (good : GoodCommon code c Running) (result :
       (λ small. gave-typed code c result (copy_of c.world v ∷ []) (world-then code c good.nearly.heap v) good good.nearly.heap (grows code c good.nearly.heap v) (grown code c good.nearly.heap v) (given result has))
 
 pub clone : (fillers : ℕ → List Filler) (code : Code) (t : WellTyped code) (place : Surroundings) (c : Common) → Row fillers code t place c Clone
-clone fillers code t place c atom count names operands result vs asker good (long, typed) fit =
-    one-fit code c (Answered fillers code t place c Clone atom count asker result) operands vs _ typed fit
-    (λ a v (within, (none, has)) f. does-call-at fillers code t place c good result Clone atom count asker (v ∷ []) (does-else code c good result (clones c.world v) (clone-typed code c good result v a f has)))
+clone fillers code t place c atom count names operands result vs caller good (long, typed) fit =
+    one-fit code c (Answered fillers code t place c Clone atom count caller result) operands vs _ typed fit
+    (λ a v (within, (none, has)) f. does-call-at fillers code t place c good result Clone atom count caller (v ∷ []) (does-else code c good result (clones c.world v) (clone-typed code c good result v a f has)))
 
 pub clones-are-done : ClonesAreDone
 clones-are-done = of-row Clone clone

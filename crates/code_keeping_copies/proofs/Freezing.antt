@@ -25,10 +25,10 @@ use Rattle.value_model.specs.World.{World}
 use Rattle.value_model.proofs.EntryKeys.{same-text, text-same}
 use Rattle.value_model.proofs.OneShape.{one}
 use Rattle.value_model.proofs.Stability.{HasShape-stable}
-use Rattle.run_model.specs.Common.{Common}
-use Rattle.run_model.specs.Copies.{copied_members, copied_structure, copied_structures, copied_value, copy_of, has_cycle, mutable_members, mutable_number, mutable_numbers, reached, reached_from, with_copies}
-use Rattle.run_model.specs.Effects.{lifted, with_world}
-use Rattle.run_model.specs.Rows.{gives, size_of, within as within-cells}
+use Rattle.op_model.specs.Common.{Common}
+use Rattle.op_model.specs.Copies.{copied_members, copied_structure, copied_structures, copied_value, copy_of, has_cycle, mutable_members, mutable_number, mutable_numbers, reached, reached_from, with_copies}
+use Rattle.op_model.specs.Effects.{lifted, with_world}
+use Rattle.op_model.specs.Rows.{gives, size_of, within as within-cells}
 use Rattle.machine_model.specs.Runs.{Running}
 use Rattle.machine_model.proofs.Once.{some-same}
 use Rattle.stack_code.specs.declared.code.Code.{Code}

@@ -17,7 +17,7 @@ use Rattle.value_model.specs.declared.value.Value.{Value}
 use Rattle.value_model.specs.declared.value.Value.TheVariants.{Nil, Bool as Truth, Int, Str, Struct, Error, Function, Future}
 use Rattle.value_model.specs.Heap.{Heap, Structure, values_of}
 use Rattle.value_model.specs.Stands.{HasShape, IsUnmarked}
-use Rattle.run_model.specs.Copies.{copied_structure, mutable_members, mutable_number, mutable_numbers}
+use Rattle.op_model.specs.Copies.{copied_structure, mutable_members, mutable_number, mutable_numbers}
 use Rattle.machine_model.proofs.Once.{some-same}
 use Rattle.stack_code.specs.declared.code.Code.{Code}
 use Rattle.code_keeping.specs.Kinds.{Errors, Functions, Futures, kind_of}

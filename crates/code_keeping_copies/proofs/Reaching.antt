@@ -4,7 +4,7 @@ use Rattle.std.proofs.lemmas.Bool.{eqb-true, false≢true}
 use Rattle.std.proofs.lemmas.Iterator.Adapters.{position_from-zero}
 use Rattle.std.specs.List.{list_any, position_from}
 use Rattle.std.specs.Prelude.{◌⊎◌, ◌==◌, ◌||◌, filter, if◌then◌else◌, not, position, slice_get}
-use Rattle.run_model.specs.Levels.{distinct, levels}
+use Rattle.op_model.specs.Levels.{distinct, levels}
 use Rattle.machine_model.proofs.Once.{some-same}
 use Rattle.code_keeping.proofs.Changing.{below-or-not}
 use Rattle.code_keeping.proofs.Growing.{front-or-behind, get-behind, get-front}

@@ -10,10 +10,10 @@ use Rattle.type_model.specs.Anydata.{IsAnydata}
 use Rattle.value_model.specs.declared.filler.Filler.{Filler}
 use Rattle.value_model.specs.declared.panics.PanicName.TheVariants.{CyclicValue}
 use Rattle.value_model.specs.declared.value.Value.{Value}
-use Rattle.run_model.specs.Common.{Common}
-use Rattle.run_model.specs.Copies.{copy_of, freezes, has_cycle, reached_from, with_copies}
-use Rattle.run_model.specs.Library.{LibraryAnswers}
-use Rattle.run_model.specs.Rows.{gives, panics, within}
+use Rattle.op_model.specs.Common.{Common}
+use Rattle.op_model.specs.Copies.{copy_of, freezes, has_cycle, reached_from, with_copies}
+use Rattle.op_model.specs.Library.{LibraryAnswers}
+use Rattle.op_model.specs.Rows.{gives, panics, within}
 use Rattle.machine_model.specs.Runs.{Running}
 use Rattle.stack_code.specs.declared.code.Code.{Code}
 use Rattle.stack_code.specs.Good.{GoodCommon}
@@ -37,9 +37,9 @@ module _ (code : Code) (t : WellTyped code) (c : Common) (good : GoodCommon code
       by false e = frozen-typed code t c good.nearly.heap v e a fits holds result good has
 
 pub clone-read-only : (fillers : ℕ → List Filler) (code : Code) (t : WellTyped code) (place : Surroundings) (c : Common) → Row fillers code t place c CloneReadOnly
-clone-read-only fillers code t place c atom count names operands result vs asker good (long, typed) fit =
-    one-fit code c (Answered fillers code t place c CloneReadOnly atom count asker result) operands vs _ typed fit
-    (λ a v (within, (none, has)) f. does-call-at fillers code t place c good result CloneReadOnly atom count asker (v ∷ []) (does-else code c good result (freezes c.world v) (freeze-typed code t c good result v a f within has)))
+clone-read-only fillers code t place c atom count names operands result vs caller good (long, typed) fit =
+    one-fit code c (Answered fillers code t place c CloneReadOnly atom count caller result) operands vs _ typed fit
+    (λ a v (within, (none, has)) f. does-call-at fillers code t place c good result CloneReadOnly atom count caller (v ∷ []) (does-else code c good result (freezes c.world v) (freeze-typed code t c good result v a f within has)))
 
 pub read-only-clones-are-done : ReadOnlyClonesAreDone
 read-only-clones-are-done fillers atom count code c t =

@@ -23,13 +23,13 @@ use Rattle.value_model.specs.Heap.{Entries, Items, Structure, entry_at}
 use Rattle.value_model.specs.Meaning.{Answers}
 use Rattle.value_model.specs.Stands.{Belongs, BelongsIf, IsUnmarked, MembersBelong}
 use Rattle.value_model.specs.Valid.{IsValidValue}
-use Rattle.run_model.specs.Common.{Common}
-use Rattle.run_model.specs.Facts.{KnowsFillers, own_types}
-use Rattle.run_model.specs.Fillers.{IsThereFiller, filler_at, filler_values, made_for, new_ones}
-use Rattle.run_model.specs.Performs.{Performs}
-use Rattle.run_model.specs.Rows.{next_structure, place_of}
-use Rattle.run_model.specs.Stores.{StoresAt, atom_of, type_at_place}
-use Rattle.run_model.specs.StructureRows.{SetsItem}
+use Rattle.op_model.specs.Common.{Common}
+use Rattle.op_model.specs.ProgramFacts.{KnowsFillers, own_types}
+use Rattle.op_model.specs.Fillers.{IsThereFiller, filler_at, filler_values, made_for, new_ones}
+use Rattle.op_model.specs.Performs.{Performs}
+use Rattle.op_model.specs.Rows.{next_structure, place_of}
+use Rattle.op_model.specs.Stores.{StoresAt, atom_of, type_at_place}
+use Rattle.op_model.specs.StructureRows.{SetsItem}
 use Rattle.machine_model.specs.Runs.{Running}
 use Rattle.machine_model.proofs.Once.{some-same}
 use Rattle.stack_code.specs.declared.code.Code.{Code}
@@ -316,12 +316,12 @@ module _ (fillers : ℕ → List Filler) (code : Code) (t : WellTyped code) (kno
 
 module _ (fillers : ℕ → List Filler) (natives : Answers) (code : Code) (t : WellTyped code) (knows : KnowsFillers (code_facts fillers code) code.inherent) (c : Common) (place : Surroundings) where
   pub set-item : RowHolds code fillers natives c place op.SetItem
-  set-item operands result vs asker good (typed, none) fit =
-      three-fit code c (λ us. AllCome code c result (Performs (code_facts fillers code) natives op.SetItem us asker c)) operands vs _ typed fit
+  set-item operands result vs caller good (typed, none) fit =
+      three-fit code c (λ us. AllCome code c result (Performs (code_facts fillers code) natives op.SetItem us caller c)) operands vs _ typed fit
       (λ a b g v w x (first, second, third) fv fw fx.
-      a-list c.world.heap (λ z. AllCome code c result (Performs (code_facts fillers code) natives op.SetItem (z ∷ w ∷ x ∷ []) asker c)) v (of-kind code t c good.nearly.heap (λ k. k ≡ Lists) v a fv (λ y h. lists y (first y h)))
+      a-list c.world.heap (λ z. AllCome code c result (Performs (code_facts fillers code) natives op.SetItem (z ∷ w ∷ x ∷ []) caller c)) v (of-kind code t c good.nearly.heap (λ k. k ≡ Lists) v a fv (λ y h. lists y (first y h)))
       (λ n s items e is.
-      an-int c.world.heap (λ z. AllCome code c result (Performs (code_facts fillers code) natives op.SetItem (Struct n ∷ z ∷ x ∷ []) asker c)) w (of-kind code t c good.nearly.heap (λ k. k ≡ Ints) w b fw (λ y h. integers y (second y h)))
+      an-int c.world.heap (λ z. AllCome code c result (Performs (code_facts fillers code) natives op.SetItem (Struct n ∷ z ∷ x ∷ []) caller c)) w (of-kind code t c good.nearly.heap (λ k. k ≡ Ints) w b fw (λ y h. integers y (second y h)))
       (λ i. on-world code c good result (λ w. SetsItem (own_types (code_facts fillers code)) fillers w n i x)
       (subst (λ own. Does code c good result (λ came. SetsItem own fillers c.world n i x came)) (sym (own-same fillers code))
       (at-list code t c good result n s items e is (λ s vs came. StoresAt (code_types code) fillers c.world n s vs (place_of i) x came)

@@ -18,7 +18,7 @@ use Rattle.value_model.specs.declared.filler.Filler.{Filler}
 use Rattle.value_model.specs.declared.filler.Filler.TheVariants.{Nothing, Nil as NilFiller, Bool as BoolFiller, Int as IntFiller, Str as StrFiller, List as NewList, Mapping as NewMapping}
 use Rattle.value_model.specs.Exact.{Fills, IsFiller, IsSimpleFiller}
 use Rattle.value_model.specs.Stands.{IsUnmarked}
-use Rattle.run_model.specs.Fillers.{IsThereFiller, filler_at, fillers_from, is_new, new_ones}
+use Rattle.op_model.specs.Fillers.{IsThereFiller, filler_at, fillers_from, is_new, new_ones}
 use Rattle.machine_model.proofs.Once.{some-same}
 use Rattle.code_keeping.proofs.Changing.{within}
 use Rattle.code_keeping.proofs.Growing.{all-from}

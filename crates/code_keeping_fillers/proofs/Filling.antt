@@ -17,9 +17,9 @@ use Rattle.value_model.specs.declared.value.Value.TheVariants.{Nil, Bool as Trut
 use Rattle.value_model.specs.Exact.{Fills, IsFillerWithin, IsSimpleFiller}
 use Rattle.value_model.specs.Heap.{Entries, Items, Structure}
 use Rattle.value_model.specs.Stands.{Belongs, StructureStands}
-use Rattle.run_model.specs.Common.{Common}
-use Rattle.run_model.specs.Fillers.{IsThereFiller, filler_structures, filler_values, inner_fillers, new_ones}
-use Rattle.run_model.specs.Rows.{new_structure}
+use Rattle.op_model.specs.Common.{Common}
+use Rattle.op_model.specs.Fillers.{IsThereFiller, filler_structures, filler_values, inner_fillers, new_ones}
+use Rattle.op_model.specs.Rows.{new_structure}
 use Rattle.machine_model.proofs.Once.{some-same}
 use Rattle.stack_code.specs.declared.code.Code.{Code}
 use Rattle.stack_code.specs.Values.{IsMade, code_types}

@@ -12,11 +12,11 @@ use Rattle.type_model.specs.declared.basic.Ty.{Ty}
 use Rattle.value_model.specs.declared.filler.Filler.{Filler}
 use Rattle.value_model.specs.declared.filler.Filler.TheVariants.{Nothing, Nil as NilFiller, Bool as BoolFiller, Int as IntFiller, Str as StrFiller, List as NewList, Mapping as NewMapping}
 use Rattle.value_model.specs.Exact.{AreFillers, FillsExactly, Fills, HasNoRequired, HasPlaces, IsFillerWithin, IsNewFiller, IsOfAtom}
-use Rattle.run_model.specs.Facts.{KnowsFillers}
-use Rattle.run_model.specs.Fillers.{inner_fillers, new_ones}
-use Rattle.run_model.specs.Inherent.{IsOneChoice}
-use Rattle.run_model.specs.Levels.{all_of, levels}
-use Rattle.run_model.specs.Stores.{fixed_fillers, fixed_places}
+use Rattle.op_model.specs.ProgramFacts.{KnowsFillers}
+use Rattle.op_model.specs.Fillers.{inner_fillers, new_ones}
+use Rattle.op_model.specs.Inherent.{IsOneChoice}
+use Rattle.op_model.specs.Levels.{all_of, levels}
+use Rattle.op_model.specs.Stores.{fixed_fillers, fixed_places}
 use Rattle.stack_code.specs.declared.code.Code.{Code}
 use Rattle.stack_code.specs.CodeMachine.{code_facts}
 use Rattle.stack_code.specs.Tables.{HasFillers, HasTestedMembers, IsInherent}

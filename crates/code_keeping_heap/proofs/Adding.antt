@@ -18,10 +18,10 @@ use Rattle.value_model.specs.Stands.{HasShape, IsUnmarked, MembersBelong, Stands
 use Rattle.value_model.specs.Valid.{AreValidMembers}
 use Rattle.value_model.specs.World.{World}
 use Rattle.value_model.proofs.OneShape.{one}
-use Rattle.run_model.specs.Common.{Common}
-use Rattle.run_model.specs.Effects.{lifted, with_world}
-use Rattle.run_model.specs.Limits.{most_cells}
-use Rattle.run_model.specs.Rows.{gives_structure, makes, new_structure, size_of}
+use Rattle.op_model.specs.Common.{Common}
+use Rattle.op_model.specs.Effects.{lifted, with_world}
+use Rattle.op_model.specs.Limits.{most_cells}
+use Rattle.op_model.specs.Rows.{gives_structure, makes, new_structure, size_of}
 use Rattle.machine_model.specs.Runs.{Running}
 use Rattle.machine_model.proofs.Once.{some-same}
 use Rattle.stack_code.specs.declared.code.Code.{Code}

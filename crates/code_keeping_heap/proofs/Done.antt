@@ -2,7 +2,7 @@
 use Rattle.std.proofs.Common.{suc, refl}
 use Rattle.operations.specs.declared.operation.Operation.TheVariants as op
 use Rattle.value_model.specs.Meaning.{Answers}
-use Rattle.run_model.specs.Local.{twice}
+use Rattle.op_model.specs.Local.{twice}
 use Rattle.stack_code.specs.Places.{surroundings}
 use Rattle.code_keeping.proofs.Done.{row-done-at, takes-all}
 use Rattle.code_keeping.proofs.Operands.{one-long, two-long}

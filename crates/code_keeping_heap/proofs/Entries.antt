@@ -12,10 +12,10 @@ use Rattle.value_model.specs.declared.value.Value.{Value}
 use Rattle.value_model.specs.declared.value.Value.TheVariants.{Str}
 use Rattle.value_model.specs.Heap.{entry_at}
 use Rattle.value_model.proofs.EntryKeys.{same-text, text-same}
-use Rattle.run_model.specs.Common.{Common}
-use Rattle.run_model.specs.Local.{twice}
-use Rattle.run_model.specs.Operands.{pairs_of}
-use Rattle.run_model.specs.Stores.{entries_from, set_entry}
+use Rattle.op_model.specs.Common.{Common}
+use Rattle.op_model.specs.Local.{twice}
+use Rattle.op_model.specs.Operands.{pairs_of}
+use Rattle.op_model.specs.Stores.{entries_from, set_entry}
 use Rattle.stack_code.specs.declared.code.Code.{Code}
 use Rattle.stack_code.specs.Values.{AllFit, ComeOnce, Fits, GoodHeap}
 use Rattle.stack_code.specs.WellTyped.{WellTyped}

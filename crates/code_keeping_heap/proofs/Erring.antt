@@ -22,15 +22,15 @@ use Rattle.value_model.specs.Meaning.{Answers}
 use Rattle.value_model.specs.Stands.{HasShape, Stands}
 use Rattle.value_model.specs.World.{World}
 use Rattle.value_model.proofs.Stability.{HasShape-stable}
-use Rattle.run_model.specs.Common.{Common}
-use Rattle.run_model.specs.Effects.{lifted, with_world}
-use Rattle.run_model.specs.Limits.{most_cells}
-use Rattle.run_model.specs.Local.{twice}
-use Rattle.run_model.specs.Operands.{pairs_of}
-use Rattle.run_model.specs.Performs.{Performs}
-use Rattle.run_model.specs.Rows.{gives, makes_error, new_structure, next_error, within}
-use Rattle.run_model.specs.Stores.{entries_from}
-use Rattle.run_model.specs.StructureRows.{MakesError}
+use Rattle.op_model.specs.Common.{Common}
+use Rattle.op_model.specs.Effects.{lifted, with_world}
+use Rattle.op_model.specs.Limits.{most_cells}
+use Rattle.op_model.specs.Local.{twice}
+use Rattle.op_model.specs.Operands.{pairs_of}
+use Rattle.op_model.specs.Performs.{Performs}
+use Rattle.op_model.specs.Rows.{gives, makes_error, new_structure, next_error, within}
+use Rattle.op_model.specs.Stores.{entries_from}
+use Rattle.op_model.specs.StructureRows.{MakesError}
 use Rattle.machine_model.specs.Runs.{Running}
 use Rattle.stack_code.specs.declared.code.Code.{Code}
 use Rattle.stack_code.specs.CodeMachine.{code_facts}
@@ -302,16 +302,16 @@ module _ (code : Code) (t : WellTyped code) (c : Common) (good : GoodCommon code
       pairs (from-pairs (IsOfPair pairs) (of-pair ps pairs zip)) (keys-so ps pairs zip (λ q any. entries-there [] ps q.0 (inr any))) result has))
 
 pub make-error : (fillers : ℕ → List Filler) (natives : Answers) (code : Code) → WellTyped code → (c : Common) (place : Surroundings) (count : ℕ) → RowHolds code fillers natives c place (op.MakeError count)
-make-error fillers natives code t c place count operands result vs asker good typed fit =
-    more-fit code c (λ us. AllCome code c result (Performs (code_facts fillers code) natives (op.MakeError count) us asker c)) operands vs _ typed fit
+make-error fillers natives code t c place count operands result vs caller good typed fit =
+    more-fit code c (λ us. AllCome code c result (Performs (code_facts fillers code) natives (op.MakeError count) us caller c)) operands vs _ typed fit
     (λ a behind v ws more f fits.
-    more-fit code c (λ us. AllCome code c result (Performs (code_facts fillers code) natives (op.MakeError count) (v ∷ us) asker c)) behind ws _ more fits
+    more-fit code c (λ us. AllCome code c result (Performs (code_facts fillers code) natives (op.MakeError count) (v ∷ us) caller c)) behind ws _ more fits
     (λ b details w us row g fit-details.
     let (pairs, (is-string, is-cause, each, has), are) = paired code c count details us _ row fit-details in
     let (ps, e, zip) = strings-of code c t good.nearly.heap us pairs are (all-to (λ (p : SemType × SemType). IsWithin code.atoms IsString p.0 × IsWithin code.atoms IsImmutableData p.1) (λ (p : SemType × SemType). IsWithin code.atoms IsString p.0) (λ p k. k.0) pairs each) in
-    a-string c.world.heap (λ z. Fits code c z a → AllCome code c result (Performs (code_facts fillers code) natives (op.MakeError count) (z ∷ w ∷ us) asker c)) v (of-kind code t c good.nearly.heap (λ k. k ≡ Strings) v a f (λ x h. strings x (is-string x h)))
+    a-string c.world.heap (λ z. Fits code c z a → AllCome code c result (Performs (code_facts fillers code) natives (op.MakeError count) (z ∷ w ∷ us) caller c)) v (of-kind code t c good.nearly.heap (λ k. k ≡ Strings) v a f (λ x h. strings x (is-string x h)))
     (λ message fm.
-    nil-or-error c.world.heap (λ z. Fits code c z b → AllCome code c result (Performs (code_facts fillers code) natives (op.MakeError count) (Str message ∷ z ∷ us) asker c)) w (of-kind code t c good.nearly.heap IsNilOrErrorKind w b g (λ x h. of-cause x (is-cause x h)))
+    nil-or-error c.world.heap (λ z. Fits code c z b → AllCome code c result (Performs (code_facts fillers code) natives (op.MakeError count) (Str message ∷ z ∷ us) caller c)) w (of-kind code t c good.nearly.heap IsNilOrErrorKind w b g (λ x h. of-cause x (is-cause x h)))
     (λ fw. on-world code c good result (λ w. MakesError w message Nil us) (does-make code t c good result message fm.1.1 pairs us ps e zip each has None tt))
     (λ n fw. on-world code c good result (λ w. MakesError w message (Error n) us) (does-make code t c good result message fm.1.1 pairs us ps e zip each has (Some n) fw.1.0)) g) f))
 

@@ -20,10 +20,10 @@ use Rattle.value_model.specs.Heap.{Entries, Items, Members, Structure, entry_at}
 use Rattle.value_model.specs.Meaning.{Answers}
 use Rattle.value_model.specs.Stands.{Stands}
 use Rattle.value_model.specs.World.{Came}
-use Rattle.run_model.specs.Common.{Common}
-use Rattle.run_model.specs.Performs.{Performs}
-use Rattle.run_model.specs.Rows.{HasEntries, MappingAt, gives, size_of}
-use Rattle.run_model.specs.StructureRows.{ReadsField, ReadsKey, ReadsOptional, or_nil}
+use Rattle.op_model.specs.Common.{Common}
+use Rattle.op_model.specs.Performs.{Performs}
+use Rattle.op_model.specs.Rows.{HasEntries, MappingAt, gives, size_of}
+use Rattle.op_model.specs.StructureRows.{ReadsField, ReadsKey, ReadsOptional, or_nil}
 use Rattle.machine_model.specs.Runs.{Running}
 use Rattle.stack_code.specs.declared.code.Code.{Code}
 use Rattle.stack_code.specs.CodeMachine.{code_facts}
@@ -119,20 +119,20 @@ IsMapOrNil k = (k ≡ Mappings) ⊎ (k ≡ Nils)
 
 module _ (fillers : ℕ → List Filler) (natives : Answers) (code : Code) (t : WellTyped code) (c : Common) (place : Surroundings) where
   pub get-key : RowHolds code fillers natives c place op.GetKey
-  get-key operands result vs asker good typed fit =
-      two-fit code c (λ us. AllCome code c result (Performs (code_facts fillers code) natives op.GetKey us asker c)) operands vs _ typed fit
+  get-key operands result vs caller good typed fit =
+      two-fit code c (λ us. AllCome code c result (Performs (code_facts fillers code) natives op.GetKey us caller c)) operands vs _ typed fit
       (λ a b v w (first, second, has) f g.
-      a-mapping c.world.heap (λ z. Fits code c z a → AllCome code c result (Performs (code_facts fillers code) natives op.GetKey (z ∷ w ∷ []) asker c)) v (of-kind code t c good.nearly.heap (λ k. k ≡ Mappings) v a f (λ x h. mappings x (first x h)))
+      a-mapping c.world.heap (λ z. Fits code c z a → AllCome code c result (Performs (code_facts fillers code) natives op.GetKey (z ∷ w ∷ []) caller c)) v (of-kind code t c good.nearly.heap (λ k. k ≡ Mappings) v a f (λ x h. mappings x (first x h)))
       (λ n s es e is fn.
-      a-string c.world.heap (λ z. Fits code c z b → AllCome code c result (Performs (code_facts fillers code) natives op.GetKey (Struct n ∷ z ∷ []) asker c)) w (of-kind code t c good.nearly.heap (λ k. k ≡ Strings) w b g (λ x h. strings x (second x h)))
+      a-string c.world.heap (λ z. Fits code c z b → AllCome code c result (Performs (code_facts fillers code) natives op.GetKey (Struct n ∷ z ∷ []) caller c)) w (of-kind code t c good.nearly.heap (λ k. k ≡ Strings) w b g (λ x h. strings x (second x h)))
       (λ key gk. on-world code c good result (λ w. ReadsKey w n key)
       (at-mapping code t c good result n s es e is (λ s es came. came ≡ gives c.world (or_nil (entry_at es key))) (does-else code c good result (gives c.world (or_nil (entry_at es key))) (key-typed code t c good result n s es e is a fn b key gk has)))) g) f)
 
   pub get-field : (name : Text) → RowHolds code fillers natives c place (op.GetField name)
-  get-field name operands result vs asker good typed fit =
-      one-fit code c (λ us. AllCome code c result (Performs (code_facts fillers code) natives (op.GetField name) us asker c)) operands vs _ typed fit
+  get-field name operands result vs caller good typed fit =
+      one-fit code c (λ us. AllCome code c result (Performs (code_facts fillers code) natives (op.GetField name) us caller c)) operands vs _ typed fit
       (λ a v (within, has) f.
-      a-mapping c.world.heap (λ z. Fits code c z a → AllCome code c result (Performs (code_facts fillers code) natives (op.GetField name) (z ∷ []) asker c)) v (of-kind code t c good.nearly.heap (λ k. k ≡ Mappings) v a f (λ x h. members-kind name x (within x h)))
+      a-mapping c.world.heap (λ z. Fits code c z a → AllCome code c result (Performs (code_facts fillers code) natives (op.GetField name) (z ∷ []) caller c)) v (of-kind code t c good.nearly.heap (λ k. k ≡ Mappings) v a f (λ x h. members-kind name x (within x h)))
       (λ n s es e is fn. on-world code c good result (λ w. ReadsField w n name) (does-field code t c good result n s es e is a fn name within has)) f)
 
   -- a mapping or nil
@@ -163,10 +163,10 @@ module _ (fillers : ℕ → List Filler) (natives : Answers) (code : Code) (t : 
   of-both x (inr e) = inr (ap kind_of e)
 
   pub get-optional : (name : Text) → RowHolds code fillers natives c place (op.GetOptional name)
-  get-optional name operands result vs asker good typed fit =
-      one-fit code c (λ us. AllCome code c result (Performs (code_facts fillers code) natives (op.GetOptional name) us asker c)) operands vs _ typed fit
+  get-optional name operands result vs caller good typed fit =
+      one-fit code c (λ us. AllCome code c result (Performs (code_facts fillers code) natives (op.GetOptional name) us caller c)) operands vs _ typed fit
       (λ a v (within, has) f.
-      map-or-nil (λ z. Fits code c z a → AllCome code c result (Performs (code_facts fillers code) natives (op.GetOptional name) (z ∷ []) asker c)) v (of-kind code t c good.nearly.heap IsMapOrNil v a f (λ x h. of-both x (within x h)))
+      map-or-nil (λ z. Fits code c z a → AllCome code c result (Performs (code_facts fillers code) natives (op.GetOptional name) (z ∷ []) caller c)) v (of-kind code t c good.nearly.heap IsMapOrNil v a f (λ x h. of-both x (within x h)))
       (λ fn. on-world code c good result (λ w. ReadsOptional w Nil name) (does-else code c good result (gives c.world Nil) (nil-typed code t c good result (λ x. StandsAt code.atoms a (Field name) x ⊎ IsNil x) (inr refl) has)))
       (λ n s es e is fn. on-world code c good result (λ w. ReadsOptional w (Struct n) name)
       (at-mapping code t c good result n s es e is (λ s es came. came ≡ gives c.world (or_nil (entry_at es name))) (does-else code c good result (gives c.world (or_nil (entry_at es name))) (optional-typed code t c good result n s es e is a fn name has)))) f)

@@ -19,9 +19,9 @@ use Rattle.value_model.specs.Meaning.{Answers}
 use Rattle.value_model.specs.Stands.{Belongs, BelongsIf, HasShape}
 use Rattle.value_model.specs.World.{World}
 use Rattle.value_model.proofs.Stability.{HasShape-stable}
-use Rattle.run_model.specs.Common.{Common}
-use Rattle.run_model.specs.Effects.{lifted}
-use Rattle.run_model.specs.StructureRows.{makes_list}
+use Rattle.op_model.specs.Common.{Common}
+use Rattle.op_model.specs.Effects.{lifted}
+use Rattle.op_model.specs.StructureRows.{makes_list}
 use Rattle.machine_model.specs.Runs.{Running}
 use Rattle.machine_model.proofs.Once.{some-same}
 use Rattle.stack_code.specs.declared.code.Code.{Code}
@@ -106,7 +106,7 @@ module _ (code : Code) (t : WellTyped code) (c : Common) (good : GoodCommon code
 
 pub make-list : (fillers : ℕ → List Filler) (natives : Answers) (code : Code) → WellTyped code → (c : Common) (u : CodeUnit) (station : Station) (atom count : ℕ) (immutable : Bool) → NamesWell code (op.MakeList atom immutable count) →
     RowHolds code fillers natives c (surroundings code u station) (op.MakeList atom immutable count)
-make-list fillers natives code t c u station atom count immutable names operands result vs asker good (many, is-list, may, has) fit =
+make-list fillers natives code t c u station atom count immutable names operands result vs caller good (many, is-list, may, has) fit =
     let (fixed, rest, ea, bounds) = list-atom code.atoms atom (λ fixed rest. (length fixed ≤ count) × ItemsFit code.atoms operands 0 fixed rest) is-list in
     let as-many = zip-long (Fits code c) vs operands fit in
     at-once code c good result (makes_list c.world atom immutable vs)

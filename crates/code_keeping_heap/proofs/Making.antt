@@ -14,10 +14,10 @@ use Rattle.value_model.specs.Heap.{FunctionObject, Grows, Stays}
 use Rattle.value_model.specs.Meaning.{Answers}
 use Rattle.value_model.specs.Stands.{Stands}
 use Rattle.value_model.specs.World.{World}
-use Rattle.run_model.specs.Common.{Common}
-use Rattle.run_model.specs.Effects.{lifted, with_world}
-use Rattle.run_model.specs.Rows.{with_heap}
-use Rattle.run_model.specs.StructureRows.{makes_function}
+use Rattle.op_model.specs.Common.{Common}
+use Rattle.op_model.specs.Effects.{lifted, with_world}
+use Rattle.op_model.specs.Rows.{with_heap}
+use Rattle.op_model.specs.StructureRows.{makes_function}
 use Rattle.machine_model.specs.Runs.{Running}
 use Rattle.machine_model.proofs.Once.{some-same}
 use Rattle.stack_code.specs.declared.code.Code.{Code}
@@ -72,6 +72,6 @@ module _ (code : Code) (t : WellTyped code) (c : Common) (good : GoodCommon code
       ((let n = length-append c.world.heap.functions (function ∷ []) in omega (arith, n)), tt, tt) (λ x valid h. stands-so x h)))
 
 pub make-function : (fillers : ℕ → List Filler) (natives : Answers) (code : Code) → WellTyped code → (c : Common) (u : CodeUnit) (station : Station) (unit count : ℕ) → NamesWell code (op.MakeFunction unit count) → RowHolds code fillers natives c (surroundings code u station) (op.MakeFunction unit count)
-make-function fillers natives code t c u station unit count names operands result vs asker good (long, row) fit =
+make-function fillers natives code t c u station unit count names operands result vs caller good (long, row) fit =
     let (g, eg, below) = signature-at code unit (λ s. AreBelow code.atoms operands s.captured × ResultHas code.atoms result (λ x. In code.atoms x (Atom s.arrow))) row in
     at-once code c good result (makes_function c.world unit vs) (function-typed code t c good unit vs (names.values 0 0 (omega arith)) g eg (above code c vs operands g.captured fit below.0) result below.1)

@@ -32,7 +32,7 @@ use Rattle.value_model.specs.Stands.{Belongs, BelongsIf, HasShape, HaveFields, I
 use Rattle.value_model.specs.Valid.{AreValidMembers, IsValidValue}
 use Rattle.value_model.proofs.EntryKeys.{HasEntry, keys-fill, same-text, text-same}
 use Rattle.value_model.proofs.OneShape.{fields-entries, one, rise-keys}
-use Rattle.run_model.specs.Common.{Common}
+use Rattle.op_model.specs.Common.{Common}
 use Rattle.machine_model.proofs.Once.{some-same}
 use Rattle.stack_code.specs.declared.code.Code.{Code}
 use Rattle.stack_code.specs.Tables.{IsInherent}

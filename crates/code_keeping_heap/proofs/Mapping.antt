@@ -25,11 +25,11 @@ use Rattle.value_model.specs.Stands.{Belongs, BelongsIf, HasShape}
 use Rattle.value_model.specs.Valid.{IsValidValue}
 use Rattle.value_model.specs.World.{World}
 use Rattle.value_model.proofs.Stability.{HasShape-stable}
-use Rattle.run_model.specs.Common.{Common}
-use Rattle.run_model.specs.Effects.{lifted}
-use Rattle.run_model.specs.Rows.{gives_structure, new_structure}
-use Rattle.run_model.specs.Stores.{entries_from}
-use Rattle.run_model.specs.StructureRows.{MakesMapping}
+use Rattle.op_model.specs.Common.{Common}
+use Rattle.op_model.specs.Effects.{lifted}
+use Rattle.op_model.specs.Rows.{gives_structure, new_structure}
+use Rattle.op_model.specs.Stores.{entries_from}
+use Rattle.op_model.specs.StructureRows.{MakesMapping}
 use Rattle.machine_model.specs.Runs.{Running}
 use Rattle.stack_code.specs.declared.code.Code.{Code}
 use Rattle.stack_code.specs.declared.code.Unit.{Unit as CodeUnit}
@@ -210,7 +210,7 @@ pairs-any R Q P f (x ∷ xs) (y ∷ ys) (r, zip) (suc k, z, l, is, q) = let (j, 
 
 pub make-mapping : (fillers : ℕ → List Filler) (natives : Answers) (code : Code) → WellTyped code → (c : Common) (u : CodeUnit) (station : Station) (atom count : ℕ) (immutable : Bool) → NamesWell code (op.MakeMapping atom immutable count) →
     RowHolds code fillers natives c (surroundings code u station) (op.MakeMapping atom immutable count)
-make-mapping fillers natives code t c u station atom count immutable names operands result vs asker good typed fit =
+make-mapping fillers natives code t c u station atom count immutable names operands result vs caller good typed fit =
     let (ms, (keys, is-mapping, may, has), pairs) = paired code c count operands vs _ typed fit in
     let (ps, e, zip) = strings-of code c t good.nearly.heap vs ms pairs keys in
     on-world code c good result (λ w. MakesMapping w atom immutable vs)

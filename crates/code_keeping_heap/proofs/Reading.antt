@@ -25,10 +25,10 @@ use Rattle.value_model.specs.Meaning.{Answers}
 use Rattle.value_model.specs.Stands.{HasShape, HaveShapes, IsList as IsListOf, IsMapping as IsMappingOf, IsUnmarked, ItemsBelong, MembersBelong, Stands, StructureStands}
 use Rattle.value_model.specs.World.{Came}
 use Rattle.value_model.proofs.OneShape.{one}
-use Rattle.run_model.specs.Common.{Common}
-use Rattle.run_model.specs.Performs.{Performs}
-use Rattle.run_model.specs.Rows.{HasItems, ListAt, found, size_of}
-use Rattle.run_model.specs.StructureRows.{ReadsItem, at_place}
+use Rattle.op_model.specs.Common.{Common}
+use Rattle.op_model.specs.Performs.{Performs}
+use Rattle.op_model.specs.Rows.{HasItems, ListAt, found, size_of}
+use Rattle.op_model.specs.StructureRows.{ReadsItem, at_place}
 use Rattle.machine_model.specs.Runs.{Running}
 use Rattle.machine_model.proofs.Once.{some-same}
 use Rattle.stack_code.specs.declared.code.Code.{Code}
@@ -292,11 +292,11 @@ module _ (code : Code) (t : WellTyped code) (c : Common) (good : GoodCommon code
       subst (λ o. Does code c good result (λ came. IsSomeAnd o (λ s. HasItems (λ vs. P s vs came) s.members))) (sym e) (subst (λ m. Does code c good result (λ came. HasItems (λ vs. P s vs came) m)) (sym is) d)
 
 pub get-item : (fillers : ℕ → List Filler) (natives : Answers) (code : Code) → WellTyped code → (c : Common) (place : Surroundings) → RowHolds code fillers natives c place op.GetItem
-get-item fillers natives code t c place operands result vs asker good typed fit =
-    two-fit code c (λ us. AllCome code c result (Performs (code_facts fillers code) natives op.GetItem us asker c)) operands vs _ typed fit
+get-item fillers natives code t c place operands result vs caller good typed fit =
+    two-fit code c (λ us. AllCome code c result (Performs (code_facts fillers code) natives op.GetItem us caller c)) operands vs _ typed fit
     (λ a b v w (first, second, has) f g.
-    a-list c.world.heap (λ z. Fits code c z a → AllCome code c result (Performs (code_facts fillers code) natives op.GetItem (z ∷ w ∷ []) asker c)) v (of-kind code t c good.nearly.heap (λ k. k ≡ Lists) v a f (λ x h. lists x (first x h)))
+    a-list c.world.heap (λ z. Fits code c z a → AllCome code c result (Performs (code_facts fillers code) natives op.GetItem (z ∷ w ∷ []) caller c)) v (of-kind code t c good.nearly.heap (λ k. k ≡ Lists) v a f (λ x h. lists x (first x h)))
     (λ n s items e is fn.
-    an-int c.world.heap (λ z. Fits code c z b → AllCome code c result (Performs (code_facts fillers code) natives op.GetItem (Struct n ∷ z ∷ []) asker c)) w (of-kind code t c good.nearly.heap (λ k. k ≡ Ints) w b g (λ x h. integers x (second x h)))
+    an-int c.world.heap (λ z. Fits code c z b → AllCome code c result (Performs (code_facts fillers code) natives op.GetItem (Struct n ∷ z ∷ []) caller c)) w (of-kind code t c good.nearly.heap (λ k. k ≡ Ints) w b g (λ x h. integers x (second x h)))
     (λ i gi. on-world code c good result (λ w. ReadsItem w n i)
     (at-list code t c good result n s items e is (λ s vs came. came ≡ found c.world IndexOutOfRange (at_place vs i)) (does-else code c good result (found c.world IndexOutOfRange (at_place items i)) (item-typed code t c good result n s items e is a b fn i gi has)))) g) f)

@@ -20,7 +20,7 @@ use Rattle.value_model.specs.declared.value.Value.{Value}
 use Rattle.value_model.specs.declared.value.Value.TheVariants.{Nil, Bool as Truth, Int, Str, Struct, Error, Function, Future}
 use Rattle.value_model.specs.Heap.{Heap, Items, Structure}
 use Rattle.value_model.specs.Stands.{Belongs, BelongsIf, HasShape, HaveShapes, IsList, IsUnmarked, Stands, StructureStands}
-use Rattle.run_model.specs.Common.{Common}
+use Rattle.op_model.specs.Common.{Common}
 use Rattle.machine_model.proofs.Once.{some-same}
 use Rattle.operations.specs.Rows.{IsWithin}
 use Rattle.stack_code.specs.declared.code.Code.{Code}

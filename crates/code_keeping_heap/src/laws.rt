@@ -1,7 +1,7 @@
 //! Laws of steps that make, read and change structures. These calls do nothing: their clauses are laws.
 ghost use Rattle.code_keeping_heap.specs.Laws.{ConstructorsAreDone, ReadsAreDone};
 
-use run_model::Meaning;
+use op_model::Meaning;
 
 /// What a frame of well-typed code asks for fits, whatever comes, and something comes, where lists, mappings, errors and
 /// function values are made.

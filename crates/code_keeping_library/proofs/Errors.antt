@@ -15,11 +15,11 @@ use Rattle.value_model.specs.Heap.{ErrorObject, Heap}
 use Rattle.value_model.specs.PanicName.{number_parsing_error}
 use Rattle.value_model.specs.Stands.{HasShape}
 use Rattle.value_model.specs.World.{World}
-use Rattle.run_model.specs.Common.{Common}
-use Rattle.run_model.specs.Effects.{with_world}
-use Rattle.run_model.specs.Library.{ParsesInt}
-use Rattle.run_model.specs.Rows.{Else, gives, gives_error, makes_error, next_error}
-use Rattle.run_model.specs.Strings.{int_in}
+use Rattle.op_model.specs.Common.{Common}
+use Rattle.op_model.specs.Effects.{with_world}
+use Rattle.op_model.specs.Library.{ParsesInt}
+use Rattle.op_model.specs.Rows.{Else, gives, gives_error, makes_error, next_error}
+use Rattle.op_model.specs.Strings.{int_in}
 use Rattle.machine_model.specs.Runs.{Running}
 use Rattle.stack_code.specs.declared.code.Code.{Code}
 use Rattle.stack_code.specs.Good.{GoodCommon}
@@ -109,19 +109,19 @@ module _ (code : Code) (t : WellTyped code) (c : Common) (good : GoodCommon code
 
 module _ (fillers : ℕ → List Filler) (code : Code) (t : WellTyped code) (place : Surroundings) (c : Common) where
   pub detail : Row fillers code t place c Detail
-  detail atom count names operands result vs asker good (long, typed) fit =
-      one-fit code c (Answered fillers code t place c Detail atom count asker result) operands vs _ typed fit
-      (λ a v (within, (none, has)) f. an-error c.world.heap (λ z. Fits code c z a → Answered fillers code t place c Detail atom count asker result (z ∷ [])) v (of-kind code t c good.nearly.heap (λ k. k ≡ Errors) v a f (λ x h. errors x (within x h)))
-      (λ n fn. does-call-at fillers code t place c good result Detail atom count asker (Error n ∷ [])
+  detail atom count names operands result vs caller good (long, typed) fit =
+      one-fit code c (Answered fillers code t place c Detail atom count caller result) operands vs _ typed fit
+      (λ a v (within, (none, has)) f. an-error c.world.heap (λ z. Fits code c z a → Answered fillers code t place c Detail atom count caller result (z ∷ [])) v (of-kind code t c good.nearly.heap (λ k. k ≡ Errors) v a f (λ x h. errors x (within x h)))
+      (λ n fn. does-call-at fillers code t place c good result Detail atom count caller (Error n ∷ [])
       (let (x, e) = there c.world.heap.errors n fn.1.0 in
       subst (λ o. Does code c good result (λ came. IsSomeAnd o (λ (e : ErrorObject). came ≡ gives c.world (Struct e.detail)))) (sym e)
       (does-else code c good result (gives c.world (Struct x.detail)) (detail-typed code t c good result n x e fn.1.0 has)))) f)
 
   pub from-string : Row fillers code t place c FromString
-  from-string atom count names operands result vs asker good (long, typed) fit =
-      one-fit code c (Answered fillers code t place c FromString atom count asker result) operands vs _ typed fit
-      (λ a v (within, (none, has)) f. a-string c.world.heap (λ z. Answered fillers code t place c FromString atom count asker result (z ∷ [])) v (of-kind code t c good.nearly.heap (λ k. k ≡ Strings) v a f (λ x h. strings x (within x h)))
-      (λ s. does-call-at fillers code t place c good result FromString atom count asker (Str s ∷ []) (does-parse code t c good result (int_in s) has)))
+  from-string atom count names operands result vs caller good (long, typed) fit =
+      one-fit code c (Answered fillers code t place c FromString atom count caller result) operands vs _ typed fit
+      (λ a v (within, (none, has)) f. a-string c.world.heap (λ z. Answered fillers code t place c FromString atom count caller result (z ∷ [])) v (of-kind code t c good.nearly.heap (λ k. k ≡ Strings) v a f (λ x h. strings x (within x h)))
+      (λ s. does-call-at fillers code t place c good result FromString atom count caller (Str s ∷ []) (does-parse code t c good result (int_in s) has)))
 
 pub errors-are-given : ErrorsAreGiven
 errors-are-given = (of-row Detail detail, of-row FromString from-string)

@@ -24,11 +24,11 @@ use Rattle.value_model.specs.declared.value.Value.{Value}
 use Rattle.value_model.specs.declared.value.Value.TheVariants.{Int, Str, Struct}
 use Rattle.value_model.specs.Heap.{Items}
 use Rattle.value_model.specs.Valid.{AreValidMembers, IsValidValue}
-use Rattle.run_model.specs.Common.{Common}
-use Rattle.run_model.specs.Effects.{lifted}
-use Rattle.run_model.specs.Library.{LibraryAnswers}
-use Rattle.run_model.specs.Limits.{most_items}
-use Rattle.run_model.specs.Rows.{Else, GivesList, gives_structure, new_structure, panics}
+use Rattle.op_model.specs.Common.{Common}
+use Rattle.op_model.specs.Effects.{lifted}
+use Rattle.op_model.specs.Library.{LibraryAnswers}
+use Rattle.op_model.specs.Limits.{most_items}
+use Rattle.op_model.specs.Rows.{Else, GivesList, gives_structure, new_structure, panics}
 use Rattle.machine_model.specs.Runs.{Running}
 use Rattle.stack_code.specs.declared.code.Code.{Code}
 use Rattle.stack_code.specs.Good.{GoodCommon}
@@ -106,11 +106,11 @@ module _ (fillers : ℕ → List Filler) (code : Code) (t : WellTyped code) (pla
 
   -- the keys of a mapping
   pub keys : Row Keys
-  keys None count names operands result vs asker good (long, typed) fit = one-fit code c (Answered fillers code t place c Keys None count asker result) operands vs _ typed fit (λ a v (within, never) f. absurd never)
-  keys (Some m) count names operands result vs asker good (long, typed) fit =
-      one-fit code c (Answered fillers code t place c Keys (Some m) count asker result) operands vs _ typed fit
-      (λ a v (within, (is-list, has)) f. a-mapping c.world.heap (λ z. Answered fillers code t place c Keys (Some m) count asker result (z ∷ [])) v (of-kind code t c good.nearly.heap (λ k. k ≡ Mappings) v a f (λ x h. mappings x (within x h)))
-      (λ n s es e is. does-call-at fillers code t place c good result Keys (Some m) count asker (Struct n ∷ [])
+  keys None count names operands result vs caller good (long, typed) fit = one-fit code c (Answered fillers code t place c Keys None count caller result) operands vs _ typed fit (λ a v (within, never) f. absurd never)
+  keys (Some m) count names operands result vs caller good (long, typed) fit =
+      one-fit code c (Answered fillers code t place c Keys (Some m) count caller result) operands vs _ typed fit
+      (λ a v (within, (is-list, has)) f. a-mapping c.world.heap (λ z. Answered fillers code t place c Keys (Some m) count caller result (z ∷ [])) v (of-kind code t c good.nearly.heap (λ k. k ≡ Mappings) v a f (λ x h. mappings x (within x h)))
+      (λ n s es e is. does-call-at fillers code t place c good result Keys (Some m) count caller (Struct n ∷ [])
       (at-mapping code t c good result n s es e is (λ s es came. GivesList c.world m (map (λ (e : Text × Value). Str e.0) es) came)
       (gives-list code t c good result m IsString (names.atoms 0 0 (omega arith)) is-list has (map (λ (e : Text × Value). Str e.0) es)
       (λ r items i v ev.
@@ -123,11 +123,11 @@ module _ (fillers : ℕ → List Filler) (code : Code) (t : WellTyped code) (pla
 
   -- the characters of a string as ints
   pub code-points : Row ToCodePointInts
-  code-points None count names operands result vs asker good (long, typed) fit = one-fit code c (Answered fillers code t place c ToCodePointInts None count asker result) operands vs _ typed fit (λ a v (within, never) f. absurd never)
-  code-points (Some m) count names operands result vs asker good (long, typed) fit =
-      one-fit code c (Answered fillers code t place c ToCodePointInts (Some m) count asker result) operands vs _ typed fit
-      (λ a v (within, (is-list, has)) f. a-string c.world.heap (λ z. Fits code c z a → Answered fillers code t place c ToCodePointInts (Some m) count asker result (z ∷ [])) v (of-kind code t c good.nearly.heap (λ k. k ≡ Strings) v a f (λ x h. strings x (within x h)))
-      (λ s fs. does-call-at fillers code t place c good result ToCodePointInts (Some m) count asker (Str s ∷ [])
+  code-points None count names operands result vs caller good (long, typed) fit = one-fit code c (Answered fillers code t place c ToCodePointInts None count caller result) operands vs _ typed fit (λ a v (within, never) f. absurd never)
+  code-points (Some m) count names operands result vs caller good (long, typed) fit =
+      one-fit code c (Answered fillers code t place c ToCodePointInts (Some m) count caller result) operands vs _ typed fit
+      (λ a v (within, (is-list, has)) f. a-string c.world.heap (λ z. Fits code c z a → Answered fillers code t place c ToCodePointInts (Some m) count caller result (z ∷ [])) v (of-kind code t c good.nearly.heap (λ k. k ≡ Strings) v a f (λ x h. strings x (within x h)))
+      (λ s fs. does-call-at fillers code t place c good result ToCodePointInts (Some m) count caller (Str s ∷ [])
       (gives-list code t c good result m IsInteger (names.atoms 0 0 (omega arith)) is-list has (map (λ c. Int (pos c)) s)
       (λ r items i v ev.
       let (x, ex, same) = from-map (λ (c : ℕ). Int (pos c)) s i v ev in

@@ -14,10 +14,10 @@ use Rattle.value_model.specs.declared.panics.PanicName.TheVariants.{IndexOutOfRa
 use Rattle.value_model.specs.declared.value.Value.{Value}
 use Rattle.value_model.specs.declared.value.Value.TheVariants.{Int, Str, Struct}
 use Rattle.value_model.specs.Heap.{Entries, Items, Structure, entry_at, values_of}
-use Rattle.run_model.specs.Common.{Asker, Common}
-use Rattle.run_model.specs.Library.{Slices}
-use Rattle.run_model.specs.Rows.{GivesList, found, gives, panics, size_of}
-use Rattle.run_model.specs.Strings.{AreBounds, part_of}
+use Rattle.op_model.specs.Common.{Caller, Common}
+use Rattle.op_model.specs.Library.{Slices}
+use Rattle.op_model.specs.Rows.{GivesList, found, gives, panics, size_of}
+use Rattle.op_model.specs.Strings.{AreBounds, part_of}
 use Rattle.machine_model.specs.Runs.{Running}
 use Rattle.stack_code.specs.declared.code.Code.{Code}
 use Rattle.stack_code.specs.Good.{GoodCommon}
@@ -118,18 +118,18 @@ module _ (code : Code) (t : WellTyped code) (c : Common) (good : GoodCommon code
 
 module _ (fillers : ℕ → List Filler) (code : Code) (t : WellTyped code) (place : Surroundings) (c : Common) where
   pub get : Row fillers code t place c Get
-  get atom count names operands result vs asker good (long, typed) fit =
-      two-fit code c (Answered fillers code t place c Get atom count asker result) operands vs _ typed fit
+  get atom count names operands result vs caller good (long, typed) fit =
+      two-fit code c (Answered fillers code t place c Get atom count caller result) operands vs _ typed fit
       (λ a b v w (first, second, (none, has)) f g.
-      a-mapping c.world.heap (λ z. Fits code c z a → Answered fillers code t place c Get atom count asker result (z ∷ w ∷ [])) v (of-kind code t c good.nearly.heap (λ k. k ≡ Mappings) v a f (λ x h. mappings x (first x h)))
+      a-mapping c.world.heap (λ z. Fits code c z a → Answered fillers code t place c Get atom count caller result (z ∷ w ∷ [])) v (of-kind code t c good.nearly.heap (λ k. k ≡ Mappings) v a f (λ x h. mappings x (first x h)))
       (λ n s es e is fn.
-      a-string c.world.heap (λ z. Answered fillers code t place c Get atom count asker result (Struct n ∷ z ∷ [])) w (of-kind code t c good.nearly.heap (λ k. k ≡ Strings) w b g (λ x h. strings x (second x h)))
-      (λ key. does-call-at fillers code t place c good result Get atom count asker (Struct n ∷ Str key ∷ [])
+      a-string c.world.heap (λ z. Answered fillers code t place c Get atom count caller result (Struct n ∷ z ∷ [])) w (of-kind code t c good.nearly.heap (λ k. k ≡ Strings) w b g (λ x h. strings x (second x h)))
+      (λ key. does-call-at fillers code t place c good result Get atom count caller (Struct n ∷ Str key ∷ [])
       (at-mapping code t c good result n s es e is (λ s es came. came ≡ found c.world KeyNotFound (entry_at es key))
       (does-else code c good result (found c.world KeyNotFound (entry_at es key)) (found-typed code t c good result n s es e is a fn key has))))) f)
 
-  abbrev Listed : LibraryCall → ℕ → ℕ → Asker → Option SemType → List Value → Type 0
-  Listed call m count asker result vs = Answered fillers code t place c call (Some m) count asker result vs
+  abbrev Listed : LibraryCall → ℕ → ℕ → Caller → Option SemType → List Value → Type 0
+  Listed call m count caller result vs = Answered fillers code t place c call (Some m) count caller result vs
 
   -- a part of a list
   does-slice : (good : GoodCommon code c Running) (result : Option SemType) (m : ℕ) → IsInherent code m → (n : ℕ) (s : Structure) (items : List Value) → slice_get c.world.heap.structures n ≡ Some s → s.members ≡ Items items → (a : SemType) → Fits code c (Struct n) a →
@@ -139,45 +139,45 @@ module _ (fillers : ℕ → List Filler) (code : Code) (t : WellTyped code) (pla
       (λ bounds. gives-list code t c good result m (AtIndexes code.atoms a) known is-list has (part_of (nat_abs i) (nat_abs j) items)
       (λ r within k v ev. item-fits code t c good n s items e is a fits v (from-part (nat_abs i) (nat_abs j) items k v ev) r within))
 
-  slice-so : (good : GoodCommon code c Running) (result : Option SemType) (m count : ℕ) (asker : Asker) → IsInherent code m → (v w : Value) (a b : SemType) → Fits code c v a → Fits code c w b → IsWithin code.atoms IsList a → IsWithin code.atoms IsInteger b →
-      MakesList code.atoms (Some m) (AtIndexes code.atoms a) result → Listed Slice m count asker result (v ∷ w ∷ [])
-  slice-so good result m count asker known v w a b f g first second makes =
-      a-list c.world.heap (λ z. Fits code c z a → Listed Slice m count asker result (z ∷ w ∷ [])) v (of-kind code t c good.nearly.heap (λ k. k ≡ Lists) v a f (λ x h. lists x (first x h)))
+  slice-so : (good : GoodCommon code c Running) (result : Option SemType) (m count : ℕ) (caller : Caller) → IsInherent code m → (v w : Value) (a b : SemType) → Fits code c v a → Fits code c w b → IsWithin code.atoms IsList a → IsWithin code.atoms IsInteger b →
+      MakesList code.atoms (Some m) (AtIndexes code.atoms a) result → Listed Slice m count caller result (v ∷ w ∷ [])
+  slice-so good result m count caller known v w a b f g first second makes =
+      a-list c.world.heap (λ z. Fits code c z a → Listed Slice m count caller result (z ∷ w ∷ [])) v (of-kind code t c good.nearly.heap (λ k. k ≡ Lists) v a f (λ x h. lists x (first x h)))
       (λ n s items e is fn.
-      an-int c.world.heap (λ z. Listed Slice m count asker result (Struct n ∷ z ∷ [])) w (of-kind code t c good.nearly.heap (λ k. k ≡ Ints) w b g (λ x h. integers x (second x h)))
-      (λ i. does-call-at fillers code t place c good result Slice (Some m) count asker (Struct n ∷ Int i ∷ [])
+      an-int c.world.heap (λ z. Listed Slice m count caller result (Struct n ∷ z ∷ [])) w (of-kind code t c good.nearly.heap (λ k. k ≡ Ints) w b g (λ x h. integers x (second x h)))
+      (λ i. does-call-at fillers code t place c good result Slice (Some m) count caller (Struct n ∷ Int i ∷ [])
       (at-list code t c good result n s items e is (λ s vs came. Slices c.world m vs i (pos (length vs)) came) (does-slice good result m known n s items e is a fn makes i (pos (length items)))))) f
 
-  slice-to : (good : GoodCommon code c Running) (result : Option SemType) (m count : ℕ) (asker : Asker) → IsInherent code m → (v w y : Value) (a b d : SemType) → Fits code c v a → Fits code c w b → Fits code c y d → IsWithin code.atoms IsList a → IsWithin code.atoms IsInteger b → IsWithin code.atoms IsInteger d →
-      MakesList code.atoms (Some m) (AtIndexes code.atoms a) result → Listed Slice m count asker result (v ∷ w ∷ y ∷ [])
-  slice-to good result m count asker known v w y a b d f g k first second third makes =
-      a-list c.world.heap (λ z. Fits code c z a → Listed Slice m count asker result (z ∷ w ∷ y ∷ [])) v (of-kind code t c good.nearly.heap (λ k. k ≡ Lists) v a f (λ x h. lists x (first x h)))
+  slice-to : (good : GoodCommon code c Running) (result : Option SemType) (m count : ℕ) (caller : Caller) → IsInherent code m → (v w y : Value) (a b d : SemType) → Fits code c v a → Fits code c w b → Fits code c y d → IsWithin code.atoms IsList a → IsWithin code.atoms IsInteger b → IsWithin code.atoms IsInteger d →
+      MakesList code.atoms (Some m) (AtIndexes code.atoms a) result → Listed Slice m count caller result (v ∷ w ∷ y ∷ [])
+  slice-to good result m count caller known v w y a b d f g k first second third makes =
+      a-list c.world.heap (λ z. Fits code c z a → Listed Slice m count caller result (z ∷ w ∷ y ∷ [])) v (of-kind code t c good.nearly.heap (λ k. k ≡ Lists) v a f (λ x h. lists x (first x h)))
       (λ n s items e is fn.
-      an-int c.world.heap (λ z. Listed Slice m count asker result (Struct n ∷ z ∷ y ∷ [])) w (of-kind code t c good.nearly.heap (λ k. k ≡ Ints) w b g (λ x h. integers x (second x h)))
-      (λ i. an-int c.world.heap (λ z. Listed Slice m count asker result (Struct n ∷ Int i ∷ z ∷ [])) y (of-kind code t c good.nearly.heap (λ k. k ≡ Ints) y d k (λ x h. integers x (third x h)))
-      (λ j. does-call-at fillers code t place c good result Slice (Some m) count asker (Struct n ∷ Int i ∷ Int j ∷ [])
+      an-int c.world.heap (λ z. Listed Slice m count caller result (Struct n ∷ z ∷ y ∷ [])) w (of-kind code t c good.nearly.heap (λ k. k ≡ Ints) w b g (λ x h. integers x (second x h)))
+      (λ i. an-int c.world.heap (λ z. Listed Slice m count caller result (Struct n ∷ Int i ∷ z ∷ [])) y (of-kind code t c good.nearly.heap (λ k. k ≡ Ints) y d k (λ x h. integers x (third x h)))
+      (λ j. does-call-at fillers code t place c good result Slice (Some m) count caller (Struct n ∷ Int i ∷ Int j ∷ [])
       (at-list code t c good result n s items e is (λ s vs came. Slices c.world m vs i j came) (does-slice good result m known n s items e is a fn makes i j))))) f
 
   pub slice : Row fillers code t place c Slice
-  slice None count names operands result vs asker good (long, (inl two, more)) fit =
-      two-fit code c (Answered fillers code t place c Slice None count asker result) operands vs _ (both-of-two operands _ _ two more) fit (λ a b v w (h, never) f g. absurd never)
-  slice None count names operands result vs asker good (long, (inr three, more)) fit =
-      three-fit code c (Answered fillers code t place c Slice None count asker result) operands vs _ (both-of-three operands _ _ three more) fit (λ a b d v w y (h, never) f g k. absurd never)
-  slice (Some m) count names operands result vs asker good (long, (inl two, more)) fit =
-      two-fit code c (Listed Slice m count asker result) operands vs _ (both-of-two operands _ _ two more) fit
-      (λ a b v w (h, makes) f g. slice-so good result m count asker (names.atoms 0 0 (omega arith)) v w a b f g h.0 h.1 makes)
-  slice (Some m) count names operands result vs asker good (long, (inr three, more)) fit =
-      three-fit code c (Listed Slice m count asker result) operands vs _ (both-of-three operands _ _ three more) fit
-      (λ a b d v w y (h, makes) f g k. slice-to good result m count asker (names.atoms 0 0 (omega arith)) v w y a b d f g k h.0 h.1 h.2 makes)
+  slice None count names operands result vs caller good (long, (inl two, more)) fit =
+      two-fit code c (Answered fillers code t place c Slice None count caller result) operands vs _ (both-of-two operands _ _ two more) fit (λ a b v w (h, never) f g. absurd never)
+  slice None count names operands result vs caller good (long, (inr three, more)) fit =
+      three-fit code c (Answered fillers code t place c Slice None count caller result) operands vs _ (both-of-three operands _ _ three more) fit (λ a b d v w y (h, never) f g k. absurd never)
+  slice (Some m) count names operands result vs caller good (long, (inl two, more)) fit =
+      two-fit code c (Listed Slice m count caller result) operands vs _ (both-of-two operands _ _ two more) fit
+      (λ a b v w (h, makes) f g. slice-so good result m count caller (names.atoms 0 0 (omega arith)) v w a b f g h.0 h.1 makes)
+  slice (Some m) count names operands result vs caller good (long, (inr three, more)) fit =
+      three-fit code c (Listed Slice m count caller result) operands vs _ (both-of-three operands _ _ three more) fit
+      (λ a b d v w y (h, makes) f g k. slice-to good result m count caller (names.atoms 0 0 (omega arith)) v w y a b d f g k h.0 h.1 h.2 makes)
 
   -- the items from the last one on
   pub turned : Row fillers code t place c Reverse
-  turned None count names operands result vs asker good (long, typed) fit = one-fit code c (Answered fillers code t place c Reverse None count asker result) operands vs _ typed fit (λ a v (within, never) f. absurd never)
-  turned (Some m) count names operands result vs asker good (long, typed) fit =
-      one-fit code c (Listed Reverse m count asker result) operands vs _ typed fit
+  turned None count names operands result vs caller good (long, typed) fit = one-fit code c (Answered fillers code t place c Reverse None count caller result) operands vs _ typed fit (λ a v (within, never) f. absurd never)
+  turned (Some m) count names operands result vs caller good (long, typed) fit =
+      one-fit code c (Listed Reverse m count caller result) operands vs _ typed fit
       (λ a v (within, (is-list, has)) f.
-      a-list c.world.heap (λ z. Fits code c z a → Listed Reverse m count asker result (z ∷ [])) v (of-kind code t c good.nearly.heap (λ k. k ≡ Lists) v a f (λ x h. lists x (within x h)))
-      (λ n s items e is fn. does-call-at fillers code t place c good result Reverse (Some m) count asker (Struct n ∷ [])
+      a-list c.world.heap (λ z. Fits code c z a → Listed Reverse m count caller result (z ∷ [])) v (of-kind code t c good.nearly.heap (λ k. k ≡ Lists) v a f (λ x h. lists x (within x h)))
+      (λ n s items e is fn. does-call-at fillers code t place c good result Reverse (Some m) count caller (Struct n ∷ [])
       (at-list code t c good result n s items e is (λ s vs came. GivesList c.world m (reverse vs) came)
       (gives-list code t c good result m (AtIndexes code.atoms a) (names.atoms 0 0 (omega arith)) is-list has (reverse items)
       (λ r within k v ev. item-fits code t c good n s items e is a fn v (from-reverse items k v ev) r within)))) f)

@@ -18,8 +18,8 @@ use Rattle.value_model.specs.declared.value.Value.{Value}
 use Rattle.value_model.specs.declared.value.Value.TheVariants.{Nil, Bool as Truth, Int, Str, Struct, Error, Function, Future}
 use Rattle.value_model.specs.Heap.{Entries, ErrorObject, Heap, Items, Members, Structure}
 use Rattle.value_model.specs.Valid.{AreValidMembers, IsValidHeap, IsValidValue}
-use Rattle.run_model.specs.Common.{Common}
-use Rattle.run_model.specs.Texts.{cause_text, escaped, inner_text, members_text, quoted, text_of}
+use Rattle.op_model.specs.Common.{Common}
+use Rattle.op_model.specs.Texts.{cause_text, escaped, inner_text, members_text, quoted, text_of}
 use Rattle.stack_code.specs.declared.code.Code.{Code}
 use Rattle.stack_code.specs.WellTyped.{WellTyped}
 use Rattle.code_keeping.proofs.Lists.{all-at}
@@ -173,9 +173,9 @@ module _ (h : Heap) (valid : IsValidHeap h) where
 -- ---- the row
 
 pub to-string : (fillers : ℕ → List Filler) (code : Code) (t : WellTyped code) (place : Surroundings) (c : Common) → Row fillers code t place c ToString
-to-string fillers code t place c atom count names operands result vs asker good (long, typed) fit =
-    one-fit code c (Answered fillers code t place c ToString atom count asker result) operands vs _ typed fit
-    (λ a v (none, has) f. does-call-at fillers code t place c good result ToString atom count asker (v ∷ [])
+to-string fillers code t place c atom count names operands result vs caller good (long, typed) fit =
+    one-fit code c (Answered fillers code t place c ToString atom count caller result) operands vs _ typed fit
+    (λ a v (none, has) f. does-call-at fillers code t place c good result ToString atom count caller (v ∷ [])
     (does-text code c good result (text_of c.world.heap v) (text-of c.world.heap good.nearly.heap.valid v f.1.1) has))
 
 pub values-are-printed : ValuesArePrinted

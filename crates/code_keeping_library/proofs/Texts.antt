@@ -6,7 +6,7 @@ use Rattle.std.proofs.lemmas.List.{reverse-append}
 use Rattle.std.specs.Prelude.{drop, if◌then◌else◌, nat_le, take}
 use Rattle.bal_base.specs.declared.text.Text.{Text}
 use Rattle.bal_base.specs.Valid.{IsText}
-use Rattle.run_model.specs.Strings.{is_between, is_blank, lower_ascii, part_of, trimmed, upper_ascii, without_front}
+use Rattle.op_model.specs.Strings.{is_between, is_blank, lower_ascii, part_of, trimmed, upper_ascii, without_front}
 use Rattle.code_keeping.proofs.Valuing.{text-append, text-both, text-parts}
 
 text-take : (n : ℕ) (t : Text) → IsText t → IsText (take n t)

@@ -12,12 +12,12 @@ use Rattle.operations.specs.Rows.{ResultHas}
 use Rattle.value_model.specs.declared.panics.PanicName.TheVariants.{BadInput, TooLong}
 use Rattle.value_model.specs.declared.value.Value.TheVariants.{Nil, Str}
 use Rattle.value_model.specs.World.{Came, Gave, PassesCells, Threw}
-use Rattle.run_model.specs.Common.{AllEnded, AnyGiven, Common, Message, Need, Received, Role}
-use Rattle.run_model.specs.Effects.{lifted, with_world}
-use Rattle.run_model.specs.Library.{Reads, ReadsAfter, ReadsAs, with_input, written}
-use Rattle.run_model.specs.Limits.{most_code_points, most_line_bytes}
-use Rattle.run_model.specs.Rows.{gives, panics}
-use Rattle.run_model.specs.Strands.{end_in, met}
+use Rattle.op_model.specs.Common.{AllEnded, AnyGiven, Common, Message, Need, Received, Role}
+use Rattle.op_model.specs.Effects.{lifted, with_world}
+use Rattle.op_model.specs.Library.{Reads, ReadsAfter, ReadsAs, with_input, written}
+use Rattle.op_model.specs.Limits.{most_code_points, most_line_bytes}
+use Rattle.op_model.specs.Rows.{gives, panics}
+use Rattle.op_model.specs.Strands.{end_in, met}
 use Rattle.machine_model.specs.Runs.{Running}
 use Rattle.stack_code.specs.declared.code.Code.{Code}
 use Rattle.stack_code.specs.Good.{GoodCommon, IsLater, NeedIsThere, WorkerStays}

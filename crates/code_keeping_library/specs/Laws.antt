@@ -4,7 +4,7 @@ use Rattle.operations.specs.declared.library.LibraryCall.{LibraryCall}
 use Rattle.operations.specs.declared.library.LibraryCall.TheVariants.{Abs, Cause, Detail, FromString, Get, HasKey, Keys, ListLength, MappingLength, Message, Print, Println, Readln, Reverse, Slice, StartsWith, StringLength, Substring, ToCodePointInts, ToLowerAscii, ToString, ToUpperAscii, Trim}
 use Rattle.operations.specs.declared.operation.Operation.TheVariants as op
 use Rattle.value_model.specs.declared.filler.Filler.{Filler}
-use Rattle.run_model.specs.Library.{LibraryAnswers}
+use Rattle.op_model.specs.Library.{LibraryAnswers}
 use Rattle.code_keeping.specs.Laws.{IsDone}
 
 -- the call is done, where the library answers as its table says

@@ -23,11 +23,11 @@ use Rattle.value_model.specs.Heap.{Entries, Grows, Heap, IsThere, Items, Members
 use Rattle.value_model.specs.Stands.{Belongs, BelongsIf, IsUnmarked, MembersBelong, StructureStands}
 use Rattle.value_model.specs.Valid.{AreValidMembers, IsValidValue}
 use Rattle.value_model.specs.World.{World}
-use Rattle.run_model.specs.Common.{Common}
-use Rattle.run_model.specs.Copies.{copied_members, copied_structure, copied_structures, copied_value, copy_of, mutable_members, mutable_number, mutable_numbers, reached_from, with_copies}
-use Rattle.run_model.specs.Effects.{with_world}
-use Rattle.run_model.specs.Levels.{distinct, levels}
-use Rattle.run_model.specs.Rows.{size_of}
+use Rattle.op_model.specs.Common.{Common}
+use Rattle.op_model.specs.Copies.{copied_members, copied_structure, copied_structures, copied_value, copy_of, mutable_members, mutable_number, mutable_numbers, reached_from, with_copies}
+use Rattle.op_model.specs.Effects.{with_world}
+use Rattle.op_model.specs.Levels.{distinct, levels}
+use Rattle.op_model.specs.Rows.{size_of}
 use Rattle.machine_model.proofs.Once.{some-same}
 use Rattle.stack_code.specs.declared.code.Code.{Code}
 use Rattle.stack_code.specs.Tables.{IsInherent}

@@ -16,15 +16,15 @@ use Rattle.value_model.specs.declared.value.Value.{Value}
 use Rattle.value_model.specs.declared.value.Value.TheVariants.{Nil}
 use Rattle.value_model.specs.Heap.{cells}
 use Rattle.value_model.specs.Meaning.{Answers}
-use Rattle.run_model.specs.Common.{Activation, Asker, Common, Role}
-use Rattle.run_model.specs.Copies.{copy_of, with_copies}
-use Rattle.run_model.specs.Effects.{Beyond, Effect, Gives, with_world}
-use Rattle.run_model.specs.Limits.{most_cells}
-use Rattle.run_model.specs.Local.{Later, Local, acts, takes, with_stack}
-use Rattle.run_model.specs.Messages.{one_sent, sends}
-use Rattle.run_model.specs.Operands.{One}
-use Rattle.run_model.specs.Performs.{AsWorker, Performs}
-use Rattle.run_model.specs.Strands.{activation_at, channel_at, settled, with_channel, woken}
+use Rattle.op_model.specs.Common.{Activation, Caller, Common, Role}
+use Rattle.op_model.specs.Copies.{copy_of, with_copies}
+use Rattle.op_model.specs.Effects.{Beyond, Effect, Gives, with_world}
+use Rattle.op_model.specs.Limits.{most_cells}
+use Rattle.op_model.specs.Local.{Later, Local, acts, takes, with_stack}
+use Rattle.op_model.specs.Messages.{one_sent, sends}
+use Rattle.op_model.specs.Operands.{One}
+use Rattle.op_model.specs.Performs.{AsWorker, Performs}
+use Rattle.op_model.specs.Strands.{activation_at, channel_at, settled, with_channel, woken}
 use Rattle.machine_model.specs.Following.{EndsFrame}
 use Rattle.machine_model.specs.Keeping.{AskFits, EffectFits}
 use Rattle.machine_model.specs.Machine.{Ask, Frame, asks, captured_slots}
@@ -90,7 +90,7 @@ module _ (code : Code) (fillers : ℕ → List Filler) (natives : Answers) (t : 
     one : OneOperand typed.operands (λ s. Unit {0})
     fit : (d : Common) → GoodCommon code d Running → AllFit code d given (option_to_list typed.result)
     begins : (captured : List ℕ) → acts captured o l ≡ takes o l 1
-    performs : (vs : List Value) (asker : Asker) (effect : Effect) → Performs (code_facts fillers code) natives o vs asker c effect ↔ One vs (λ v. AsWorker asker (λ r. effect ≡ sends c r w v given))
+    performs : (vs : List Value) (caller : Caller) (effect : Effect) → Performs (code_facts fillers code) natives o vs caller c effect ↔ One vs (λ v. AsWorker caller (λ r. effect ≡ sends c r w v given))
 
   module _ (given : List Value) (it : IsSend given) where
     abbrev Effects : List Value → Effect → Type 0
@@ -190,17 +190,17 @@ module _ (code : Code) (fillers : ℕ → List Filler) (natives : Answers) (t : 
     with-taken : (r : Role) → f.role ≡ Some r → (a : SemType) → typed.operands ≡ a ∷ [] → IsTaken (Fits code c) o l typed.rest (a ∷ []) → Looks (asks (standing (p + 1) f.control.traps) (takes o l 1))
     with-taken r er a ea taken = by taken.args taken.fit taken.is taken.stack
       where
-        asker : Asker
-        asker = record { unit = f.unit; role = f.role; depth = depth }
+        caller : Caller
+        caller = record { unit = f.unit; role = f.role; depth = depth }
 
         by : (args : List Value) → AllFit code c args (a ∷ []) → takes o l 1 ≡ Later o args (with_stack l taken.below) → l.stack ≡ reverse args ++ taken.below → Looks (asks (standing (p + 1) f.control.traps) (takes o l 1))
         by [] fit is stack = absurd fit
         by (v ∷ u ∷ vs) fit is stack = absurd fit.1
         by (v ∷ []) (fv, end) is stack =
             subst (λ q. Looks (asks (standing (p + 1) f.control.traps) q)) (sym is) (
-              (λ effect does. subst (λ e. Effects taken.below e) (sym (subst (λ q. IsSomeAnd q (λ r. effect ≡ sends c r w v given)) er ((it.performs (v ∷ []) asker effect).0 does)))
+              (λ effect does. subst (λ e. Effects taken.below e) (sym (subst (λ q. IsSomeAnd q (λ r. effect ≡ sends c r w v given)) er ((it.performs (v ∷ []) caller effect).0 does)))
                   (all-sent r er a ea v taken.below fv stack taken.others)),
-              (λ never. never (sends c r w v given) ((it.performs (v ∷ []) asker (sends c r w v given)).1 (subst (λ q. IsSomeAnd q (λ z. sends c r w v given ≡ sends c z w v given)) (sym er) refl))),
+              (λ never. never (sends c r w v given) ((it.performs (v ∷ []) caller (sends c r w v given)).1 (subst (λ q. IsSomeAnd q (λ z. sends c r w v given ≡ sends c z w v given)) (sym er) refl))),
             )
 
     send-looks : Looks ((codes fillers code).look f.unit f.control)
@@ -241,7 +241,7 @@ module _ (code : Code) (fillers : ℕ → List Filler) (natives : Answers) (t : 
           one = one-of _ _ (λ s h. tt) row.operands row.typed;
           fit = nil-fits row.operands row.result row.typed;
           begins = λ captured. refl;
-          performs = λ vs asker effect. ((λ h. h), (λ h. h));
+          performs = λ vs caller effect. ((λ h. h), (λ h. h));
         }
 
     pub send-done : AskFits natives (codes fillers code) (code_invariant code) c depth f ((codes fillers code).look f.unit f.control) × AskComes natives (code_facts fillers code) c depth f ((codes fillers code).look f.unit f.control)
@@ -264,7 +264,7 @@ module _ (code : Code) (fillers : ℕ → List Filler) (natives : Answers) (t : 
           one = one-of _ _ (λ s h. tt) post-row.operands post-row.typed;
           fit = λ d ok. nothing-fits post-row.operands post-row.result post-row.typed d;
           begins = λ captured. refl;
-          performs = λ vs asker effect. ((λ h. h), (λ h. h));
+          performs = λ vs caller effect. ((λ h. h), (λ h. h));
         }
 
     pub post-done : AskFits natives (codes fillers code) (code_invariant code) c depth f ((codes fillers code).look f.unit f.control) × AskComes natives (code_facts fillers code) c depth f ((codes fillers code).look f.unit f.control)

@@ -1,7 +1,7 @@
 //! Laws of steps that send messages. These calls do nothing: their clauses are laws.
 ghost use Rattle.code_keeping_sends.specs.Laws.{SendsAreDone};
 
-use run_model::Meaning;
+use op_model::Meaning;
 
 /// What a frame of well-typed code asks for fits, whatever comes, and something comes, where a message is sent: each mutable
 /// structure that it reaches is copied, and the copy fits where the value fits.

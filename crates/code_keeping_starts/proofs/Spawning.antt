@@ -8,8 +8,8 @@ use Rattle.std.proofs.lemmas.Option.{slice_get_within}
 use Rattle.std.specs.Prelude.{◌⊎◌, ◌&&◌, ◌||◌, All, Contains, IsTrue, get_or, if◌then◌else◌, is_some, not, slice_get}
 use Rattle.std.specs.List.{list_all, list_any}
 use Rattle.value_model.specs.Heap.{values_of}
-use Rattle.run_model.specs.Common.{AllEnded, AnyGiven, Common, IsActive, IsBlocked, Message, Need, Received, Role, Strand}
-use Rattle.run_model.specs.Strands.{end_in, ended_count, has_ended, has_success, is_success, met, no_strand, strand_at, strand_made}
+use Rattle.op_model.specs.Common.{AllEnded, AnyGiven, Common, IsActive, IsBlocked, Message, Need, Received, Role, Strand}
+use Rattle.op_model.specs.Strands.{end_in, ended_count, has_ended, has_success, is_success, met, no_strand, strand_at, strand_made}
 use Rattle.machine_model.specs.Runs.{Running}
 use Rattle.stack_code.specs.declared.code.Code.{Code}
 use Rattle.stack_code.specs.Good.{GoodCommon, GoodReady, IsKnown, IsLater, IsSameStrand, NeedIsThere, StrandAt, StrandFits, WorkerStays}

@@ -12,12 +12,12 @@ use Rattle.value_model.specs.declared.filler.Filler.{Filler}
 use Rattle.value_model.specs.declared.value.Value.{Value}
 use Rattle.value_model.specs.declared.value.Value.TheVariants.{Future}
 use Rattle.value_model.specs.Meaning.{Answers}
-use Rattle.run_model.specs.CallRows.{starts}
-use Rattle.run_model.specs.Common.{Common, Strand}
-use Rattle.run_model.specs.Effects.{Beyond, Effect, Spawns}
-use Rattle.run_model.specs.Limits.{most_strands}
-use Rattle.run_model.specs.Local.{Local, takes, with_stack}
-use Rattle.run_model.specs.Strands.{strand_made}
+use Rattle.op_model.specs.CallRows.{starts}
+use Rattle.op_model.specs.Common.{Common, Strand}
+use Rattle.op_model.specs.Effects.{Beyond, Effect, Spawns}
+use Rattle.op_model.specs.Limits.{most_strands}
+use Rattle.op_model.specs.Local.{Local, takes, with_stack}
+use Rattle.op_model.specs.Strands.{strand_made}
 use Rattle.machine_model.specs.Keeping.{AskFits, EffectFits}
 use Rattle.machine_model.specs.Machine.{Ask, Frame, asks, captured_slots}
 use Rattle.machine_model.specs.Runs.{Running}

@@ -15,13 +15,13 @@ use Rattle.value_model.specs.declared.value.Value.{Value}
 use Rattle.value_model.specs.Heap.{AreAlike, Items, Members, Structure, values_of}
 use Rattle.value_model.specs.Stands.{Belongs, BelongsIf, ItemsBelong, MembersBelong}
 use Rattle.value_model.specs.Valid.{AreValidMembers, IsValidValue}
-use Rattle.run_model.specs.Common.{Common}
-use Rattle.run_model.specs.Effects.{lifted}
-use Rattle.run_model.specs.Fillers.{IsThereFiller, filler_structures, filler_values, fillers_from, inner_fillers, new_ones}
-use Rattle.run_model.specs.Levels.{all_of, levels}
-use Rattle.run_model.specs.Limits.{most_items}
-use Rattle.run_model.specs.Rows.{gives_nothing, next_structure, panics, within}
-use Rattle.run_model.specs.Stores.{StoresAt, atom_of, fillers_of, fixed_fillers, set_item, stored, structures_for, type_at_place}
+use Rattle.op_model.specs.Common.{Common}
+use Rattle.op_model.specs.Effects.{lifted}
+use Rattle.op_model.specs.Fillers.{IsThereFiller, filler_structures, filler_values, fillers_from, inner_fillers, new_ones}
+use Rattle.op_model.specs.Levels.{all_of, levels}
+use Rattle.op_model.specs.Limits.{most_items}
+use Rattle.op_model.specs.Rows.{gives_nothing, next_structure, panics, within}
+use Rattle.op_model.specs.Stores.{StoresAt, atom_of, fillers_of, fixed_fillers, set_item, stored, structures_for, type_at_place}
 use Rattle.machine_model.specs.Runs.{Running}
 use Rattle.stack_code.specs.declared.code.Code.{Code}
 use Rattle.stack_code.specs.Good.{GoodCommon}

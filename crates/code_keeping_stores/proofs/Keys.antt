@@ -20,13 +20,13 @@ use Rattle.value_model.specs.Heap.{AreAlike, Entries, Members, Structure, entry_
 use Rattle.value_model.specs.Meaning.{Answers}
 use Rattle.value_model.specs.Stands.{Belongs, BelongsIf, MembersBelong}
 use Rattle.value_model.specs.Valid.{AreValidMembers, IsValidValue}
-use Rattle.run_model.specs.Common.{Common}
-use Rattle.run_model.specs.Effects.{lifted}
-use Rattle.run_model.specs.Facts.{own_types}
-use Rattle.run_model.specs.Performs.{Performs}
-use Rattle.run_model.specs.Rows.{gives_nothing, panics, within}
-use Rattle.run_model.specs.Stores.{StoresKey, atom_of, set_entry, stored, type_at_key}
-use Rattle.run_model.specs.StructureRows.{SetsKey}
+use Rattle.op_model.specs.Common.{Common}
+use Rattle.op_model.specs.Effects.{lifted}
+use Rattle.op_model.specs.ProgramFacts.{own_types}
+use Rattle.op_model.specs.Performs.{Performs}
+use Rattle.op_model.specs.Rows.{gives_nothing, panics, within}
+use Rattle.op_model.specs.Stores.{StoresKey, atom_of, set_entry, stored, type_at_key}
+use Rattle.op_model.specs.StructureRows.{SetsKey}
 use Rattle.machine_model.specs.Runs.{Running}
 use Rattle.stack_code.specs.declared.code.Code.{Code}
 use Rattle.stack_code.specs.CodeMachine.{code_facts}
@@ -114,12 +114,12 @@ module _ (code : Code) (c : Common) (good : GoodCommon code c Running) (n : ℕ)
 
 module _ (fillers : ℕ → List Filler) (natives : Answers) (code : Code) (t : WellTyped code) (c : Common) (place : Surroundings) where
   pub set-key : RowHolds code fillers natives c place op.SetKey
-  set-key operands result vs asker good (typed, none) fit =
-      three-fit code c (λ us. AllCome code c result (Performs (code_facts fillers code) natives op.SetKey us asker c)) operands vs _ typed fit
+  set-key operands result vs caller good (typed, none) fit =
+      three-fit code c (λ us. AllCome code c result (Performs (code_facts fillers code) natives op.SetKey us caller c)) operands vs _ typed fit
       (λ a b g v w x (first, second, third) fv fw fx.
-      a-mapping c.world.heap (λ z. AllCome code c result (Performs (code_facts fillers code) natives op.SetKey (z ∷ w ∷ x ∷ []) asker c)) v (of-kind code t c good.nearly.heap (λ k. k ≡ Mappings) v a fv (λ y h. mappings y (first y h)))
+      a-mapping c.world.heap (λ z. AllCome code c result (Performs (code_facts fillers code) natives op.SetKey (z ∷ w ∷ x ∷ []) caller c)) v (of-kind code t c good.nearly.heap (λ k. k ≡ Mappings) v a fv (λ y h. mappings y (first y h)))
       (λ n s es e is.
-      a-string c.world.heap (λ z. Fits code c z b → AllCome code c result (Performs (code_facts fillers code) natives op.SetKey (Struct n ∷ z ∷ x ∷ []) asker c)) w (of-kind code t c good.nearly.heap (λ k. k ≡ Strings) w b fw (λ y h. strings y (second y h)))
+      a-string c.world.heap (λ z. Fits code c z b → AllCome code c result (Performs (code_facts fillers code) natives op.SetKey (Struct n ∷ z ∷ x ∷ []) caller c)) w (of-kind code t c good.nearly.heap (λ k. k ≡ Strings) w b fw (λ y h. strings y (second y h)))
       (λ key fk. on-world code c good result (λ w. SetsKey (own_types (code_facts fillers code)) fillers w n key x)
       (subst (λ own. Does code c good result (λ came. SetsKey own fillers c.world n key x came)) (sym (own-same fillers code))
       (at-mapping code t c good result n s es e is (λ s es came. StoresKey (code_types code) fillers c.world n s es key x came)

@@ -14,11 +14,11 @@ use Rattle.value_model.specs.Stands.{IsUnmarked, MembersBelong}
 use Rattle.value_model.specs.Valid.{AreValidMembers}
 use Rattle.value_model.specs.declared.value.Value.{Value}
 use Rattle.value_model.specs.World.{Gave, World}
-use Rattle.run_model.specs.Common.{Common}
-use Rattle.run_model.specs.Effects.{lifted, with_world}
-use Rattle.run_model.specs.Limits.{most_cells}
-use Rattle.run_model.specs.Rows.{gives_nothing, size_of, within}
-use Rattle.run_model.specs.Stores.{stored, with_members}
+use Rattle.op_model.specs.Common.{Common}
+use Rattle.op_model.specs.Effects.{lifted, with_world}
+use Rattle.op_model.specs.Limits.{most_cells}
+use Rattle.op_model.specs.Rows.{gives_nothing, size_of, within}
+use Rattle.op_model.specs.Stores.{stored, with_members}
 use Rattle.machine_model.specs.Runs.{Running}
 use Rattle.machine_model.proofs.Once.{some-same}
 use Rattle.stack_code.specs.declared.code.Code.{Code}

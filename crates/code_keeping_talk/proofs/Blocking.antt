@@ -3,8 +3,8 @@ use Rattle.std.proofs.Common.{◌≡◌, ◌≢◌, ◌<◌, ◌+◌, ◌∙◌,
 use Rattle.std.specs.Prelude.{◌⊎◌, ◌&&◌, ◌||◌, All, Contains, IsSomeAnd, IsTrue, get_or, if◌then◌else◌, is_some, not, slice_get, slice_set}
 use Rattle.std.specs.List.{list_all, list_any}
 use Rattle.value_model.specs.Heap.{values_of}
-use Rattle.run_model.specs.Common.{AllEnded, AnyGiven, Common, End, IsActive, IsBlocked, Message, Need, Received, Role, Strand}
-use Rattle.run_model.specs.Strands.{end_in, end_of, ended_count, has_ended, has_success, is_success, met, no_strand, strand_at, strand_blocked, with_status}
+use Rattle.op_model.specs.Common.{AllEnded, AnyGiven, Common, End, IsActive, IsBlocked, Message, Need, Received, Role, Strand}
+use Rattle.op_model.specs.Strands.{end_in, end_of, ended_count, has_ended, has_success, is_success, met, no_strand, strand_at, strand_blocked, with_status}
 use Rattle.machine_model.specs.Runs.{Picking, Running}
 use Rattle.machine_model.proofs.Once.{some-same}
 use Rattle.stack_code.specs.declared.code.Code.{Code}

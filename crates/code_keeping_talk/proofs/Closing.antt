@@ -2,8 +2,8 @@
 use Rattle.std.proofs.Common.{◌≡◌, ◌≢◌, ◌<◌, ◌∙◌, ℕ, zero, suc, List, [], ◌∷◌, Option, Some, None, inl, inr, length, refl, sym, ap, subst}
 use Rattle.std.specs.Prelude.{◌⊎◌, IsTrue, get_or, is_some, slice_get, slice_set}
 use Rattle.value_model.specs.declared.value.Value.{Value}
-use Rattle.run_model.specs.Common.{Activation, Common, End, Panicked, Role}
-use Rattle.run_model.specs.Strands.{with_activation, worker_ended}
+use Rattle.op_model.specs.Common.{Activation, Common, End, Panicked, Role}
+use Rattle.op_model.specs.Strands.{with_activation, worker_ended}
 use Rattle.machine_model.specs.Runs.{Running}
 use Rattle.stack_code.specs.declared.code.Code.{Code}
 use Rattle.stack_code.specs.Activations.{GoodActivation, HasTally, WorkerEndFits}

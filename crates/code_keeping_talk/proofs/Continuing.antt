@@ -5,8 +5,8 @@ use Rattle.std.proofs.lemmas.List.Elements.{All-head, All-tail}
 use Rattle.std.specs.Prelude.{◌⊎◌, ◌&&◌, ◌==◌, All, if◌then◌else◌, option_map, slice_get}
 use Rattle.value_model.specs.declared.filler.Filler.{Filler}
 use Rattle.value_model.specs.declared.value.Value.{Value}
-use Rattle.run_model.specs.Common.{AllEnded, AnyGiven, Common, Message, Need, Received, Role, Strand}
-use Rattle.run_model.specs.Strands.{end_in, is_success, settled}
+use Rattle.op_model.specs.Common.{AllEnded, AnyGiven, Common, Message, Need, Received, Role, Strand}
+use Rattle.op_model.specs.Strands.{end_in, is_success, settled}
 use Rattle.machine_model.specs.Runs.{Running}
 use Rattle.machine_model.proofs.Once.{some-same}
 use Rattle.stack_code.specs.declared.code.Code.{Code}

@@ -8,8 +8,8 @@ use Rattle.operations.specs.Rows.{IsWithin}
 use Rattle.value_model.specs.declared.value.Value.{Value}
 use Rattle.value_model.specs.declared.value.Value.TheVariants.{Nil, Bool as Truth, Int, Str, Struct, Error, Function, Future}
 use Rattle.value_model.specs.Heap.{Entries, Items, Members, Structure, values_of}
-use Rattle.run_model.specs.Common.{AllEnded, AnyGiven, Common, End, IsActive, IsEnded, Message, Need, Panicked, Received, Returned, Role, Strand}
-use Rattle.run_model.specs.Strands.{end_in, ended_count, has_ended, no_strand, strand_at, strand_ended, with_status}
+use Rattle.op_model.specs.Common.{AllEnded, AnyGiven, Common, End, IsActive, IsEnded, Message, Need, Panicked, Received, Returned, Role, Strand}
+use Rattle.op_model.specs.Strands.{end_in, ended_count, has_ended, no_strand, strand_at, strand_ended, with_status}
 use Rattle.machine_model.specs.Runs.{Picking, Running}
 use Rattle.machine_model.proofs.Once.{some-same}
 use Rattle.stack_code.specs.declared.code.Code.{Code}

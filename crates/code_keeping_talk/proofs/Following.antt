@@ -2,7 +2,7 @@
 use Rattle.std.proofs.Common.{◌∙◌, List, ◌++◌, Option, Some, None, sym, ap, subst}
 use Rattle.std.specs.Prelude.{IsFalse, slice_get}
 use Rattle.value_model.specs.Heap.{AreAlike, Begins, Entries, Grows, Heap, Items, Members, Stays, Structure}
-use Rattle.run_model.specs.Common.{Role}
+use Rattle.op_model.specs.Common.{Role}
 use Rattle.stack_code.specs.Good.{IsSameCall, IsSameStrand, WorkerStays}
 use Rattle.code_keeping.proofs.Lists.{assoc, some-there, some-to}
 use Rattle.code_keeping_talk.specs.Laws.{LaterFollows}

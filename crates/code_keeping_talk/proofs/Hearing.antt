@@ -15,13 +15,13 @@ use Rattle.value_model.specs.declared.filler.Filler.{Filler}
 use Rattle.value_model.specs.declared.value.Value.{Value}
 use Rattle.value_model.specs.declared.value.Value.TheVariants.{Nil}
 use Rattle.value_model.specs.Meaning.{Answers}
-use Rattle.run_model.specs.Common.{Activation, Asker, Channel, Common, End, Message, Panicked, Received, Returned, Role}
-use Rattle.run_model.specs.Effects.{Effect, Fails, Gives}
-use Rattle.run_model.specs.Local.{Later, Local, acts, with_stack}
-use Rattle.run_model.specs.Messages.{flushes, receives, receives_end, receives_from, flushes_end}
-use Rattle.run_model.specs.Operands.{NoOperand as PerformsNone}
-use Rattle.run_model.specs.Performs.{AsWorker, Performs}
-use Rattle.run_model.specs.Strands.{activation_at, channel_at, is_there, settled, woken, worker_end}
+use Rattle.op_model.specs.Common.{Activation, Caller, Channel, Common, End, Message, Panicked, Received, Returned, Role}
+use Rattle.op_model.specs.Effects.{Effect, Fails, Gives}
+use Rattle.op_model.specs.Local.{Later, Local, acts, with_stack}
+use Rattle.op_model.specs.Messages.{flushes, receives, receives_end, receives_from, flushes_end}
+use Rattle.op_model.specs.Operands.{NoOperand as PerformsNone}
+use Rattle.op_model.specs.Performs.{AsWorker, Performs}
+use Rattle.op_model.specs.Strands.{activation_at, channel_at, is_there, settled, woken, worker_end}
 use Rattle.machine_model.specs.Following.{EndsFrame}
 use Rattle.machine_model.specs.Keeping.{AskFits, EffectFits, KeepsStrands}
 use Rattle.machine_model.specs.Machine.{Ask, Frame, asks, captured_slots, goes_to}
@@ -262,7 +262,7 @@ module _ (code : Code) (fillers : ℕ → List Filler) (natives : Answers) (t : 
     pub talk : talk_of o ≡ Flushes w
     pub row : (place : Surroundings) (operands : List SemType) (result : Option SemType) → OpTyped code.atoms place o operands result → NoOperand operands × ResultHas code.atoms result IsNil
     pub begins : (captured : List ℕ) (l : Local) → acts captured o l ≡ Later o [] l
-    pub performs : (vs : List Value) (asker : Asker) (effect : Effect) → Performs (code_facts fillers code) natives o vs asker c effect ↔ PerformsNone vs (AsWorker asker (λ r. effect ≡ flushes c r w))
+    pub performs : (vs : List Value) (caller : Caller) (effect : Effect) → Performs (code_facts fillers code) natives o vs caller c effect ↔ PerformsNone vs (AsWorker caller (λ r. effect ≡ flushes c r w))
 
   is-flush : IsFlush
   is-flush = by which
@@ -273,14 +273,14 @@ module _ (code : Code) (fillers : ℕ → List Filler) (natives : Answers) (t : 
         talk = ap talk_of e;
         row = λ place os res h. subst (λ z. OpTyped code.atoms place z os res) e h;
         begins = λ captured l. ap (λ z. acts captured z l) e ∙ ap (λ z. Later z [] l) (sym e);
-        performs = λ vs asker effect. ((λ h. subst (λ z. Performs (code_facts fillers code) natives z vs asker c effect) e h), (λ h. subst (λ z. Performs (code_facts fillers code) natives z vs asker c effect) (sym e) h));
+        performs = λ vs caller effect. ((λ h. subst (λ z. Performs (code_facts fillers code) natives z vs caller c effect) e h), (λ h. subst (λ z. Performs (code_facts fillers code) natives z vs caller c effect) (sym e) h));
       }
       by (inr e) = record {
         goes = λ h. subst EndsFrame e h;
         talk = ap talk_of e;
         row = λ place os res h. subst (λ z. OpTyped code.atoms place z os res) e h;
         begins = λ captured l. ap (λ z. acts captured z l) e ∙ ap (λ z. Later z [] l) (sym e);
-        performs = λ vs asker effect. ((λ h. subst (λ z. Performs (code_facts fillers code) natives z vs asker c effect) e h), (λ h. subst (λ z. Performs (code_facts fillers code) natives z vs asker c effect) (sym e) h));
+        performs = λ vs caller effect. ((λ h. subst (λ z. Performs (code_facts fillers code) natives z vs caller c effect) e h), (λ h. subst (λ z. Performs (code_facts fillers code) natives z vs caller c effect) (sym e) h));
       }
 
   abbrev it : IsFlush
@@ -348,10 +348,10 @@ module _ (code : Code) (fillers : ℕ → List Filler) (natives : Answers) (t : 
   pub flush-done : FlushLooks ((codes fillers code).look f.unit f.control)
   flush-done =
       let (r, er) = its-role code fillers natives t c depth good f fits at o ec it.goes w (ap peers_in it.talk) in
-      let asker : Asker = record { unit = f.unit; role = f.role; depth = depth } in
+      let caller : Caller = record { unit = f.unit; role = f.role; depth = depth } in
       subst (λ x. FlushLooks (obeys (captured_slots (code_facts fillers code) f.unit) f.control x)) (sym ec)
       (subst (λ a. FlushLooks (asks (standing (f.control.place + 1) f.control.traps) a)) (sym (it.begins (captured_slots (code_facts fillers code) f.unit) f.control.local)) (
         (λ effect does. subst (λ e. EffectFits natives (codes fillers code) (code_invariant code) c depth f (standing (f.control.place + 1) f.control.traps f.control.local) e)
-            (sym (subst (λ q. IsSomeAnd q (λ z. effect ≡ flushes c z w)) er ((it.performs [] asker effect).0 does))) (flushed r er)),
-        (λ never. never (flushes c r w) ((it.performs [] asker (flushes c r w)).1 (subst (λ q. IsSomeAnd q (λ z. flushes c r w ≡ flushes c z w)) (sym er) refl))),
+            (sym (subst (λ q. IsSomeAnd q (λ z. effect ≡ flushes c z w)) er ((it.performs [] caller effect).0 does))) (flushed r er)),
+        (λ never. never (flushes c r w) ((it.performs [] caller (flushes c r w)).1 (subst (λ q. IsSomeAnd q (λ z. flushes c r w ≡ flushes c z w)) (sym er) refl))),
       ))

@@ -2,8 +2,8 @@
 use Rattle.std.proofs.Common.{◌≡◌, ℕ, zero, suc, List, [], ◌∷◌, Option, Some, None, inl, inr, reverse, refl, sym, subst}
 use Rattle.std.specs.Prelude.{IsTrue, get_or, is_some, slice_get}
 use Rattle.value_model.specs.declared.value.Value.{Value}
-use Rattle.run_model.specs.Common.{Activation, Common, Role, Strand}
-use Rattle.run_model.specs.Strands.{end_in, has_ended, no_activation, no_strand}
+use Rattle.op_model.specs.Common.{Activation, Common, Role, Strand}
+use Rattle.op_model.specs.Strands.{end_in, has_ended, no_activation, no_strand}
 use Rattle.machine_model.specs.Keeping.{RunsOn}
 use Rattle.machine_model.specs.Machine.{Frame}
 use Rattle.stack_code.specs.declared.code.Code.{Code}

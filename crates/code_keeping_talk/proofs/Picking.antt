@@ -2,8 +2,8 @@
 use Rattle.std.proofs.Common.{◌≡◌, ◌≢◌, ◌<◌, ◌∙◌, ℕ, zero, suc, List, [], ◌∷◌, Option, Some, None, inl, inr, length, refl, sym, subst, arith}
 use Rattle.std.proofs.lemmas.List.Elements.{All-cons, All-head, All-nil, All-tail}
 use Rattle.std.specs.Prelude.{◌⊎◌, All, AllPairs, Contains, IsSomeAnd, IsTrue, remove, slice_get, ⊤}
-use Rattle.run_model.specs.Common.{AllEnded, AnyGiven, Common, IsActive, Message, Need, Received, Role, Strand}
-use Rattle.run_model.specs.Strands.{end_in, met}
+use Rattle.op_model.specs.Common.{AllEnded, AnyGiven, Common, IsActive, Message, Need, Received, Role, Strand}
+use Rattle.op_model.specs.Strands.{end_in, met}
 use Rattle.machine_model.specs.Runs.{Picking, Running, taken_up}
 use Rattle.machine_model.proofs.Once.{some-same}
 use Rattle.stack_code.specs.declared.code.Code.{Code}

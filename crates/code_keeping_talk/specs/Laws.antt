@@ -4,8 +4,8 @@ use Rattle.operations.specs.declared.operation.Operation.TheVariants as op
 use Rattle.value_model.specs.declared.filler.Filler.{Filler}
 use Rattle.value_model.specs.declared.value.Value.{Value}
 use Rattle.value_model.specs.Meaning.{Answers}
-use Rattle.run_model.specs.Common.{Common, End, Need, Panicked, Returned, Role}
-use Rattle.run_model.specs.Strands.{has_ended, met, settled, strand_blocked, strand_ended, worker_ended}
+use Rattle.op_model.specs.Common.{Common, End, Need, Panicked, Returned, Role}
+use Rattle.op_model.specs.Strands.{has_ended, met, settled, strand_blocked, strand_ended, worker_ended}
 use Rattle.machine_model.specs.Keeping.{RunsOn}
 use Rattle.machine_model.specs.Machine.{Frame, next_units}
 use Rattle.machine_model.specs.Runs.{Picking, Running, taken_up}

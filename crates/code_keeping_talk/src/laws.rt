@@ -1,7 +1,7 @@
 //! Laws of steps that speak to workers, wait or end. These calls do nothing: their clauses are laws.
 ghost use Rattle.code_keeping_talk.specs.Laws.{BlockingKeeps, ClosingKeeps, ContinuingKeeps, EndingKeeps, LaterFollows, PickingKeeps, ReceivesAreDone, WhatHeldHolds};
 
-use run_model::Meaning;
+use op_model::Meaning;
 
 /// What comes later than something that comes later comes later.
 pub fn later_follows()

@@ -19,12 +19,12 @@ use Rattle.value_model.specs.declared.filler.Filler.{Filler}
 use Rattle.value_model.specs.declared.value.Value.TheVariants.{Struct}
 use Rattle.value_model.specs.Meaning.{Answers}
 use Rattle.value_model.specs.World.{Came, Gave, PassesCells, Threw}
-use Rattle.run_model.specs.Common.{AllEnded, Common}
-use Rattle.run_model.specs.Effects.{Beyond, Effect, Enters, Fails, Gives, Leaves, NoTick, Spawns, Waits, lifted}
-use Rattle.run_model.specs.Local.{takes}
-use Rattle.run_model.specs.Rows.{gives, next_structure, within}
-use Rattle.run_model.specs.Strands.{has_ended, met}
-use Rattle.run_model.specs.Waits.{Collected, FirstPanic, Results, Target, collects, field_names, gives_results, strands_in, targets, waits_all, with_results}
+use Rattle.op_model.specs.Common.{AllEnded, Common}
+use Rattle.op_model.specs.Effects.{Beyond, Effect, Enters, Fails, Gives, Leaves, NoTick, Spawns, Waits, lifted}
+use Rattle.op_model.specs.Local.{takes}
+use Rattle.op_model.specs.Rows.{gives, next_structure, within}
+use Rattle.op_model.specs.Strands.{has_ended, met}
+use Rattle.op_model.specs.Waits.{Collected, FirstPanic, Results, Target, collects, field_names, gives_results, strands_in, targets, waits_all, with_results}
 use Rattle.machine_model.specs.Keeping.{AskFits}
 use Rattle.machine_model.specs.Machine.{Frame}
 use Rattle.machine_model.specs.Runs.{Running}

@@ -15,11 +15,11 @@ use Rattle.operations.specs.Structures.{GivenByFuture, GivenByWorker}
 use Rattle.value_model.specs.declared.filler.Filler.{Filler}
 use Rattle.value_model.specs.declared.value.Value.TheVariants.{Future}
 use Rattle.value_model.specs.Meaning.{Answers}
-use Rattle.run_model.specs.Common.{AnyGiven, Common, Role, Strand}
-use Rattle.run_model.specs.Effects.{Effect, Waits}
-use Rattle.run_model.specs.Local.{takes}
-use Rattle.run_model.specs.Strands.{has_success, met}
-use Rattle.run_model.specs.Waits.{Target, chosen, earlier, future_target, gives_chosen, later, place_of_end, strands_in, targets, waits, waits_any, worker_target}
+use Rattle.op_model.specs.Common.{AnyGiven, Common, Role, Strand}
+use Rattle.op_model.specs.Effects.{Effect, Waits}
+use Rattle.op_model.specs.Local.{takes}
+use Rattle.op_model.specs.Strands.{has_success, met}
+use Rattle.op_model.specs.Waits.{Target, chosen, earlier, future_target, gives_chosen, later, place_of_end, strands_in, targets, waits, waits_any, worker_target}
 use Rattle.machine_model.specs.Keeping.{AskFits}
 use Rattle.machine_model.specs.Machine.{Frame}
 use Rattle.machine_model.specs.Runs.{Running}

@@ -6,11 +6,11 @@ use Rattle.operations.specs.Kinds.{IsError}
 use Rattle.operations.specs.Rows.{ResultHas}
 use Rattle.value_model.specs.declared.value.Value.{Value}
 use Rattle.value_model.specs.PanicName.{future_taken}
-use Rattle.run_model.specs.Common.{Common, End, Panicked, Returned, Role}
-use Rattle.run_model.specs.Effects.{lifted}
-use Rattle.run_model.specs.Rows.{gives_error}
-use Rattle.run_model.specs.Strands.{end_of, has_ended, strand_at}
-use Rattle.run_model.specs.Waits.{Collected, FirstPanic, Results, Target, behind, collects, collects_end, ends_with, gives_end, is_taken, took, waits, waits_for}
+use Rattle.op_model.specs.Common.{Common, End, Panicked, Returned, Role}
+use Rattle.op_model.specs.Effects.{lifted}
+use Rattle.op_model.specs.Rows.{gives_error}
+use Rattle.op_model.specs.Strands.{end_of, has_ended, strand_at}
+use Rattle.op_model.specs.Waits.{Collected, FirstPanic, Results, Target, behind, collects, collects_end, ends_with, gives_end, is_taken, took, waits, waits_for}
 use Rattle.machine_model.specs.Keeping.{KeepsStrands}
 use Rattle.machine_model.specs.Runs.{Running}
 use Rattle.stack_code.specs.declared.code.Code.{Code}

@@ -22,12 +22,12 @@ use Rattle.value_model.specs.PanicName.{future_taken}
 use Rattle.value_model.specs.Stands.{Belongs, BelongsIf, HasShape, IsUnmarked, MembersBelong, StructureStands}
 use Rattle.value_model.specs.Valid.{IsValidValue}
 use Rattle.value_model.specs.World.{World}
-use Rattle.run_model.specs.Common.{Common}
-use Rattle.run_model.specs.Effects.{lifted, with_world}
-use Rattle.run_model.specs.Levels.{numbers_from}
-use Rattle.run_model.specs.Limits.{most_cells}
-use Rattle.run_model.specs.Rows.{gives, new_structure, next_error, next_structure, within}
-use Rattle.run_model.specs.Waits.{missing, numbered, with_results}
+use Rattle.op_model.specs.Common.{Common}
+use Rattle.op_model.specs.Effects.{lifted, with_world}
+use Rattle.op_model.specs.Levels.{numbers_from}
+use Rattle.op_model.specs.Limits.{most_cells}
+use Rattle.op_model.specs.Rows.{gives, new_structure, next_error, next_structure, within}
+use Rattle.op_model.specs.Waits.{missing, numbered, with_results}
 use Rattle.machine_model.specs.Runs.{Running}
 use Rattle.machine_model.proofs.Once.{some-same}
 use Rattle.stack_code.specs.declared.code.Code.{Code}

@@ -12,12 +12,12 @@ use Rattle.operations.specs.Talk.{talk_of}
 use Rattle.value_model.specs.declared.filler.Filler.{Filler}
 use Rattle.value_model.specs.declared.value.Value.{Value}
 use Rattle.value_model.specs.Meaning.{Answers}
-use Rattle.run_model.specs.Common.{Activation, Asker, Common, Role, Strand}
-use Rattle.run_model.specs.Effects.{Effect}
-use Rattle.run_model.specs.Local.{takes}
-use Rattle.run_model.specs.Performs.{Performs}
-use Rattle.run_model.specs.Strands.{activation_at, no_activation}
-use Rattle.run_model.specs.Waits.{Target, future_target, waits, worker_target}
+use Rattle.op_model.specs.Common.{Activation, Caller, Common, Role, Strand}
+use Rattle.op_model.specs.Effects.{Effect}
+use Rattle.op_model.specs.Local.{takes}
+use Rattle.op_model.specs.Performs.{Performs}
+use Rattle.op_model.specs.Strands.{activation_at, no_activation}
+use Rattle.op_model.specs.Waits.{Target, future_target, waits, worker_target}
 use Rattle.machine_model.specs.Keeping.{AskFits}
 use Rattle.machine_model.specs.Machine.{Frame}
 use Rattle.machine_model.specs.Runs.{Running}
@@ -45,7 +45,7 @@ use Rattle.code_keeping.proofs.Operands.{a-future, futures, none-fit, none-long,
 use Rattle.code_keeping.proofs.Places.{IsAt, at-place}
 use Rattle.code_keeping_waits.specs.Laws.{SingleWaitsAreDone}
 use Rattle.code_keeping_waits.proofs.Targets.{future-waits, worker-waits}
-use Rattle.code_keeping_waits.proofs.Waiting.{Looks, RowWaits, WaitTyped, asker, typed, waits-done}
+use Rattle.code_keeping_waits.proofs.Waiting.{Looks, RowWaits, WaitTyped, caller, typed, waits-done}
 
 -- ---- the strand of a worker
 
@@ -135,8 +135,8 @@ module _ (code : Code) (t : WellTyped code) (c : Common) (good : GoodCommon code
 
 module _ (code : Code) (fillers : ℕ → List Filler) (natives : Answers) (t : WellTyped code) (c : Common) (depth : ℕ) (good : GoodCommon code c Running) (f : Frame Standing) (fits : TopFits code c f) (at : IsAt code c f) where
   module _ (ec : command_at code f.control.place ≡ Some (Do op.WaitFuture)) where
-    abbrev who : Asker
-    who = asker code fillers natives t c depth good f fits at op.WaitFuture ec (λ h. h) (λ n tally. refl) (λ tally. refl)
+    abbrev who : Caller
+    who = caller code fillers natives t c depth good f fits at op.WaitFuture ec (λ h. h) (λ n tally. refl) (λ tally. refl)
 
     abbrev future-typed : DoesTyped code at.u at.station f.control.place op.WaitFuture
     future-typed = typed code fillers natives t c depth good f fits at op.WaitFuture ec (λ h. h) (λ n tally. refl) (λ tally. refl)
@@ -165,11 +165,11 @@ module _ (code : Code) (fillers : ℕ → List Filler) (natives : Answers) (t : 
       abbrev row : DoesTyped code here.u here.station f.control.place o
       row = typed code fillers natives t c depth good f fits here o ec (λ h. h) (λ n tally. refl) (λ tally. refl)
 
-      abbrev its-asker : Asker
-      its-asker = asker code fillers natives t c depth good f fits here o ec (λ h. h) (λ n tally. refl) (λ tally. refl)
+      abbrev its-caller : Caller
+      its-caller = caller code fillers natives t c depth good f fits here o ec (λ h. h) (λ n tally. refl) (λ tally. refl)
 
       abbrev ComesTo : List Value → Type 0
-      ComesTo us = ((effect : Effect) → Performs (code_facts fillers code) natives o us its-asker c effect → WaitTyped code c row.result effect) × Comes (Performs (code_facts fillers code) natives o us its-asker c)
+      ComesTo us = ((effect : Effect) → Performs (code_facts fillers code) natives o us its-caller c effect → WaitTyped code c row.result effect) × Comes (Performs (code_facts fillers code) natives o us its-caller c)
 
       worker-row : RowWaits code fillers natives t c depth good f fits here o ec (λ h. h) (λ n tally. refl) (λ tally. refl)
       worker-row args fit =

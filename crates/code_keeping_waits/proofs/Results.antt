@@ -19,9 +19,9 @@ use Rattle.value_model.specs.declared.value.Value.TheVariants.{Error, Future}
 use Rattle.value_model.specs.Heap.{Heap}
 use Rattle.value_model.specs.PanicName.{future_taken}
 use Rattle.value_model.specs.Stands.{HasShape, Stands}
-use Rattle.run_model.specs.Common.{Common}
-use Rattle.run_model.specs.Effects.{lifted, with_world}
-use Rattle.run_model.specs.Rows.{gives_error, makes_error, next_error}
+use Rattle.op_model.specs.Common.{Common}
+use Rattle.op_model.specs.Effects.{lifted, with_world}
+use Rattle.op_model.specs.Rows.{gives_error, makes_error, next_error}
 use Rattle.machine_model.specs.Runs.{Running}
 use Rattle.stack_code.specs.declared.code.Code.{Code}
 use Rattle.stack_code.specs.declared.code.Unit.{Unit as CodeUnit}

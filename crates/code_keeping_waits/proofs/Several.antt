@@ -10,9 +10,9 @@ use Rattle.operations.specs.Structures.{AwaitsEach, GivenByFuture, GivenByWorker
 use Rattle.operations.specs.Talk.{workers_in}
 use Rattle.value_model.specs.declared.value.Value.{Value}
 use Rattle.value_model.specs.declared.value.Value.TheVariants.{Future}
-use Rattle.run_model.specs.Common.{Common, Role}
-use Rattle.run_model.specs.Local.{futures_in}
-use Rattle.run_model.specs.Waits.{Target, future_target, targets, with_target, worker_target}
+use Rattle.op_model.specs.Common.{Common, Role}
+use Rattle.op_model.specs.Local.{futures_in}
+use Rattle.op_model.specs.Waits.{Target, future_target, targets, with_target, worker_target}
 use Rattle.stack_code.specs.declared.code.Code.{Code}
 use Rattle.stack_code.specs.Values.{AllFit, Fits}
 

@@ -2,9 +2,9 @@
 use Rattle.std.proofs.Common.{◌≡◌, ◌≢◌, ◌<◌, ◌+◌, ◌∙◌, ℕ, zero, suc, Bool, true, false, List, [], ◌∷◌, Option, Some, None, inl, inr, length, refl, sym, ap, subst}
 use Rattle.std.specs.Prelude.{◌⊎◌, All, IsSomeAnd, IsTrue, if◌then◌else◌, is_some, slice_get, slice_set}
 use Rattle.value_model.specs.Heap.{values_of}
-use Rattle.run_model.specs.Common.{AllEnded, AnyGiven, Common, IsActive, IsBlocked, Message, Need, Received, Role, Strand}
-use Rattle.run_model.specs.Strands.{end_in, ended_count, met, no_strand, strand_at}
-use Rattle.run_model.specs.Waits.{future_target, took}
+use Rattle.op_model.specs.Common.{AllEnded, AnyGiven, Common, IsActive, IsBlocked, Message, Need, Received, Role, Strand}
+use Rattle.op_model.specs.Strands.{end_in, ended_count, met, no_strand, strand_at}
+use Rattle.op_model.specs.Waits.{future_target, took}
 use Rattle.machine_model.specs.Keeping.{KeepsStrands}
 use Rattle.machine_model.specs.Runs.{Running}
 use Rattle.machine_model.proofs.Alike.{calm-took}

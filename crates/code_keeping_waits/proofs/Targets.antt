@@ -11,11 +11,11 @@ use Rattle.value_model.specs.declared.value.Value.{Value}
 use Rattle.value_model.specs.declared.value.Value.TheVariants.{Future}
 use Rattle.value_model.specs.PanicName.{future_taken}
 use Rattle.value_model.specs.World.{Came, Gave, PassesCells, Threw}
-use Rattle.run_model.specs.Common.{AllEnded, Common, End, Panicked, Returned, Strand}
-use Rattle.run_model.specs.Effects.{Effect, lifted}
-use Rattle.run_model.specs.Rows.{gives_error}
-use Rattle.run_model.specs.Strands.{end_in, end_of, met, no_strand, strand_at}
-use Rattle.run_model.specs.Waits.{Target, ends_with, future_target, is_taken, took, waits, waits_for}
+use Rattle.op_model.specs.Common.{AllEnded, Common, End, Panicked, Returned, Strand}
+use Rattle.op_model.specs.Effects.{Effect, lifted}
+use Rattle.op_model.specs.Rows.{gives_error}
+use Rattle.op_model.specs.Strands.{end_in, end_of, met, no_strand, strand_at}
+use Rattle.op_model.specs.Waits.{Target, ends_with, future_target, is_taken, took, waits, waits_for}
 use Rattle.machine_model.specs.Runs.{Running}
 use Rattle.stack_code.specs.declared.code.Code.{Code}
 use Rattle.stack_code.specs.declared.code.Unit.{Unit as CodeUnit}

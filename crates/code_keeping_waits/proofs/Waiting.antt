@@ -6,11 +6,11 @@ use Rattle.operations.specs.Talk.{talk_of}
 use Rattle.value_model.specs.declared.filler.Filler.{Filler}
 use Rattle.value_model.specs.declared.value.Value.{Value}
 use Rattle.value_model.specs.Meaning.{Answers}
-use Rattle.run_model.specs.Common.{Asker, Common}
-use Rattle.run_model.specs.Effects.{Beyond, Effect, Enters, Fails, Gives, Leaves, NoTick, Spawns, Waits}
-use Rattle.run_model.specs.Local.{Local, acts, takes, with_stack}
-use Rattle.run_model.specs.Performs.{Performs}
-use Rattle.run_model.specs.Strands.{met}
+use Rattle.op_model.specs.Common.{Caller, Common}
+use Rattle.op_model.specs.Effects.{Beyond, Effect, Enters, Fails, Gives, Leaves, NoTick, Spawns, Waits}
+use Rattle.op_model.specs.Local.{Local, acts, takes, with_stack}
+use Rattle.op_model.specs.Performs.{Performs}
+use Rattle.op_model.specs.Strands.{met}
 use Rattle.machine_model.specs.Following.{EndsFrame}
 use Rattle.machine_model.specs.Keeping.{AskFits, EffectFits}
 use Rattle.machine_model.specs.Machine.{Ask, Frame, asks, captured_slots}
@@ -84,14 +84,14 @@ module _ (code : Code) (fillers : ℕ → List Filler) (natives : Answers) (t : 
   effect-fits args below is fit NoTick h = tt
   effect-fits args below is fit (Beyond limit) h = tt
 
-  abbrev pub asker : Asker
-  asker = record { unit = f.unit; role = f.role; depth = depth }
+  abbrev pub caller : Caller
+  caller = record { unit = f.unit; role = f.role; depth = depth }
 
   -- all that comes of it is so, and something comes
   abbrev pub RowWaits : Type 0
   RowWaits =
       (args : List Value) → AllFit code c args typed.operands →
-      ((effect : Effect) → Performs (code_facts fillers code) natives o args asker c effect → WaitTyped code c typed.result effect) × Comes (Performs (code_facts fillers code) natives o args asker c)
+      ((effect : Effect) → Performs (code_facts fillers code) natives o args caller c effect → WaitTyped code c typed.result effect) × Comes (Performs (code_facts fillers code) natives o args caller c)
 
   abbrev pub Looks : Ask Standing → Type 0
   Looks ask = AskFits natives (codes fillers code) (code_invariant code) c depth f ask × AskComes natives (code_facts fillers code) c depth f ask

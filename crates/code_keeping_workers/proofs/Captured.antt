@@ -6,7 +6,7 @@ use Rattle.type_model.specs.declared.basic.SemType.{SemType}
 use Rattle.type_model.specs.Membership.{In}
 use Rattle.operations.specs.Rows.{IsWithin}
 use Rattle.value_model.specs.declared.value.Value.{Value}
-use Rattle.run_model.specs.Common.{Common}
+use Rattle.op_model.specs.Common.{Common}
 use Rattle.stack_code.specs.declared.code.Code.{Code}
 use Rattle.stack_code.specs.declared.code.Spawn.{Spawn}
 use Rattle.stack_code.specs.declared.code.Unit.{Unit as CodeUnit}

@@ -1,10 +1,10 @@
 -- Strands are made one behind another: all that is shared stays good, and each is there.
 use Rattle.std.proofs.Common.{◌≡◌, ◌+◌, ℕ, zero, suc, List, [], ◌∷◌, Option, Some, None, length, refl, subst, arith}
 use Rattle.std.specs.Prelude.{IsSomeAnd, slice_get}
-use Rattle.run_model.specs.CallRows.{strands_made}
-use Rattle.run_model.specs.Common.{Activation, Common, Role, Strand}
-use Rattle.run_model.specs.Effects.{Spawned}
-use Rattle.run_model.specs.Strands.{strand_made}
+use Rattle.op_model.specs.CallRows.{strands_made}
+use Rattle.op_model.specs.Common.{Activation, Common, Role, Strand}
+use Rattle.op_model.specs.Effects.{Spawned}
+use Rattle.op_model.specs.Strands.{strand_made}
 use Rattle.machine_model.specs.Runs.{Running}
 use Rattle.machine_model.proofs.Once.{some-same}
 use Rattle.stack_code.specs.declared.code.Code.{Code}

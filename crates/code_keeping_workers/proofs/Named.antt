@@ -17,15 +17,15 @@ use Rattle.value_model.specs.Heap.{cells}
 use Rattle.value_model.specs.Meaning.{Answers}
 use Rattle.value_model.specs.PanicName.{panic_message}
 use Rattle.value_model.specs.World.{Came, PassesCells, Threw}
-use Rattle.run_model.specs.CallRows.{new_activation, starts_workers, strands_made, workers_from}
-use Rattle.run_model.specs.Common.{Activation, Common, Role}
-use Rattle.run_model.specs.Effects.{Beyond, Effect, Spawned, Spawns, lifted}
-use Rattle.run_model.specs.Facts.{WorkerFacts}
-use Rattle.run_model.specs.Levels.{numbers_from}
-use Rattle.run_model.specs.Limits.{most_cells, most_strands}
-use Rattle.run_model.specs.Local.{Local, captured_from, captures, Later}
-use Rattle.run_model.specs.Rows.{makes_error, next_error, panics}
-use Rattle.run_model.specs.Strands.{activation_at, no_activation, no_channel}
+use Rattle.op_model.specs.CallRows.{new_activation, starts_workers, strands_made, workers_from}
+use Rattle.op_model.specs.Common.{Activation, Common, Role}
+use Rattle.op_model.specs.Effects.{Beyond, Effect, Spawned, Spawns, lifted}
+use Rattle.op_model.specs.ProgramFacts.{WorkerFacts}
+use Rattle.op_model.specs.Levels.{numbers_from}
+use Rattle.op_model.specs.Limits.{most_cells, most_strands}
+use Rattle.op_model.specs.Local.{Local, captured_from, captures, Later}
+use Rattle.op_model.specs.Rows.{makes_error, next_error, panics}
+use Rattle.op_model.specs.Strands.{activation_at, no_activation, no_channel}
 use Rattle.machine_model.specs.Keeping.{AllBegin, AskFits, BeginsWell, EffectFits, RunsOn}
 use Rattle.machine_model.specs.Machine.{Ask, Frame, asks, captured_by, captured_slots}
 use Rattle.machine_model.specs.Runs.{Running}

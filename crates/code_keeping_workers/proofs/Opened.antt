@@ -5,8 +5,8 @@ use Rattle.std.proofs.Math.Seq.{get_or-append_right}
 use Rattle.std.proofs.lemmas.List.{get_or_past}
 use Rattle.std.proofs.lemmas.Option.{slice_get_within}
 use Rattle.std.specs.Prelude.{◌⊎◌, ◌||◌, IsTrue, get_or, is_some, nat_le, slice_get}
-use Rattle.run_model.specs.Common.{Activation, AllEnded, AnyGiven, Common, Message, Need, Received, Role, Strand}
-use Rattle.run_model.specs.Strands.{activation_at, is_there, met, no_activation, no_channel}
+use Rattle.op_model.specs.Common.{Activation, AllEnded, AnyGiven, Common, Message, Need, Received, Role, Strand}
+use Rattle.op_model.specs.Strands.{activation_at, is_there, met, no_activation, no_channel}
 use Rattle.machine_model.specs.Runs.{Running}
 use Rattle.stack_code.specs.declared.code.Code.{Code}
 use Rattle.stack_code.specs.Activations.{GoodActivation}

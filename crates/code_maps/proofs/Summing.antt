@@ -8,7 +8,7 @@ use Rattle.bal_base.specs.declared.stop.Memory.{Memory}
 use Rattle.stack_code.specs.declared.code.StackMap.{StackMap}
 use Rattle.typed_tree.specs.declared.package.TypedPackage.{TypedPackage}
 use Rattle.typed_tree.specs.Units.{UnitBody, UnitTree, OfAnonymous, OfFunction, OfInitialiser, OfWorker, unit_at}
-use Rattle.run_model.specs.Levels.{numbers_from}
+use Rattle.op_model.specs.Levels.{numbers_from}
 use Rattle.lower_model.specs.Assembled.{HasUnits}
 use Rattle.lower_model.specs.Making.{unit_made, unmade}
 use Rattle.tree_promises.specs.Placed.{Placed, placed_at, surroundings}

@@ -4,7 +4,7 @@
 ghost use Rattle.std.specs.Prelude.{◌≡◌, [], IfOk, List, OnErr, Some, ℕ};
 ghost use Rattle.bal_base.specs.declared.text.Text.{Text as TextOf};
 ghost use Rattle.bal_io.specs.Faults.{CountsFaults};
-ghost use Rattle.run_model.specs.Library.{LibraryAnswers};
+ghost use Rattle.op_model.specs.Library.{LibraryAnswers};
 ghost use Rattle.fast_code.specs.Entries.{AreMade};
 ghost use Rattle.plain_run.specs.Held.{common_of};
 ghost use Rattle.code_steps.specs.Ended.{IsOutcome, outcome_of, stop_of};

@@ -68,7 +68,7 @@ fn runs_on(stepped: &Stepped) -> bool
     match stepped {
         Stepped::Did(next) => matches!(next, Next::Moved),
         Stepped::NeedsTick | Stepped::Limit(_) => true,
-        Stepped::NoUnit | Stepped::Stuck | Stepped::Untold => true,
+        Stepped::NoUnit | Stepped::Stuck | Stepped::Undecided => true,
     }
 }
 
@@ -82,7 +82,7 @@ fn said_by(stepped: Stepped) -> Turned
         Stepped::Limit(limit) => Turned::Halts(Halt::PastLimit(limit)),
         Stepped::NoUnit => Turned::Breaks(Short::NoUnit),
         Stepped::Stuck => Turned::Breaks(Short::Stuck),
-        Stepped::Untold => Turned::Breaks(Short::Untold),
+        Stepped::Undecided => Turned::Breaks(Short::Undecided),
     }
 }
 

@@ -6,7 +6,7 @@ ghost use Rattle.bal_base.specs.declared.text.Text.{Text as TextOf};
 ghost use Rattle.bal_io.specs.Content.{Appends, AppendsFront, Told};
 ghost use Rattle.bal_io.specs.Faults.{CountsFaults};
 ghost use Rattle.fast_code.specs.Entries.{AreMade};
-ghost use Rattle.run_model.specs.Library.{LibraryAnswers};
+ghost use Rattle.op_model.specs.Library.{LibraryAnswers};
 ghost use Rattle.code_frames.specs.Programs.{command_at, machine_of};
 ghost use Rattle.plain_run.specs.Held.{common_of};
 ghost use Rattle.seeded_runs.specs.Runs.{IsCut};

@@ -5,7 +5,7 @@ use Rattle.std.proofs.lemmas.Option.{slice_get-map}
 use Rattle.bal_base.specs.declared.text.Text.{Text}
 use Rattle.value_model.specs.declared.value.Value.TheVariants.{Error}
 use Rattle.value_model.specs.Heap.{ErrorObject}
-use Rattle.run_model.specs.Common.{Common, Returned, Panicked}
+use Rattle.op_model.specs.Common.{Common, Returned, Panicked}
 use Rattle.machine_model.specs.Outcomes.{ComesTo, Ending, IsEnding, IsMainEnd, Outcome, ReturnsError, Panics}
 use Rattle.machine_model.specs.Runs.{Stop}
 

@@ -1,8 +1,8 @@
 -- The next unit of strand 0 begins.
 use Rattle.std.proofs.Common.{◌≡◌, [], ◌∷◌, Option, Some, None, sym, ap, ◌∙◌}
 use Rattle.std.specs.Prelude.{option_map}
-use Rattle.run_model.specs.Common.{Common, End}
-use Rattle.run_model.specs.Strands.{settled}
+use Rattle.op_model.specs.Common.{Common, End}
+use Rattle.op_model.specs.Strands.{settled}
 use Rattle.machine_model.specs.Machine.{Moved, Next, State, begun, left_with, next_units, put}
 use Rattle.stack_code.specs.CodeMachine.{Standing}
 use Rattle.plain_run.specs.declared.held.ToRun.{ToRun}

@@ -1,8 +1,8 @@
 -- A panic that ends calls, one after another.
 use Rattle.std.proofs.Common.{◌≡◌, ◌∙◌, List, [], ◌∷◌, Bool, true, false, sym, ap}
 use Rattle.value_model.specs.declared.value.Value.{Value}
-use Rattle.run_model.specs.Common.{Common, Panicked}
-use Rattle.run_model.specs.Strands.{worker_ended, workers_ended}
+use Rattle.op_model.specs.Common.{Common, Panicked}
+use Rattle.op_model.specs.Strands.{worker_ended, workers_ended}
 use Rattle.machine_model.specs.Machine.{Frame, Machine, frames_from, goes_to, roles_left, roles_to, unwound}
 use Rattle.stack_code.specs.CodeMachine.{Standing}
 use Rattle.code_frames.specs.Asking.{caught_in}

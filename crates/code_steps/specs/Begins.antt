@@ -1,7 +1,7 @@
 -- How a run begins, part by part.
 use Rattle.std.specs.Prelude.{◌≡◌, ℕ, List, [], ◌∷◌, Option, Some, None}
 use Rattle.value_model.specs.declared.value.Value.{Value}
-use Rattle.run_model.specs.Common.{Common}
+use Rattle.op_model.specs.Common.{Common}
 use Rattle.machine_model.specs.Machine.{Frame, State}
 use Rattle.stack_code.specs.CodeMachine.{Standing}
 use Rattle.plain_run.specs.declared.held.ToRun.{ToRun}

@@ -1,6 +1,6 @@
 -- What comes of a run, as the definition's words.
 use Rattle.std.specs.Prelude.{ℕ, Option, Some, None}
-use Rattle.run_model.specs.Common.{Common, End}
+use Rattle.op_model.specs.Common.{Common, End}
 use Rattle.machine_model.specs.Outcomes as model
 use Rattle.machine_model.specs.Outcomes.{ComesTo, IsEnding, IsMainEnd}
 use Rattle.machine_model.specs.Runs as runs

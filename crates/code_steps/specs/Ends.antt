@@ -1,8 +1,8 @@
 -- Calls that end, and the next unit of strand 0.
 use Rattle.std.specs.Prelude.{◌≡◌, ◌<◌, Bool, true, false, List, [], ◌∷◌, Option, Some, None, ℕ, ⊤}
 use Rattle.value_model.specs.declared.value.Value.{Value}
-use Rattle.run_model.specs.Common.{Common, End, Panicked}
-use Rattle.run_model.specs.Strands.{workers_ended}
+use Rattle.op_model.specs.Common.{Common, End, Panicked}
+use Rattle.op_model.specs.Strands.{workers_ended}
 use Rattle.machine_model.specs.Machine.{Frame, Machine, next_units, roles_left, unwound}
 use Rattle.stack_code.specs.CodeMachine.{Standing}
 use Rattle.plain_run.specs.declared.held.ToRun.{ToRun}

@@ -1,6 +1,6 @@
 -- Ways from strand to strand.
 use Rattle.std.specs.Prelude.{◌==◌, ◌≢◌, ℕ, Bool, List, AllPairs}
-use Rattle.run_model.specs.Common.{Common}
+use Rattle.op_model.specs.Common.{Common}
 use Rattle.machine_model.specs.Outcomes.{IsRing, Leads, awaited}
 use Rattle.code_steps.specs.declared.stalls.Way.{Way}
 use Rattle.code_steps.specs.declared.stalls.Way.TheVariants.{Stops, Returns}

@@ -1,8 +1,8 @@
 -- What is answered for a step.
 use Rattle.std.specs.Prelude.{◌≡◌, ◌≤◌, ◌++◌, Bool, true, false, List, Option, Some, None, length, option_map, ⊤}
 use Rattle.value_model.specs.declared.value.Value.{Value}
-use Rattle.run_model.specs.Common as model
-use Rattle.run_model.specs.Local.{with_stack}
+use Rattle.op_model.specs.Common as model
+use Rattle.op_model.specs.Local.{with_stack}
 use Rattle.machine_model.specs.Machine as machine
 use Rattle.machine_model.specs.Machine.{Frame, goes_to}
 use Rattle.stack_code.specs.CodeMachine.{Standing, standing}
@@ -14,7 +14,7 @@ use Rattle.code_steps.specs.declared.held.Asking.{Asking}
 use Rattle.code_steps.specs.declared.carrying.Next.{Next}
 use Rattle.code_steps.specs.declared.carrying.Next.TheVariants as next
 use Rattle.code_steps.specs.declared.carrying.Stepped.{Stepped}
-use Rattle.code_steps.specs.declared.carrying.Stepped.TheVariants.{Did, NeedsTick, Limit, NoUnit, Stuck, Untold}
+use Rattle.code_steps.specs.declared.carrying.Stepped.TheVariants.{Did, NeedsTick, Limit, NoUnit, Stuck, Undecided}
 use Rattle.code_steps.specs.declared.held.State.{State}
 use Rattle.code_steps.specs.States.{call_of, state_of}
 
@@ -56,7 +56,7 @@ IsCarried NeedsTick new c = c ≡ Some machine.NeedsTick
 IsCarried (Limit kind) new c = c ≡ Some (machine.Limit kind)
 IsCarried NoUnit new c = c ≡ None
 IsCarried Stuck new c = ⊥
-IsCarried Untold new c = ⊥
+IsCarried Undecided new c = ⊥
 
 -- what an operation left as it was, where its effect doesn't say: `EffectStays` of what is held
 abbrev pub Stays : Effect → model.Common → model.Common → Type 0
@@ -76,4 +76,4 @@ StopsSame NeedsTick old new = new ≡ old
 StopsSame (Limit kind) old new = new ≡ old
 StopsSame NoUnit old new = ⊤
 StopsSame Stuck old new = ⊤
-StopsSame Untold old new = ⊤
+StopsSame Undecided old new = ⊤

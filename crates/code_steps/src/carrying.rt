@@ -4,8 +4,8 @@
 ghost use Rattle.std.specs.Prelude.{◌≡◌, ◌∷◌, ◌++◌, [], IfOk, None, OnOk, Some, map, option_map, option_to_list};
 ghost use Rattle.machine_model.specs.Machine as machine;
 ghost use Rattle.machine_model.specs.Machine.{State as StateOf, carried, goes_to};
-ghost use Rattle.run_model.specs.Common as model;
-ghost use Rattle.run_model.specs.Effects as effects;
+ghost use Rattle.op_model.specs.Common as model;
+ghost use Rattle.op_model.specs.Effects as effects;
 ghost use Rattle.stack_code.specs.CodeMachine.{Standing};
 ghost use Rattle.plain_run.specs.Effects.{effect_of, spawned_of};
 ghost use Rattle.plain_run.specs.Held.{common_of, need_of, role_of};
@@ -47,7 +47,7 @@ pub enum Stepped {
     /// There is no step: the frame can do nothing, or its operation comes to nothing on its operands.
     Stuck,
     /// What the operation comes to is not told, since a question of types isn't decided.
-    Untold,
+    Undecided,
 }
 
 /// The operation is done: its operands are gone, and the call awaits what it gives.

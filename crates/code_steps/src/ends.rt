@@ -5,8 +5,8 @@ ghost use Rattle.std.specs.Prelude.{◌≡◌, ◌∷◌, [], IfOk, OnOk, None, 
 ghost use Rattle.machine_model.specs.Machine as machine;
 ghost use Rattle.machine_model.specs.Machine.{State as StateOf};
 ghost use Rattle.stack_code.specs.CodeMachine.{Standing};
-ghost use Rattle.run_model.specs.Common as model;
-ghost use Rattle.run_model.specs.Strands.{settled, strand_ended, workers_ended};
+ghost use Rattle.op_model.specs.Common as model;
+ghost use Rattle.op_model.specs.Strands.{settled, strand_ended, workers_ended};
 ghost use Rattle.plain_run.specs.Held.{common_of, end_of};
 ghost use Rattle.code_frames.specs.Programs.{machine_of};
 ghost use Rattle.code_steps.specs.States.{calls_of, others_of};

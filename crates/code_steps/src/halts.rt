@@ -25,7 +25,7 @@ pub enum Short {
     /// The next step is none.
     Stuck,
     /// What the next operation comes to is not told.
-    Untold,
+    Undecided,
     /// All the steps that it may make were made.
     PastSteps,
 }

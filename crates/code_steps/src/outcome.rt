@@ -3,8 +3,8 @@
 
 ghost use Rattle.std.specs.Prelude.{◌≡◌, IfOk, None, Some, option_map, slice_get};
 ghost use Rattle.value_model.specs.declared.value.Value.TheVariants.{Error};
-ghost use Rattle.run_model.specs.Common as model;
-ghost use Rattle.run_model.specs.Strands.{end_of as end_of_strand};
+ghost use Rattle.op_model.specs.Common as model;
+ghost use Rattle.op_model.specs.Strands.{end_of as end_of_strand};
 ghost use Rattle.plain_run.specs.Held.{common_of, end_of};
 ghost use Rattle.code_steps.specs.Ended.{IsEndingOf, IsMainEnding, IsOutcome, stop_of};
 

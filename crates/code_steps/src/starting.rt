@@ -5,7 +5,7 @@ ghost use Rattle.std.specs.Prelude.{◌≡◌, [], IfOk, List, None, Some, map, 
 ghost use Rattle.bal_base.specs.declared.text.Text.{Text as TextOf};
 ghost use Rattle.value_model.specs.declared.value.Value.TheVariants.{Str};
 ghost use Rattle.value_model.specs.Heap.{Items};
-ghost use Rattle.run_model.specs.Rows.{new_structure as new_structure_of};
+ghost use Rattle.op_model.specs.Rows.{new_structure as new_structure_of};
 ghost use Rattle.machine_model.specs.Machine as machine;
 ghost use Rattle.machine_model.specs.Runs as runs;
 ghost use Rattle.plain_run.specs.Held.{common_of, structure_of, world_of};
@@ -18,7 +18,10 @@ use crate::carrying::add_strand;
 use crate::held::{Call, State};
 use bal_base::{Memory, Text};
 use code_frames::{Launch, Program};
-use plain_run::{Common, Heap, Members, Status, Strand, Structure, ToRun, World, new_structure};
+use plain_run::{
+    Common, Functions, Heap, Members, Status, Strand, Structure, Structures, ToRun, World,
+    new_structure,
+};
 use std::alloc::Global;
 use value_model::Value;
 
@@ -45,10 +48,13 @@ fn list_of_words(alloc: Global, atom: u32, words: &[Text]) -> Result<Structure, 
 fn world_with(alloc: Global, structures: Vec<Structure>, input: &[u8]) -> Result<World, Memory>
     ensures { IfOk result (λ w. world_of w ≡ record { heap = record { structures = map structure_of structures.items; errors = []; functions = [] }; input = input.now; output = [] }) }
 {
+    let mut held = Structures::new(alloc);
+    let mut structures = structures;
+    held.append(&mut structures)?;
     let heap = Heap {
-        structures,
+        structures: held,
         errors: Vec::new(alloc),
-        functions: Vec::new(alloc),
+        functions: Functions::new(alloc),
     };
     Ok(World {
         heap,

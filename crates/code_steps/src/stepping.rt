@@ -3,11 +3,11 @@
 
 ghost use Rattle.std.specs.Prelude.{◌≡◌, ◌+◌, ◌<◌, ◌^◌, [], IfOk, OnOk, length};
 ghost use Rattle.operations.specs.declared.operation.Operation.TheVariants.{Workers};
-ghost use Rattle.run_model.specs.Local.{captures};
+ghost use Rattle.op_model.specs.Local.{captures};
 ghost use Rattle.machine_model.specs.Machine.{Does, asks};
 ghost use Rattle.stack_code.specs.CodeMachine.{standing};
 ghost use Rattle.held_operations.specs.Operation.{operation_of};
-ghost use Rattle.plain_operations.specs.Parts.{IsUntold};
+ghost use Rattle.plain_operations.specs.Parts.{IsUndecided};
 ghost use Rattle.plain_run.specs.Effects as effects;
 ghost use Rattle.plain_run.specs.Effects.{IsPerformed};
 ghost use Rattle.code_frames.specs.Asking.{last_values};
@@ -15,7 +15,7 @@ ghost use Rattle.code_frames.specs.Frames.{standing_of};
 ghost use Rattle.code_frames.specs.Programs.{captured_in, machine_of};
 ghost use Rattle.code_steps.specs.States.{call_of, state_of};
 ghost use Rattle.code_steps.specs.Steps.{HasOperands, awaiting};
-ghost use Rattle.code_steps.specs.Answered.{IsFinished, IsStepped, asker_over, over};
+ghost use Rattle.code_steps.specs.Answered.{IsFinished, IsStepped, caller_over, over};
 
 use crate::calls::{push, take_last};
 use crate::carrying::{Next, Stepped, carry};
@@ -24,7 +24,7 @@ use bal_base::Memory;
 use code_frames::{Asked, Captures, Program, capture, look, operands};
 use held_operations::Op;
 use plain_operations::perform;
-use plain_run::{Asker, Performed};
+use plain_run::{Caller, Performed};
 use std::alloc::Global;
 use value_model::Value;
 
@@ -38,12 +38,12 @@ fn ask<'a>(
     state: &mut State,
 ) -> Result<Performed, Memory>
     requires { length state.old.calls.items + 1 < 2 ^ 64 }
-    ensures row { IfOk result (IsPerformed program.now.facts (operation_of op.entry) operands.now (asker_over call.now state.new.calls.items) state.old.common state.new.common (IsUntold program.now.facts operands.now state.old.common op.entry)) }
+    ensures row { IfOk result (IsPerformed program.now.facts (operation_of op.entry) operands.now (caller_over call.now state.new.calls.items) state.old.common state.new.common (IsUndecided program.now.facts operands.now state.old.common op.entry)) }
     ensures stays { IfOk result (effects.Stays state.old.common state.new.common) }
     ensures calls { OnOk result (state.new.calls ≡ state.old.calls) }
     ensures others { OnOk result (state.new.others ≡ state.old.others) }
 {
-    let asker = Asker {
+    let caller = Caller {
         unit: call.unit,
         role: call.role,
         depth: state.calls.len() as u64 + 1,
@@ -53,7 +53,7 @@ fn ask<'a>(
         &program.facts,
         op,
         operands,
-        &asker,
+        &caller,
         &mut state.common,
     )
 }
@@ -70,8 +70,8 @@ fn finish<'a>(
     ensures { IfOk result (λ d. IsFinished program.now asked done state.old d state.new) }
 {
     match done {
-        Performed::Unfit => Ok(Stepped::Stuck),
-        Performed::Untold => Ok(Stepped::Untold),
+        Performed::Stuck => Ok(Stepped::Stuck),
+        Performed::Undecided => Ok(Stepped::Undecided),
         Performed::Done(effect) => carry(alloc, program, asked, effect, state),
     }
 }

@@ -31,7 +31,7 @@ use Rattle.typed_tree.specs.declared.unit.TypedBody.TheVariants.{Block as BlockB
 use Rattle.typed_tree.specs.Listed.{Listed, nothing, one, ◌&◌, joined, members}
 use Rattle.typed_tree.specs.SharedTypes.{Shared}
 use Rattle.typed_tree.specs.Units.{UnitBody, UnitTree, unit_at, units_of}
-use Rattle.run_model.specs.Inherent.{fills as fills_so, named as named_so}
+use Rattle.op_model.specs.Inherent.{fills as fills_so, named as named_so}
 use Rattle.machine_model.specs.Following.{Both}
 use Rattle.eval_model.specs.Inherent.{IsInherentIn, IsNamed, body_uses, expr_uses, makes as made_so, rest as rest_so, stmts_uses, uses_of, values as valued_so, words as words_so}
 use Rattle.eval_model.specs.Expressions.{makes_function}

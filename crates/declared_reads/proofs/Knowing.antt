@@ -8,9 +8,9 @@ use Rattle.operations.specs.declared.operation.Operation.TheVariants.{Const, Loa
 use Rattle.value_model.specs.declared.value.Value.{Value}
 use Rattle.value_model.specs.declared.value.Value.TheVariants.{Nil, Bool as Truth}
 use Rattle.value_model.specs.Stands.{Belongs}
-use Rattle.run_model.specs.Common.{Common}
-use Rattle.run_model.specs.Facts.{Facts, own_types}
-use Rattle.run_model.specs.Local.{Local}
+use Rattle.op_model.specs.Common.{Common}
+use Rattle.op_model.specs.ProgramFacts.{ProgramFacts, own_types}
+use Rattle.op_model.specs.Local.{Local}
 use Rattle.eval_model.specs.Ways.{AreWays, Ways}
 use Rattle.declared_reads.specs.Declared.{IsAnything}
 
@@ -114,7 +114,7 @@ are-ways =
 
 -- ---- that it is so
 
-module _ (facts : Facts) (c : Common) where
+module _ (facts : ProgramFacts) (c : Common) where
   abbrev pub Knows : Known → Local → Type 0
   Knows Nothing l = ⊤
   Knows (Loaded s) l = (v : Value) × (rest : List Value) × (slice_get l.slots s ≡ Some (Some v)) × (l.stack ≡ v ∷ rest)

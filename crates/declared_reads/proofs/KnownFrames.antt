@@ -10,11 +10,11 @@ use Rattle.value_model.specs.declared.value.Value.{Value}
 use Rattle.value_model.specs.declared.value.Value.TheVariants.{Nil, Bool as Truth}
 use Rattle.value_model.specs.Meaning.{Answers}
 use Rattle.value_model.specs.World.{Came, Gave, Threw, PassesCells}
-use Rattle.run_model.specs.Common.{Asker, Common}
-use Rattle.run_model.specs.Effects.{Effect, Gives, Fails, Waits, Enters, Leaves, Spawns, NoTick, Beyond, lifted, with_world}
-use Rattle.run_model.specs.Facts.{Facts, own_types}
-use Rattle.run_model.specs.Local.{Act, Later as Awaited, Local, Never, Now, acts, loaded, taken, with_stack}
-use Rattle.run_model.specs.Performs.{Performs}
+use Rattle.op_model.specs.Common.{Caller, Common}
+use Rattle.op_model.specs.Effects.{Effect, Gives, Fails, Waits, Enters, Leaves, Spawns, NoTick, Beyond, lifted, with_world}
+use Rattle.op_model.specs.ProgramFacts.{ProgramFacts, own_types}
+use Rattle.op_model.specs.Local.{Act, Later as Awaited, Local, Never, Now, acts, loaded, taken, with_stack}
+use Rattle.op_model.specs.Performs.{Performs}
 use Rattle.machine_model.specs.Machine.{Ask, On, Does, Stuck, asks as asks_of}
 use Rattle.machine_model.proofs.Once.{some-same}
 use Rattle.machine_model.proofs.Shapes.{in-if}
@@ -78,29 +78,29 @@ lifted-short c (Gave vs w) h = h
 lifted-short c (Threw e w) h = h
 lifted-short c PassesCells h = h
 
-module _ (facts : Facts) (natives : Answers) where
+module _ (facts : ProgramFacts) (natives : Answers) where
   -- a load that is asked for panics
-  load-faults : (slot : ℕ) (vs : List Value) (who : Asker) (c : Common) (effect : Effect) → Performs facts natives (op.Load slot) vs who c effect → IsFault effect
+  load-faults : (slot : ℕ) (vs : List Value) (who : Caller) (c : Common) (effect : Effect) → Performs facts natives (op.Load slot) vs who c effect → IsFault effect
   load-faults slot [] who c effect h = subst IsFault (sym h) (in-if (nat_le _ _) (λ came. IsFault (lifted c came)) (Threw _ _) PassesCells (λ b. tt) (λ b. tt))
   load-faults slot (v ∷ vs) who c effect h = absurd h
 
-  test-short : (t : SemType) (vs : List Value) (who : Asker) (c : Common) (effect : Effect) → Performs facts natives (op.Test t) vs who c effect → IsLong effect → ⊥
+  test-short : (t : SemType) (vs : List Value) (who : Caller) (c : Common) (effect : Effect) → Performs facts natives (op.Test t) vs who c effect → IsLong effect → ⊥
   test-short t [] who c effect h long = h
   test-short t (v ∷ []) who c effect (came, tells, is) long = lifted-short c came (subst IsLong is long)
   test-short t (v ∷ w ∷ vs) who c effect h long = h
 
-  return-short : (vs : List Value) (who : Asker) (c : Common) (effect : Effect) → Performs facts natives op.Return vs who c effect → IsLong effect → ⊥
+  return-short : (vs : List Value) (who : Caller) (c : Common) (effect : Effect) → Performs facts natives op.Return vs who c effect → IsLong effect → ⊥
   return-short [] who c effect h long = h
   return-short (v ∷ []) who c effect is long = subst IsLong is long
   return-short (v ∷ w ∷ vs) who c effect h long = h
 
-  return-gives-none : (vs ws : List Value) (who : Asker) (c d : Common) → Performs facts natives op.Return vs who c (Gives ws d) → ⊥
+  return-gives-none : (vs ws : List Value) (who : Caller) (c d : Common) → Performs facts natives op.Return vs who c (Gives ws d) → ⊥
   return-gives-none [] ws who c d h = h
   return-gives-none (v ∷ []) ws who c d is = let bad : ⊥ = cc in bad
   return-gives-none (v ∷ w ∷ vs) ws who c d h = h
 
   -- nothing is known behind what takes long
-  long-plain : (o : Operation) (vs : List Value) (who : Asker) (c : Common) (effect : Effect) → Performs facts natives o vs who c effect → IsLong effect → (p : Known) → after o p ≡ Nothing
+  long-plain : (o : Operation) (vs : List Value) (who : Caller) (c : Common) (effect : Effect) → Performs facts natives o vs who c effect → IsLong effect → (p : Known) → after o p ≡ Nothing
   long-plain (op.Load slot) vs who c effect h long p = absurd (fault-short effect (load-faults slot vs who c effect h) long)
   long-plain (op.Test t) vs who c effect h long p = absurd (test-short t vs who c effect h long)
   long-plain op.Return vs who c effect h long p = absurd (return-short vs who c effect h long)
@@ -155,7 +155,7 @@ module _ (facts : Facts) (natives : Answers) where
 
     -- ---- what is known behind a test that was given
 
-    module _ (who : Asker) (ws : List Value) (d : Common) where
+    module _ (who : Caller) (ws : List Value) (d : Common) where
       told : (t : SemType) (s : ℕ) (v : Value) (slots : Local) → slice_get slots.slots s ≡ Some (Some v) → Performs facts natives (op.Test t) (v ∷ []) who c (Gives ws d) → Knows facts d (Tested s t) (with_stack slots (ws ++ slots.stack))
       told t s v l held (came, (b, so, is), e) =
           let gave : Gives ws d ≡ Gives (Truth b ∷ []) (with_world c c.world) = e ∙ ap (lifted c) is in
@@ -283,8 +283,8 @@ module _ (facts : Facts) (natives : Answers) where
     -- where the frame `d` asks for the operation and `k` awaits its result
     pub record Asked (d k : Doing) (o : Operation) (vs : List Value) : Type 0 where
       pub way : (q : Known) × Goes k.tasks q
-      pub gives : (who : Asker) (ws : List Value) (x : Common) → Performs facts natives o vs who c (Gives ws x) → (q : Known) × Goes k.tasks q × Knows facts x q (with_stack k.local (ws ++ k.local.stack))
-      pub long : (who : Asker) (effect : Effect) → Performs facts natives o vs who c effect → IsLong effect → Rests d × Rests k
+      pub gives : (who : Caller) (ws : List Value) (x : Common) → Performs facts natives o vs who c (Gives ws x) → (q : Known) × Goes k.tasks q × Knows facts x q (with_stack k.local (ws ++ k.local.stack))
+      pub long : (who : Caller) (effect : Effect) → Performs facts natives o vs who c effect → IsLong effect → Rests d × Rests k
 
     asked-at : (captured : List ℕ) (l : Local) (first : Operation) (t : Task) (ts : List Task) (k : Doing) (o : Operation) (vs : List Value) (p m q : Known) (act : Act) → acts captured first l ≡ act → asks_of (λ x. doing x ts) act ≡ Does o vs k →
         ActsAre first act → K m l → (q ≡ after first m) ⊎ (q ≡ Nothing) → Goes ts q → (q ≡ Nothing → Rests (doing l (t ∷ ts))) → Asked (doing l (t ∷ ts)) k o vs
@@ -308,11 +308,11 @@ module _ (facts : Facts) (natives : Answers) where
         given_of (Does y us z) = us
         given_of _ = []
 
-        knows : (who : Asker) (ws : List Value) (y : Common) → Performs facts natives o' vs' who c (Gives ws y) → (q ≡ after first m) ⊎ (q ≡ Nothing) → Knows facts y q (with_stack x (ws ++ x.stack))
+        knows : (who : Caller) (ws : List Value) (y : Common) → Performs facts natives o' vs' who c (Gives ws y) → (q ≡ after first m) ⊎ (q ≡ Nothing) → Knows facts y q (with_stack x (ws ++ x.stack))
         knows who ws y performs (inl same) = subst (λ z. Knows facts y z (with_stack x (ws ++ x.stack))) (sym same) (gives-knows who ws y captured l x first o' vs' m are h is performs)
         knows who ws y performs (inr same) = subst (λ z. Knows facts y z (with_stack x (ws ++ x.stack))) (sym same) tt
 
-        plain : (who : Asker) (effect : Effect) → Performs facts natives o' vs' who c effect → IsLong effect → (q ≡ after first m) ⊎ (q ≡ Nothing) → q ≡ Nothing
+        plain : (who : Caller) (effect : Effect) → Performs facts natives o' vs' who c effect → IsLong effect → (q ≡ after first m) ⊎ (q ≡ Nothing) → q ≡ Nothing
         plain who effect performs long (inr same) = same
         plain who effect performs long (inl same) = same ∙ by are
           where
@@ -356,7 +356,7 @@ module _ (facts : Facts) (natives : Answers) where
             given_of (Does y us z) = us
             given_of _ = []
 
-            by : (o' ≡ op.Load slot) ⊎ ((n : ℕ) × (o' ≡ op.Load n)) → (who : Asker) (effect : Effect) → Performs facts natives o' vs' who c effect → IsFault effect
+            by : (o' ≡ op.Load slot) ⊎ ((n : ℕ) × (o' ≡ op.Load n)) → (who : Caller) (effect : Effect) → Performs facts natives o' vs' who c effect → IsFault effect
             by (inl is) who effect performs = load-faults slot vs' who c effect (subst (λ z. Performs facts natives z vs' who c effect) is performs)
             by (inr (n, is)) who effect performs = load-faults n vs' who c effect (subst (λ z. Performs facts natives z vs' who c effect) is performs)
     asks-one captured l (Choose first second ∷ ts) o vs k h e = absurd (choice-asks first second ts l l.stack o vs k e)

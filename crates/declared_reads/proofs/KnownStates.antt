@@ -5,11 +5,11 @@ use Rattle.bal_base.specs.declared.text.Text.{Text}
 use Rattle.operations.specs.declared.operation.Operation.{Operation}
 use Rattle.value_model.specs.declared.value.Value.{Value}
 use Rattle.value_model.specs.Meaning.{Answers}
-use Rattle.run_model.specs.Common.{Common, End, Returned, Panicked}
-use Rattle.run_model.specs.Effects.{Effect, Gives, Fails, Waits, Enters, Leaves, Spawns, NoTick, Beyond, Spawned}
-use Rattle.run_model.specs.Performs.{Performs}
-use Rattle.run_model.specs.Strands.{settled, workers_ended}
-use Rattle.machine_model.specs.Machine.{Machine, Ask, On, Does, Stuck, Frame, State, Next, Moved, Blocked, Ended, NeedsTick, Limit, Step, Takes, TakesTop, all_begun, asker, carried, frames_from, given, goes_on, goes_to, left_with, next_units, put, roles_left, unwound, with_begun}
+use Rattle.op_model.specs.Common.{Common, End, Returned, Panicked}
+use Rattle.op_model.specs.Effects.{Effect, Gives, Fails, Waits, Enters, Leaves, Spawns, NoTick, Beyond, Spawned}
+use Rattle.op_model.specs.Performs.{Performs}
+use Rattle.op_model.specs.Strands.{settled, workers_ended}
+use Rattle.machine_model.specs.Machine.{Machine, Ask, On, Does, Stuck, Frame, State, Next, Moved, Blocked, Ended, NeedsTick, Limit, Step, Takes, TakesTop, all_begun, caller, carried, frames_from, given, goes_on, goes_to, left_with, next_units, put, roles_left, unwound, with_begun}
 use Rattle.machine_model.specs.Runs.{IsReached, Phase, Reaches, starts, after_move, after_block, after_end, after_pick, begins_with, first_common, start, units_to_run}
 use Rattle.machine_model.proofs.Once.{some-same}
 
@@ -30,8 +30,8 @@ module _ {C : Type 0} (natives : Answers) (M : Machine C) (Runs : Common → C �
   pub record AreKept : Type 0 where
     pub begins : (c : Common) (a : C) → Rests a → Runs c a
     pub goes : (c : Common) (unit : ℕ) (a b : C) → Runs c a → M.look unit a ≡ On b → Runs c b
-    pub gives : (c d : Common) (f : Frame C) (fs : List (Frame C)) (k : C) (o : Operation) (vs ws : List Value) → Runs c f.control → M.look f.unit f.control ≡ Does o vs k → Performs M.facts natives o vs (asker f fs) c (Gives ws d) → Runs d (M.resume k ws)
-    pub waits : (c : Common) (f : Frame C) (fs : List (Frame C)) (k : C) (o : Operation) (vs : List Value) (effect : Effect) → Runs c f.control → M.look f.unit f.control ≡ Does o vs k → Performs M.facts natives o vs (asker f fs) c effect → IsLong effect → Rests f.control × Rests k
+    pub gives : (c d : Common) (f : Frame C) (fs : List (Frame C)) (k : C) (o : Operation) (vs ws : List Value) → Runs c f.control → M.look f.unit f.control ≡ Does o vs k → Performs M.facts natives o vs (caller f fs) c (Gives ws d) → Runs d (M.resume k ws)
+    pub waits : (c : Common) (f : Frame C) (fs : List (Frame C)) (k : C) (o : Operation) (vs : List Value) (effect : Effect) → Runs c f.control → M.look f.unit f.control ≡ Does o vs k → Performs M.facts natives o vs (caller f fs) c effect → IsLong effect → Rests f.control × Rests k
     pub resumes : (k : C) (vs : List Value) → Rests k → Rests (M.resume k vs)
     pub throws : (c : Common) (unit : ℕ) (a k x : C) (o : Operation) (vs : List Value) (e : Value) → Runs c a → M.look unit a ≡ Does o vs k → M.catch k e ≡ Some x → Rests x
     pub catches : (k x : C) (e : Value) → Rests k → M.catch k e ≡ Some x → Rests x
@@ -130,7 +130,7 @@ module _ {C : Type 0} (natives : Answers) (M : Machine C) (Runs : Common → C �
             by (Some x) is = (kept.throws s.common f.unit f.control k x o vs e top look is, below)
             by None is = unwound-rest e fs below
 
-        carried-holds : (effect : Effect) → Performs M.facts natives o vs (asker f fs) s.common effect → NextHolds (carried M s f k fs effect)
+        carried-holds : (effect : Effect) → Performs M.facts natives o vs (caller f fs) s.common effect → NextHolds (carried M s f k fs effect)
         carried-holds (Gives ws d) performs = record { frames = (kept.gives s.common d f fs k o vs ws top look performs, below); others = h.others }
         carried-holds (Fails e d) performs = goes-on-holds (workers_ended (Panicked e) (roles_left M e (goes_to f k ∷ fs)) d) (Panicked e) (unwound M e (goes_to f k ∷ fs)) (thrown-rest e)
         carried-holds (Waits need) performs =

@@ -19,9 +19,9 @@ use Rattle.typed_tree.specs.declared.unit.TypedBody.TheVariants.{Block as BlockB
 use Rattle.typed_tree.specs.declared.unit.TypedWorker.{TypedWorker}
 use Rattle.typed_tree.specs.SharedTypes.{Shared}
 use Rattle.typed_tree.specs.Units.{UnitBody, UnitTree, unit_at}
-use Rattle.run_model.specs.Common.{Common, Asker}
-use Rattle.run_model.specs.Levels.{numbers_from}
-use Rattle.run_model.specs.Local.{Act, Later, Local, Never, Now, acts, pushed, with_stack}
+use Rattle.op_model.specs.Common.{Common, Caller}
+use Rattle.op_model.specs.Levels.{numbers_from}
+use Rattle.op_model.specs.Local.{Act, Later, Local, Never, Now, acts, pushed, with_stack}
 use Rattle.machine_model.specs.Following.{Both, ComesTo, FramesFollow, here, step}
 use Rattle.machine_model.specs.Machine.{Ask, Machine, On, Stuck, asks as asks_of, captured_slots, first_slots, words_of}
 use Rattle.machine_model.proofs.SameOutcomes.{followers-do-the-same}
@@ -164,15 +164,15 @@ module _ (natives : Answers) (atoms : List AtomDef) (fillers : ℕ → List Fill
   catches l e (more (chooses_so a b) h) = catches l e h
   catches l e (more (turns_so loop other x) h) = catches l e h
 
-  module _ (asker : Asker) (common : Common) where
+  module _ (caller : Caller) (common : Common) where
     abbrev captured : List ℕ
-    captured = captured_slots (facts_of atoms fillers p) asker.unit
+    captured = captured_slots (facts_of atoms fillers p) caller.unit
 
     abbrev Answer : Doing → Ask Doing → Doing → Type 0
-    Answer = ComesTo M N Follows natives asker common
+    Answer = ComesTo M N Follows natives caller common
 
-    looks : (l : Local) (us : List Task) → N.look asker.unit (doing l us) ≡ next_of captured l us
-    looks l us = ap (λ facts. next_of (captured_slots facts asker.unit) l us) (sym same-facts)
+    looks : (l : Local) (us : List Task) → N.look caller.unit (doing l us) ≡ next_of captured l us
+    looks l us = ap (λ facts. next_of (captured_slots facts caller.unit) l us) (sym same-facts)
 
     goes : (d : Doing) (l m : Local) {ts' us us' : List Task} → next_of captured l us ≡ On (doing m us') → Same ts' us' → Answer d (On (doing m ts')) (doing l us)
     goes d l m {ts'} {us} {us'} e h = (doing m us', step (looks l us ∙ e) here, follows m h)
@@ -185,7 +185,7 @@ module _ (natives : Answers) (atoms : List AtomDef) (fillers : ℕ → List Fill
       op,
       here,
       looks l rest ∙ e,
-      (λ vs asker c effect. (λ x. x, λ x. x)),
+      (λ vs caller c effect. (λ x. x, λ x. x)),
       record {
         talk = refl;
         waits = λ x. g;
@@ -198,7 +198,7 @@ module _ (natives : Answers) (atoms : List AtomDef) (fillers : ℕ → List Fill
     choice-answers : (l : Local) (a b c d : Branch) {ts us : List Task} → SameBranch a c → SameBranch b d → Same ts us → (stack : List Value) → l.stack ≡ stack → Answer (doing l (Choose a b ∷ ts)) (chosen a b ts l stack) (doing l (Choose c d ∷ us))
     choice-answers l a b c d {ts} {us} h k r stack at = by stack at
       where
-        look : (stack : List Value) → l.stack ≡ stack → N.look asker.unit (doing l (Choose c d ∷ us)) ≡ chosen c d us l stack
+        look : (stack : List Value) → l.stack ≡ stack → N.look caller.unit (doing l (Choose c d ∷ us)) ≡ chosen c d us l stack
         look stack at = looks l (Choose c d ∷ us) ∙ ap (λ s. chosen c d us l s) at
 
         by : (stack : List Value) → l.stack ≡ stack → Answer (doing l (Choose a b ∷ ts)) (chosen a b ts l stack) (doing l (Choose c d ∷ us))
@@ -242,8 +242,8 @@ module _ (natives : Answers) (atoms : List AtomDef) (fillers : ℕ → List Fill
     task-answers l _ _ (more {ts = ts} {us = us} (turns_so loop other x) h) = goes (doing l (Turn loop ∷ ts)) l l refl (turn-same x h)
     task-answers l _ _ (more {ts = ts} {us = us} (guards_so vs) h) = goes (doing l (Guard vs ∷ ts)) l l refl h
 
-    answers : (d e : Doing) → Follows d e → Answer d (M.look asker.unit d) e
-    answers d e f = subst (λ l. Answer d (M.look asker.unit d) (doing l e.tasks)) (sym f.local) (task-answers d.local d.tasks e.tasks f.tasks)
+    answers : (d e : Doing) → Follows d e → Answer d (M.look caller.unit d) e
+    answers d e f = subst (λ l. Answer d (M.look caller.unit d) (doing l e.tasks)) (sym f.local) (task-answers d.local d.tasks e.tasks f.tasks)
 
   -- ---- the law
 
@@ -263,7 +263,7 @@ module _ (natives : Answers) (atoms : List AtomDef) (fillers : ℕ → List Fill
         facts = same-facts;
         launch = launch-same p q is;
         enters = λ unit args. units-follow args (unit_at p unit) (unit_at q unit) (unit-zip p q is unit);
-        answers = λ asker c d e fine f. answers asker c d e f;
+        answers = λ caller c d e fine f. answers caller c d e f;
       }
 
 pub declared-does-the-same : (natives : Answers) → DeclaredDoesTheSame natives

@@ -9,7 +9,7 @@ use Rattle.value_model.specs.Meaning.{Answers}
 use Rattle.typed_tree.specs.declared.package.TypedPackage.{TypedPackage}
 use Rattle.typed_tree.specs.Units.{UnitTree, unit_at}
 use Rattle.machine_model.specs.Following.{Both}
-use Rattle.machine_model.specs.Machine.{Machine, asker, captured_slots}
+use Rattle.machine_model.specs.Machine.{Machine, caller, captured_slots}
 use Rattle.machine_model.specs.Runs.{Running}
 use Rattle.machine_model.proofs.Once.{some-same}
 use Rattle.eval_model.specs.Narrowed.{NarrowsWell}
@@ -49,8 +49,8 @@ module _ (natives : Answers) (atoms : List AtomDef) (fillers : ℕ → List Fill
       record {
         begins = λ c a h. rests-run M.facts natives c a h;
         goes = λ c unit a b h e. goes-on M.facts natives c (captured unit) a.local a.tasks b h e;
-        gives = λ c d f fs k o vs ws h look performs. (asks-one M.facts natives c (captured f.unit) f.control.local f.control.tasks o vs k h look).gives (asker f fs) ws d performs;
-        waits = λ c f fs k o vs effect h look performs long. (asks-one M.facts natives c (captured f.unit) f.control.local f.control.tasks o vs k h look).long (asker f fs) effect performs long;
+        gives = λ c d f fs k o vs ws h look performs. (asks-one M.facts natives c (captured f.unit) f.control.local f.control.tasks o vs k h look).gives (caller f fs) ws d performs;
+        waits = λ c f fs k o vs effect h look performs long. (asks-one M.facts natives c (captured f.unit) f.control.local f.control.tasks o vs k h look).long (caller f fs) effect performs long;
         resumes = λ k vs h. h;
         throws = λ c unit a k x o vs e h look caught.
             let (n, way) = (asks-one M.facts natives c (captured unit) a.local a.tasks o vs k h look).way in lands-on k.local e k.tasks n x way caught;

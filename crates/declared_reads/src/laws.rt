@@ -1,7 +1,7 @@
 //! Laws of packages whose variables are read as declared. This call does nothing: its clauses are laws.
 ghost use Rattle.declared_reads.specs.Laws.{DeclaredCodeDoesTheSame, DeclaredDoesTheSame, DeclaredNarrowsWell, DeclaredSameIsAllowed};
 
-use run_model::Meaning;
+use op_model::Meaning;
 
 /// A package whose variables are read as declared has an outcome exactly where the package has it. Where code is lowered from it, each
 /// narrowed read that is left holds a value of its type, and no body that is said not to end comes to its end; so this code has the

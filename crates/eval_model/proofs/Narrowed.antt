@@ -1,6 +1,6 @@
 -- A narrowed variable that holds a value is read by itself.
 use Rattle.std.proofs.Common.{ap}
-use Rattle.run_model.specs.Local.{loaded}
+use Rattle.op_model.specs.Local.{loaded}
 use Rattle.machine_model.specs.Machine.{asks}
 use Rattle.eval_model.specs.Tasks.{doing}
 use Rattle.eval_model.specs.Narrowed.{NarrowedReadsGoOn}

@@ -24,7 +24,7 @@ use Rattle.typed_tree.specs.declared.stmt.UpdateTarget.TheVariants as target
 use Rattle.typed_tree.specs.declared.package.TypedPackage.{TypedPackage}
 use Rattle.typed_tree.specs.declared.unit.Captured.{Captured}
 use Rattle.typed_tree.specs.SharedTypes.{sem_of}
-use Rattle.run_model.specs.Local.{Local, Act, Now, Later, Never, acts, with_stack}
+use Rattle.op_model.specs.Local.{Local, Act, Now, Later, Never, acts, with_stack}
 use denote.Hole.Carrier
 use mathlib.Core.Former
 use Rattle.std.specs.Global.{Global}

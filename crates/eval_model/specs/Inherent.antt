@@ -19,7 +19,7 @@ use Rattle.typed_tree.specs.Listed.{Listed, nothing, one, ◌&◌, joined, if_bo
 use Rattle.typed_tree.specs.StmtLayers.{TypedStmtOf, TypedClauseOf, of_typed_stmt}
 use Rattle.typed_tree.specs.Units.{UnitBody, OfFunction, OfWorker, OfAnonymous, OfInitialiser, UnitTree, unit_at, units_of}
 use Rattle.held_operations.specs.Constructs.{operations_of}
-use Rattle.run_model.specs.Inherent.{IsInherent}
+use Rattle.op_model.specs.Inherent.{IsInherent}
 use Rattle.eval_model.specs.Expressions.{makes_function}
 use Rattle.eval_model.specs.Trees.{launch_of}
 

@@ -7,7 +7,7 @@ use Rattle.typed_tree.specs.declared.expr.TypedExpr.{TypedExpr}
 use Rattle.typed_tree.specs.declared.stmt.RangeEnd.{RangeEnd}
 use Rattle.typed_tree.specs.declared.stmt.TypedStmt.{TypedStmt}
 use Rattle.value_model.specs.declared.value.Value.{Value}
-use Rattle.run_model.specs.Local.{Local}
+use Rattle.op_model.specs.Local.{Local}
 
 -- a loop that has begun
 pub data Loop : Type 0 where

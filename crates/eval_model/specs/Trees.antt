@@ -11,9 +11,9 @@ use Rattle.typed_tree.specs.declared.package.TypedPackage.{TypedPackage}
 use Rattle.typed_tree.specs.declared.unit.TypedBody.TheVariants.{Block as BlockBody, Expr as ValueBody}
 use Rattle.typed_tree.specs.declared.unit.TypedWorker.{TypedWorker}
 use Rattle.typed_tree.specs.Units.{UnitBody, OfFunction, OfWorker, OfAnonymous, OfInitialiser, UnitTree, unit_at}
-use Rattle.run_model.specs.Facts.{Facts, UnitFacts, WorkerFacts}
-use Rattle.run_model.specs.Levels.{numbers_from}
-use Rattle.run_model.specs.Local.{Local, acts, with_stack}
+use Rattle.op_model.specs.ProgramFacts.{ProgramFacts, UnitFacts, WorkerFacts}
+use Rattle.op_model.specs.Levels.{numbers_from}
+use Rattle.op_model.specs.Local.{Local, acts, with_stack}
 use Rattle.machine_model.specs.Machine.{Ask, On, Stuck, Launch, Machine, asks, captured_slots, first_slots, words_of}
 use Rattle.eval_model.specs.Expressions.{eval}
 use Rattle.eval_model.specs.Loops.{turn}
@@ -96,7 +96,7 @@ unit_facts (Some u) =
 unit_facts None = record { params = 0; rest = None; arrow = 0; future = 0; workers = [] }
 
 -- over these atoms and their fillers
-abbrev pub facts_of : List AtomDef → (ℕ → List Filler) → TypedPackage → Facts
+abbrev pub facts_of : List AtomDef → (ℕ → List Filler) → TypedPackage → ProgramFacts
 facts_of atoms fillers p =
     record {
       atoms = atoms;

@@ -2,7 +2,7 @@
 ghost use Rattle.eval_model.specs.Laws.{ChoiceKeepsWays, EachTreeHasAWay, EvalKeepsWays, ExecKeepsWays, TreesRunOnce, TreesSettle, TreesStepOnce, TurnKeepsWays};
 ghost use Rattle.eval_model.specs.Narrowed.{NarrowedReadsGoOn};
 
-use run_model::Meaning;
+use op_model::Meaning;
 
 /// What there may be between points of a way through a tree.
 pub trait AnyWays {

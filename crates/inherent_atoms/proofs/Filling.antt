@@ -6,7 +6,7 @@ use Rattle.type_model.specs.declared.basic.Choice.{Choice}
 use Rattle.type_model.specs.declared.basic.Ty.{Ty}
 use Rattle.type_model.specs.declared.atoms.AtomDef.{AtomDef}
 use Rattle.type_model.specs.declared.atoms.AtomDef.TheVariants.{List as ListAtom, Mapping as MappingAtom, Arrow, Error as ErrorAtom, Future as FutureAtom}
-use Rattle.run_model.specs.Inherent.{IsInherent, IsOneChoice, MayFill, named, fills}
+use Rattle.op_model.specs.Inherent.{IsInherent, IsOneChoice, MayFill, named, fills}
 use Rattle.inherent_atoms.specs.declared.found.Found.{Found}
 use Rattle.inherent_atoms.specs.Fillers.{choice_of, fillers_of, one_choice}
 use Rattle.inherent_atoms.specs.Found.{AreMarked, Fills, Notes}

@@ -14,7 +14,7 @@ use Rattle.typed_tree.specs.declared.unit.TypedBody.TheVariants.{Block as BlockB
 use Rattle.typed_tree.specs.declared.unit.TypedWorker.{TypedWorker}
 use Rattle.typed_tree.specs.Listed.{Listed, nothing, one, ◌&◌, joined, members}
 use Rattle.typed_tree.specs.Units.{UnitBody, OfFunction, OfWorker, OfAnonymous, OfInitialiser, UnitTree, unit_at, units_of}
-use Rattle.run_model.specs.Inherent.{IsInherent, named, fills}
+use Rattle.op_model.specs.Inherent.{IsInherent, named, fills}
 use Rattle.eval_model.specs.Inherent.{IsNamed, IsInherentIn, makes as named_makes, rest as named_rest, words as named_words, values as named_values, body_uses, expr_uses, stmts_uses, uses_of}
 use Rattle.machine_model.specs.Machine.{words_of}
 use Rattle.eval_model.specs.Trees.{launch_of, unit_facts}

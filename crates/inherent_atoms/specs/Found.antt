@@ -1,7 +1,7 @@
 -- The atoms that were found so far.
 use Rattle.std.specs.Prelude.{◌≡◌, ℕ, Bool, List, Some, Contains, slice_get}
 use Rattle.type_model.specs.declared.atoms.AtomDef.{AtomDef}
-use Rattle.run_model.specs.Inherent.{IsInherent, MayFill}
+use Rattle.op_model.specs.Inherent.{IsInherent, MayFill}
 use Rattle.inherent_atoms.specs.declared.found.Found.{Found}
 use Rattle.inherent_atoms.specs.Named.{all_noted, is_among}
 

@@ -2,7 +2,7 @@
 #![tactic(auto, using(crate::proofs::Noting::noting))]
 
 ghost use Rattle.std.specs.Prelude.{◌≡◌, ◌≢◌, ◌↔◌, [], ℕ, AllPairs, Contains, IfOk, map};
-ghost use Rattle.run_model.specs.Inherent.{IsInherent};
+ghost use Rattle.op_model.specs.Inherent.{IsInherent};
 ghost use Rattle.lower_expr.specs.Drafts.{step_of};
 ghost use Rattle.package_units.specs.Held.{tree_of};
 ghost use Rattle.inherent_atoms.specs.Found.{AreMarked};

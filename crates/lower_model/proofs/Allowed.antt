@@ -5,7 +5,7 @@ use Rattle.value_model.specs.declared.filler.Filler.{Filler}
 use Rattle.value_model.specs.Exact.{FillsExactly}
 use Rattle.value_model.specs.Meaning.{Answers}
 use Rattle.typed_tree.specs.declared.package.TypedPackage.{TypedPackage}
-use Rattle.run_model.specs.Facts.{KnowsFillers}
+use Rattle.op_model.specs.ProgramFacts.{KnowsFillers}
 use Rattle.eval_model.specs.Allowed.{KnowsFillersOf}
 use Rattle.stack_code.specs.declared.code.Code.{Code}
 use Rattle.stack_code.specs.CodeMachine.{code_facts}

@@ -2,7 +2,7 @@
 use Rattle.std.proofs.Common.{◌≡◌, ◌∙◌, ◌+◌, ℕ, zero, suc, List, [], ◌∷◌, Option, Some, refl, sym, subst, ap, arith, length, map}
 use Rattle.std.specs.Prelude.{slice_get}
 use Rattle.typed_tree.specs.Units.{UnitTree, unit_at}
-use Rattle.run_model.specs.Levels.{numbers_from}
+use Rattle.op_model.specs.Levels.{numbers_from}
 use Rattle.machine_model.specs.Following.{Both}
 use Rattle.eval_model.specs.Trees.{unit_facts as tree_facts}
 use Rattle.stack_code.specs.declared.code.Code.{Code}

@@ -1,7 +1,7 @@
 -- A panic goes on alike in a frame of the package and in the frame of the code that follows it.
 use Rattle.std.proofs.Common.{◌≡◌, ◌∙◌, List, [], ◌∷◌, Option, Some, refl, sym, subst, ap, map}
 use Rattle.value_model.specs.declared.value.Value.{Value}
-use Rattle.run_model.specs.Local.{Local, with_stack}
+use Rattle.op_model.specs.Local.{Local, with_stack}
 use Rattle.machine_model.specs.Following.{Both}
 use Rattle.eval_model.specs.Tasks.{Task, Eval, Exec, Do, Get, Choose, Turn, Guard, doing}
 use Rattle.eval_model.specs.TaskWalk.{TasksOver, body_of}

@@ -11,9 +11,9 @@ use Rattle.value_model.specs.declared.value.Value.{Value}
 use Rattle.value_model.specs.Meaning.{Answers}
 use Rattle.value_model.specs.Stands.{Belongs}
 use Rattle.value_model.specs.World.{World, Came}
-use Rattle.run_model.specs.Common.{Common}
-use Rattle.run_model.specs.Facts.{Facts, own_types}
-use Rattle.run_model.specs.Rows.{Else, Tells, Unless, gives, panics}
+use Rattle.op_model.specs.Common.{Common}
+use Rattle.op_model.specs.ProgramFacts.{ProgramFacts, own_types}
+use Rattle.op_model.specs.Rows.{Else, Tells, Unless, gives, panics}
 use Rattle.machine_model.specs.Following.{AreAlike}
 use Rattle.lower_model.specs.Lowered.{IsSameOperation, cast, same, test}
 
@@ -23,7 +23,7 @@ same-talk op _ same = refl
 same-talk _ _ (test e) = refl
 same-talk _ _ (cast e) = refl
 
-module _ (facts : Facts) where
+module _ (facts : ProgramFacts) where
   belong-same : (c : Common) (v : Value) (s t : SemType) → IsSameType s t → Belongs (own_types facts) c.world.heap v s ↔ Belongs (own_types facts) c.world.heap v t
   belong-same c v s t e =
       (λ h x valid at. (In-same (own_types facts).atoms x s t e).0 (h x valid at), λ h x valid at. (In-same (own_types facts).atoms x s t e).1 (h x valid at))
@@ -39,15 +39,15 @@ module _ (facts : Facts) where
   turned e = (e.1, e.0)
 
   pub alike : (natives : Answers) (op also : Operation) → IsSameOperation op also → AreAlike facts natives op also
-  alike natives op _ same vs asker c effect = (λ h. h, λ h. h)
-  alike natives _ _ (test {s = s} {t = t} e) (v ∷ []) asker c effect =
+  alike natives op _ same vs caller c effect = (λ h. h, λ h. h)
+  alike natives _ _ (test {s = s} {t = t} e) (v ∷ []) caller c effect =
       (λ h. (h.0, (tells-same c.world h.0 (belong-same c v s t e)).0 h.1, h.2), λ h. (h.0, (tells-same c.world h.0 (belong-same c v s t e)).1 h.1, h.2))
-  alike natives _ _ (cast {s = s} {t = t} e) (v ∷ []) asker c effect =
+  alike natives _ _ (cast {s = s} {t = t} e) (v ∷ []) caller c effect =
       (λ h. (h.0, casts-same c.world v h.0 (belong-same c v s t e) h.1, h.2), λ h. (h.0, casts-same c.world v h.0 (turned (belong-same c v s t e)) h.1, h.2))
-  alike natives _ _ (test e) [] asker c effect = (λ h. h, λ h. h)
-  alike natives _ _ (test e) (v ∷ w ∷ vs) asker c effect = (λ h. h, λ h. h)
-  alike natives _ _ (cast e) [] asker c effect = (λ h. h, λ h. h)
-  alike natives _ _ (cast e) (v ∷ w ∷ vs) asker c effect = (λ h. h, λ h. h)
+  alike natives _ _ (test e) [] caller c effect = (λ h. h, λ h. h)
+  alike natives _ _ (test e) (v ∷ w ∷ vs) caller c effect = (λ h. h, λ h. h)
+  alike natives _ _ (cast e) [] caller c effect = (λ h. h, λ h. h)
+  alike natives _ _ (cast e) (v ∷ w ∷ vs) caller c effect = (λ h. h, λ h. h)
 
   -- a load has no type, so it is the same load
   pub loading : (slot : ℕ) (also : Operation) → IsSameOperation (Load slot) also → also ≡ Load slot

@@ -13,10 +13,10 @@ use Rattle.value_model.specs.Stands.{Belongs}
 use Rattle.value_model.specs.World.{Gave}
 use Rattle.typed_tree.specs.declared.expr.TypedExpr.{TypedExpr}
 use Rattle.typed_tree.specs.declared.package.TypedPackage.{TypedPackage}
-use Rattle.run_model.specs.Common.{Common, Asker}
-use Rattle.run_model.specs.Effects.{lifted}
-use Rattle.run_model.specs.Facts.{own_types}
-use Rattle.run_model.specs.Local.{Local, Act, Now, Later, Never, acts, with_stack, pushed, loaded, taken, takes}
+use Rattle.op_model.specs.Common.{Common, Caller}
+use Rattle.op_model.specs.Effects.{lifted}
+use Rattle.op_model.specs.ProgramFacts.{own_types}
+use Rattle.op_model.specs.Local.{Local, Act, Now, Later, Never, acts, with_stack, pushed, loaded, taken, takes}
 use Rattle.machine_model.specs.Machine.{Machine, Ask, On, Does, Stuck, asks as asks_of, captured_slots}
 use Rattle.machine_model.specs.Following.{Quiet, here as stays, step as steps, pass as passes, Held, ComesTo}
 use Rattle.machine_model.proofs.Quietly.{quietly}
@@ -41,7 +41,7 @@ use Rattle.lower_model.proofs.SameOperations.{alike, casting, loading, same-talk
 use Rattle.lower_model.proofs.Landing.{Ready, belows, catches, ready-follows}
 use Rattle.lower_model.proofs.Lists.{same-tail}
 
-module _ (atoms : List AtomDef) (p : TypedPackage) (fillers : ℕ → List Filler) (code : Code) (natives : Answers) (asker : Asker) (common : Common) where
+module _ (atoms : List AtomDef) (p : TypedPackage) (fillers : ℕ → List Filler) (code : Code) (natives : Answers) (caller : Caller) (common : Common) where
   abbrev M : Machine Doing
   M = trees atoms fillers p
 
@@ -55,14 +55,14 @@ module _ (atoms : List AtomDef) (p : TypedPackage) (fillers : ℕ → List Fille
   Loops = Option (Turns Spot)
 
   abbrev captured : List ℕ
-  captured = captured_slots (code_facts fillers code) asker.unit
+  captured = captured_slots (code_facts fillers code) caller.unit
 
   abbrev Goes : Standing → Standing → Type 0
-  Goes = Quiet natives N asker common
+  Goes = Quiet natives N caller common
 
   -- the frame of the code comes to what this frame asks
   abbrev pub Answer : Doing → Ask Doing → Standing → Type 0
-  Answer = ComesTo M N (Follows code) natives asker common
+  Answer = ComesTo M N (Follows code) natives caller common
 
   abbrev asks_for : ℕ → List OpenedTrap → Local → Option Command → Ask Standing
   asks_for place traps l o = obeys captured (standing place traps l) o
@@ -92,7 +92,7 @@ module _ (atoms : List AtomDef) (p : TypedPackage) (fillers : ℕ → List Fille
         catches = λ e. catches code ts l e q loop traps r.way r.landings r.below;
       }
 
-  one-answers : (d : Doing) (l : Local) (ts : List Task) (m : Spot) (loop : Loops) (traps : List OpenedTrap) (act : Act) → N.look asker.unit (standing m.place traps l) ≡ asks_of (standing (m.place + 1) traps) act → Follows code d (standing m.place traps l) → Ready code ts (after m) loop traps → Answer d (asks_of (λ x. doing x ts) act) (standing m.place traps l)
+  one-answers : (d : Doing) (l : Local) (ts : List Task) (m : Spot) (loop : Loops) (traps : List OpenedTrap) (act : Act) → N.look caller.unit (standing m.place traps l) ≡ asks_of (standing (m.place + 1) traps) act → Follows code d (standing m.place traps l) → Ready code ts (after m) loop traps → Answer d (asks_of (λ x. doing x ts) act) (standing m.place traps l)
   one-answers d l ts m loop traps (Now x) e f r = (standing (m.place + 1) traps x, steps e stays, ready-follows code x ts (after m) loop traps r)
   one-answers d l ts m loop traps (Later op vs x) e f r =
       (standing m.place traps l, standing (m.place + 1) traps x, op, stays, e, alike N.facts natives op op same, holds op op same d (standing m.place traps l) x ts (after m) loop traps f r)
@@ -103,7 +103,7 @@ module _ (atoms : List AtomDef) (p : TypedPackage) (fillers : ℕ → List Fille
   one_taken op l [] = Never
   one_taken op l (v ∷ rest) = Later op (v ∷ []) (with_stack l rest)
 
-  unary-answers : (d : Doing) (op also : Operation) (l : Local) (stack : List Value) (ts : List Task) (m : Spot) (loop : Loops) (traps : List OpenedTrap) → IsSameOperation op also → N.look asker.unit (standing m.place traps l) ≡ asks_of (standing (m.place + 1) traps) (one_taken also l stack) → Follows code d (standing m.place traps l) → Ready code ts (after m) loop traps → Answer d (asks_of (λ x. doing x ts) (one_taken op l stack)) (standing m.place traps l)
+  unary-answers : (d : Doing) (op also : Operation) (l : Local) (stack : List Value) (ts : List Task) (m : Spot) (loop : Loops) (traps : List OpenedTrap) → IsSameOperation op also → N.look caller.unit (standing m.place traps l) ≡ asks_of (standing (m.place + 1) traps) (one_taken also l stack) → Follows code d (standing m.place traps l) → Ready code ts (after m) loop traps → Answer d (asks_of (λ x. doing x ts) (one_taken op l stack)) (standing m.place traps l)
   unary-answers d op also l [] ts m loop traps is e f r = (standing m.place traps l, stays, e)
   unary-answers d op also l (v ∷ rest) ts m loop traps is e f r = (
     standing m.place traps l,
@@ -141,7 +141,7 @@ module _ (atoms : List AtomDef) (p : TypedPackage) (fillers : ℕ → List Fille
   loaded-answers d slot t l ts m loop traps (v, is, belongs) load casts r =
       let x = pushed l v in
       let act : acts captured (Load slot) l ≡ Now x = ap (λ found. loaded l slot found) is in
-      let look : N.look asker.unit (standing m.place traps l) ≡ On (standing (m.place + 1) traps x) = ap (λ o. asks_for m.place traps l o) load ∙ ap (λ a. asks_of (standing (m.place + 1) traps) a) act in
+      let look : N.look caller.unit (standing m.place traps l) ≡ On (standing (m.place + 1) traps x) = ap (λ o. asks_for m.place traps l o) load ∙ ap (λ a. asks_of (standing (m.place + 1) traps) a) act in
       subst (λ a. Answer d (asks_of (λ x. doing x ts) a) (standing m.place traps l)) (sym act) (
         standing (m.place + 1 + 1) traps x,
         steps look
@@ -156,7 +156,7 @@ module _ (atoms : List AtomDef) (p : TypedPackage) (fillers : ℕ → List Fille
   fork-answers : (d : Doing) (x y : Branch) (ts : List Task) (l : Local) (stack : List Value) (m a b : Spot) (traps : List OpenedTrap) → Has code m.place (GoToIfNot b.place) → l.stack ≡ stack → ((loop : Loops) × Ready code (branch x ts) (after m) loop traps) → ((loop : Loops) × Ready code (branch y ts) b loop traps) → Answer d (chosen x y ts l stack) (standing m.place traps l)
   fork-answers d x y ts l stack m a b traps h is first second = by-stack stack is
     where
-      look : (stack : List Value) → l.stack ≡ stack → N.look asker.unit (standing m.place traps l) ≡ branches (m.place + 1) b.place traps l stack
+      look : (stack : List Value) → l.stack ≡ stack → N.look caller.unit (standing m.place traps l) ≡ branches (m.place + 1) b.place traps l stack
       look stack is = ap (λ o. asks_for m.place traps l o) h ∙ ap (λ s. branches (m.place + 1) b.place traps l s) is
 
       by-stack : (stack : List Value) → l.stack ≡ stack → Answer d (chosen x y ts l stack) (standing m.place traps l)
@@ -189,7 +189,7 @@ module _ (atoms : List AtomDef) (p : TypedPackage) (fillers : ℕ → List Fille
   guard-answers : (vs : List Value) (l : Local) (ts : List Task) (m q : Spot) (loop : Loops) (traps : List OpenedTrap) (landing : ℕ) → Closes code landing m q → TasksOver W ts q loop → m.landings ≡ landings_of traps → vs ∷ waiting ts ≡ belows code traps → Answer (doing l (Guard vs ∷ ts)) (On (doing l ts)) (standing m.place traps l)
   guard-answers vs l ts m q loop [] landing c f ls w = absurd (let bad : ⊥ = cc in bad)
   guard-answers vs l ts m q loop (t ∷ traps) landing (h, is, leaves, lands) f ls w =
-      let look : N.look asker.unit (standing m.place (t ∷ traps) l) ≡ On (standing (m.place + 1) traps l) = ap (λ o. asks_for m.place (t ∷ traps) l o) h in (
+      let look : N.look caller.unit (standing m.place (t ∷ traps) l) ≡ On (standing (m.place + 1) traps l) = ap (λ o. asks_for m.place (t ∷ traps) l o) h in (
         standing q.place traps l,
         steps look (jumps (m.place + 1) q.place traps l leaves),
         ready-follows code l ts q loop traps

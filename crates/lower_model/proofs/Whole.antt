@@ -7,7 +7,7 @@ use Rattle.value_model.specs.declared.value.Value.{Value}
 use Rattle.value_model.specs.Meaning.{Answers}
 use Rattle.typed_tree.specs.declared.package.TypedPackage.{TypedPackage}
 use Rattle.typed_tree.specs.Units.{UnitTree, unit_at}
-use Rattle.run_model.specs.Common.{Common, Asker}
+use Rattle.op_model.specs.Common.{Common, Caller}
 use Rattle.machine_model.specs.Machine.{Machine, captured_slots, first_slots}
 use Rattle.machine_model.specs.Following.{Both, ComesTo, FramesFollow}
 use Rattle.machine_model.proofs.SameOutcomes.{followers-do-the-same}
@@ -48,11 +48,11 @@ module _ (natives : Answers) (atoms : List AtomDef) (fillers : ℕ → List Fill
 
   -- ---- the machines side by side
 
-  answers : (asker : Asker) (c : Common) (d : Doing) (s : Standing) → IsFine (facts_of atoms fillers p) c d → Follows code d s → ComesTo M N (Follows code) natives asker c d (M.look asker.unit d) s
-  answers asker c d s fine f =
-      subst (λ facts. ComesTo M N (Follows code) natives asker c d (next_of (captured_slots facts asker.unit) d.local d.tasks) s) (sym same-facts)
-      (subst (λ l. ComesTo M N (Follows code) natives asker c d (next_of (captured_slots (code_facts fillers code) asker.unit) d.local d.tasks) (standing s.place s.traps l)) f.local
-      (task-answers atoms p fillers code natives asker c d.local d.tasks _ f.way.0 s.traps (subst (λ facts. AreFineTasks facts c d.local d.tasks) same-facts fine) f.way.1 refl f.below))
+  answers : (caller : Caller) (c : Common) (d : Doing) (s : Standing) → IsFine (facts_of atoms fillers p) c d → Follows code d s → ComesTo M N (Follows code) natives caller c d (M.look caller.unit d) s
+  answers caller c d s fine f =
+      subst (λ facts. ComesTo M N (Follows code) natives caller c d (next_of (captured_slots facts caller.unit) d.local d.tasks) s) (sym same-facts)
+      (subst (λ l. ComesTo M N (Follows code) natives caller c d (next_of (captured_slots (code_facts fillers code) caller.unit) d.local d.tasks) (standing s.place s.traps l)) f.local
+      (task-answers atoms p fillers code natives caller c d.local d.tasks _ f.way.0 s.traps (subst (λ facts. AreFineTasks facts c d.local d.tasks) same-facts fine) f.way.1 refl f.below))
 
   pub frames-follow : FramesFollow natives M N (Follows code) (IsFine (facts_of atoms fillers p))
   frames-follow =

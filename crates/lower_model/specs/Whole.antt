@@ -6,7 +6,7 @@ use Rattle.value_model.specs.declared.filler.Filler.{Filler}
 use Rattle.value_model.specs.Meaning.{Answers}
 use Rattle.typed_tree.specs.declared.package.TypedPackage.{TypedPackage}
 use Rattle.typed_tree.specs.Units.{unit_at}
-use Rattle.run_model.specs.Levels.{numbers_from}
+use Rattle.op_model.specs.Levels.{numbers_from}
 use Rattle.machine_model.specs.Following.{Both}
 use Rattle.machine_model.specs.Laws.{HaveSameOutcomes}
 use Rattle.machine_model.specs.Outcomes.{Outcome}

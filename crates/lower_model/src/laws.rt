@@ -4,7 +4,7 @@ ghost use Rattle.lower_model.specs.Laws.{LoweredFramesFollow};
 ghost use Rattle.lower_model.specs.Laying.{ExpressionsAreLaid, StatementsAreLaid, UnitsAreLaid};
 ghost use Rattle.lower_model.specs.Whole.{CodeDoesTheSame, SameIsAllowed};
 
-use run_model::Meaning;
+use op_model::Meaning;
 
 /// Code that is lowered from a package has an outcome exactly where the package has it, for all words that are texts, inputs,
 /// orders and ticks, where narrowed variables hold values of their narrower types. So what may come of it is what may come of

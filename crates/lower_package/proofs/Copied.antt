@@ -6,7 +6,7 @@ use Rattle.std.proofs.lemmas.Option.{get_or_from_slice_get, slice_get_read, slic
 use Rattle.type_model.specs.declared.basic.Ty.{Ty}
 use Rattle.type_model.specs.declared.atoms.AtomDef.{AtomDef}
 use Rattle.type_model.specs.declared.atoms.AtomDef.TheVariants.{List as ListAtom, Mapping as MappingAtom, Arrow, Error as ErrorAtom, Future as FutureAtom}
-use Rattle.run_model.specs.Inherent.{IsInherent, IsOneChoice, MayFill, named, fills}
+use Rattle.op_model.specs.Inherent.{IsInherent, IsOneChoice, MayFill, named, fills}
 use Rattle.code_assembly.specs.Copies.{AreSameRests, IsSameDef, IsSameTy}
 
 -- ---- lists, one by one

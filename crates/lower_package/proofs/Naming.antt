@@ -5,7 +5,7 @@ use Rattle.std.specs.Prelude.{Contains, List, Option, map, slice_get}
 use Rattle.type_model.specs.declared.atoms.AtomDef.{AtomDef}
 use Rattle.typed_tree.specs.declared.package.TypedPackage.{TypedPackage}
 use Rattle.typed_tree.specs.Units.{UnitTree}
-use Rattle.run_model.specs.Inherent.{IsInherent}
+use Rattle.op_model.specs.Inherent.{IsInherent}
 use Rattle.stack_code.specs.declared.code.Code.{Code}
 use Rattle.stack_code.specs.declared.code.StackMap.{StackMap}
 use Rattle.stack_code.specs.declared.instr.Instr.{Instr}

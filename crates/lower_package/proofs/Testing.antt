@@ -8,7 +8,7 @@ use Rattle.type_model.specs.declared.atoms.FieldDef.{FieldDef}
 use Rattle.type_model.specs.declared.basic.SemType.{SemType}
 use Rattle.type_model.specs.declared.basic.Ty.{Ty}
 use Rattle.type_model.specs.SameType.{IsSameType}
-use Rattle.run_model.specs.Inherent.{member_types}
+use Rattle.op_model.specs.Inherent.{member_types}
 use Rattle.stack_code.specs.declared.code.Code.{Code}
 use Rattle.stack_code.specs.declared.code.StackMap.{StackMap}
 use Rattle.stack_code.specs.Tables.{HasTestedMembers}

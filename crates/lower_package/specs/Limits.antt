@@ -1,4 +1,4 @@
--- When a package is too large to be lowered.
+-- When a package has too many nodes.
 use Rattle.std.specs.Prelude.{◌≡◌, ◌<◌, None, Result, Ok, Err, ⊤}
 use Rattle.bal_base.specs.declared.fault.Fault.{Fault}
 use Rattle.bal_base.specs.declared.fault.FaultCode.TheVariants.{CodeLimit}

@@ -94,7 +94,7 @@ fn complete(mut code: Code, atoms: Vec<u32>, maps: Vec<StackMap>) -> Code
     code
 }
 
-/// The code of a package that is not too large, with these maps.
+/// The code of a package, with these maps.
 fn code_of(
     alloc: Global,
     atoms: &[AtomDef],
@@ -159,19 +159,12 @@ pub fn lower(
 }
 
 /// The same code without maps, which are a verifier's: so it costs neither their time nor their room, and isn't refused for these. It is
-/// lowered from the package over the definitions `env` themselves, of which its own are copies.
-pub fn lower_to_run(
-    alloc: Global,
-    env: &TypeEnv,
-    package: &TypedPackage,
-) -> Result<Code, Stop<Fault>>
-    ensures lowered { IfOk result (λ code. IsLowered env.now «package».now (over env.now code)) }
-    ensures limit { IfFault result (λ fault. PassesNodes «package».now × IsCodeLimit «package».now fault) }
-    ensures passes { PassesNodes «package».now → IsRefused result }
+/// lowered from the package over the definitions `env` themselves, of which its own are copies. No package is too large for it: who refuses
+/// those with more than [`MOST_NODES`] nodes counts them before.
+pub fn lower_to_run(alloc: Global, env: &TypeEnv, package: &TypedPackage) -> Result<Code, Memory>
+    ensures { IfOk result (λ code. IsLowered env.now «package».now (over env.now code)) }
 {
-    within_nodes(package)?;
-    let code = code_of(alloc, env.defs(), package, Vec::new(alloc))?;
-    Ok(code)
+    code_of(alloc, env.defs(), package, Vec::new(alloc))
 }
 
 /// Refuses a package that is too large.

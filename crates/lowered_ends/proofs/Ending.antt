@@ -12,8 +12,8 @@ use Rattle.value_model.specs.declared.filler.Filler.{Filler}
 use Rattle.value_model.specs.declared.value.Value.{Value}
 use Rattle.value_model.specs.declared.value.Value.TheVariants.{Nil, Error, Future}
 use Rattle.value_model.specs.Meaning.{Answers}
-use Rattle.run_model.specs.Common.{Activation, Common, End, Returned, Panicked, Need, Message, Received, AllEnded, AnyGiven, IsBlocked}
-use Rattle.run_model.specs.Strands.{activation_at, end_of, has_ended, no_activation, no_strand, strand_at}
+use Rattle.op_model.specs.Common.{Activation, Common, End, Returned, Panicked, Need, Message, Received, AllEnded, AnyGiven, IsBlocked}
+use Rattle.op_model.specs.Strands.{activation_at, end_of, has_ended, no_activation, no_strand, strand_at}
 use Rattle.machine_model.specs.Machine.{Does, Frame, Machine, State, captured_slots}
 use Rattle.machine_model.specs.Keeping.{FramesFit}
 use Rattle.machine_model.specs.Matching.{FramesMatch, StateMatch}

@@ -9,14 +9,14 @@ use Rattle.operations.specs.declared.operation.Operation.TheVariants as op
 use Rattle.operations.specs.Talk.{Talk, Sends, Receives, Flushes, StartsWorkers, AwaitsWorkers, NoTalk, talk_of}
 use Rattle.value_model.specs.declared.value.Value.{Value}
 use Rattle.value_model.specs.Meaning.{Answers}
-use Rattle.run_model.specs.CallRows.{new_activation, strands_made, workers_from}
-use Rattle.run_model.specs.Common.{Asker, Common, End, Returned, Panicked, Role, IsBlocked, IsEnded}
-use Rattle.run_model.specs.Effects.{Effect, Gives, Fails, Waits, Enters, Leaves, Spawns, NoTick, Beyond, Spawned}
-use Rattle.run_model.specs.Facts.{Facts}
-use Rattle.run_model.specs.Limits.{most_strands}
-use Rattle.run_model.specs.Performs.{Performs}
-use Rattle.run_model.specs.Strands.{ended_count, settled, strand_at, strand_ended, with_status, worker_ended, workers_ended}
-use Rattle.machine_model.specs.Machine.{Machine, Ask, On, Does, Stuck, Frame, State, Next, Moved, Blocked, Ended, NeedsTick, Limit, Step, Takes, TakesTop, all_begun, asker, carried, frames_from, given, goes_on, goes_to, left_with, next_units, put, roles_left, unwound, with_begun}
+use Rattle.op_model.specs.CallRows.{new_activation, strands_made, workers_from}
+use Rattle.op_model.specs.Common.{Caller, Common, End, Returned, Panicked, Role, IsBlocked, IsEnded}
+use Rattle.op_model.specs.Effects.{Effect, Gives, Fails, Waits, Enters, Leaves, Spawns, NoTick, Beyond, Spawned}
+use Rattle.op_model.specs.ProgramFacts.{ProgramFacts}
+use Rattle.op_model.specs.Limits.{most_strands}
+use Rattle.op_model.specs.Performs.{Performs}
+use Rattle.op_model.specs.Strands.{ended_count, settled, strand_at, strand_ended, with_status, worker_ended, workers_ended}
+use Rattle.machine_model.specs.Machine.{Machine, Ask, On, Does, Stuck, Frame, State, Next, Moved, Blocked, Ended, NeedsTick, Limit, Step, Takes, TakesTop, all_begun, caller, carried, frames_from, given, goes_on, goes_to, left_with, next_units, put, roles_left, unwound, with_begun}
 use Rattle.machine_model.specs.Runs.{IsReached, Phase, Reaches, starts, after_move, after_block, after_end, after_pick, begins_with, first_common, start, units_to_run}
 use Rattle.machine_model.proofs.Once.{some-same}
 use Rattle.machine_model.proofs.Shapes.{in-if, in-some}
@@ -52,7 +52,7 @@ keeps-workers rs (Leaves v) h e = tt
 keeps-workers rs NoTick h e = tt
 keeps-workers rs (Beyond limit) h e = tt
 
-module _ (facts : Facts) (natives : Answers) (vs : List Value) (who : Asker) (c : Common) (h : AreWorkers (roles c)) where
+module _ (facts : ProgramFacts) (natives : Answers) (vs : List Value) (who : Caller) (c : Common) (h : AreWorkers (roles c)) where
   crew-made : (effect : Effect) → Performs facts natives op.Workers vs who c effect → LeavesWorkers effect
   crew-made effect performs =
       in-some (slice_get facts.units who.unit) performs (λ u there e.
@@ -201,7 +201,7 @@ module _ {C : Type 0} (natives : Answers) (M : Machine C) (F : C → Type 0) whe
       takes-hold f fs next top below (On b) look taken = subst (λ n. NextHolds (Some n)) (sym taken) (record { frames = (kept.goes f.unit f.control b top look, below); others = h.others; workers = h.workers })
       takes-hold f fs next top below (Does o vs k) look (effect, performs, came) =
           let asked = kept.asks f.unit f.control k o vs top look in
-          subst NextHolds came (carried-holds f fs k top below asked.1 effect (leaves-workers M.facts natives vs (asker f fs) s.common h.workers o effect asked.0 performs))
+          subst NextHolds came (carried-holds f fs k top below asked.1 effect (leaves-workers M.facts natives vs (caller f fs) s.common h.workers o effect asked.0 performs))
       takes-hold f fs next top below Stuck look taken = absurd taken
 
       step-holds : (next : Next C) → Step natives M s next → NextHolds (Some next)

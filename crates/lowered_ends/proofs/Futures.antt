@@ -9,8 +9,8 @@ use Rattle.operations.specs.declared.operation.Operation.{Operation}
 use Rattle.operations.specs.declared.operation.Operation.TheVariants as op
 use Rattle.value_model.specs.declared.value.Value.{Value}
 use Rattle.value_model.specs.declared.value.Value.TheVariants.{Future}
-use Rattle.run_model.specs.Common.{Common}
-use Rattle.run_model.specs.Local.{Act, Later as Awaited, Local, Never, Now, acts, futures_in, taken}
+use Rattle.op_model.specs.Common.{Common}
+use Rattle.op_model.specs.Local.{Act, Later as Awaited, Local, Never, Now, acts, futures_in, taken}
 use Rattle.machine_model.specs.Machine.{Ask, Does, On, Stuck, asks}
 use Rattle.machine_model.proofs.Shapes.{in-some}
 use Rattle.eval_model.specs.Tasks.{Choose, Do, Doing, Eval, Exec, Get, Guard, Task, Turn, doing}

@@ -4,10 +4,10 @@ use Rattle.std.specs.Prelude.{⊤, drop, length, map, slice_get}
 use Rattle.std.proofs.lemmas.Option.{none-some}
 use Rattle.std.proofs.Math.Seq.{map-set_same}
 use Rattle.value_model.specs.declared.value.Value.{Value}
-use Rattle.run_model.specs.CallRows.{strands_made, workers_from}
-use Rattle.run_model.specs.Common.{Common, End, Role, Strand, IsActive}
-use Rattle.run_model.specs.Facts.{WorkerFacts}
-use Rattle.run_model.specs.Strands.{no_strand, settled, strand_at, strand_made, wakes, with_status, with_strand, worker_ended, workers_ended, woken}
+use Rattle.op_model.specs.CallRows.{strands_made, workers_from}
+use Rattle.op_model.specs.Common.{Common, End, Role, Strand, IsActive}
+use Rattle.op_model.specs.ProgramFacts.{WorkerFacts}
+use Rattle.op_model.specs.Strands.{no_strand, settled, strand_at, strand_made, wakes, with_status, with_strand, worker_ended, workers_ended, woken}
 use Rattle.machine_model.proofs.Once.{some-same}
 use Rattle.machine_model.proofs.Shapes.{in-if}
 

@@ -3,7 +3,7 @@ use Rattle.std.proofs.Common.{◌≡◌, ◌++◌, ℕ, suc, List, [], ◌∷◌
 use Rattle.std.proofs.lemmas.List.{append_assoc}
 use Rattle.bal_base.specs.declared.text.Text.{Text}
 use Rattle.value_model.specs.Meaning.{Answers}
-use Rattle.run_model.specs.Common.{Common}
+use Rattle.op_model.specs.Common.{Common}
 use Rattle.machine_model.specs.Machine.{Machine, State}
 use Rattle.machine_model.specs.Runs.{IsReached, Phase, Picking, Reaches, Runs, Stop, Over, after_block, after_end, after_move, after_pick, blocks, ends, moves, needs_tick, over, passes, picks, start, starts}
 use Rattle.machine_model.proofs.Forth.{came-blocked, came-ended, came-moved, came-picked}

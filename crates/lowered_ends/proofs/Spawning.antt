@@ -12,17 +12,17 @@ use Rattle.value_model.specs.Heap.{cells}
 use Rattle.value_model.specs.Meaning.{Answers}
 use Rattle.value_model.specs.PanicName.{future_taken}
 use Rattle.value_model.specs.World.{Came, Gave, Threw, PassesCells}
-use Rattle.run_model.specs.CallRows.{arguments, checked, ticks, with_arguments}
-use Rattle.run_model.specs.Common.{Asker, Common, End, Returned, Panicked, AllEnded, AnyGiven, Role}
-use Rattle.run_model.specs.Copies.{copy_of, with_copies}
-use Rattle.run_model.specs.Effects.{Effect, Gives, Fails, Waits, Enters, Leaves, Spawns, NoTick, Beyond, lifted, with_world}
-use Rattle.run_model.specs.Facts.{Facts}
-use Rattle.run_model.specs.Limits.{most_cells, most_frames}
-use Rattle.run_model.specs.Messages.{flushes, flushes_end, one_sent, receives, receives_end, receives_from, sends, with_received}
-use Rattle.run_model.specs.Performs.{Performs}
-use Rattle.run_model.specs.Rows.{gives, gives_error, panics}
-use Rattle.run_model.specs.Strands.{channel_at, end_of, has_success, met, settled, with_channel, worker_end}
-use Rattle.run_model.specs.Waits.{Collected, FirstPanic, Results, Target, chosen, collects, collects_end, behind, ends_with, field_names, future_target, gives_chosen, gives_end, gives_results, is_taken, strands_in, targets, took, waits, waits_all, waits_any, waits_for, worker_target}
+use Rattle.op_model.specs.CallRows.{arguments, checked, ticks, with_arguments}
+use Rattle.op_model.specs.Common.{Caller, Common, End, Returned, Panicked, AllEnded, AnyGiven, Role}
+use Rattle.op_model.specs.Copies.{copy_of, with_copies}
+use Rattle.op_model.specs.Effects.{Effect, Gives, Fails, Waits, Enters, Leaves, Spawns, NoTick, Beyond, lifted, with_world}
+use Rattle.op_model.specs.ProgramFacts.{ProgramFacts}
+use Rattle.op_model.specs.Limits.{most_cells, most_frames}
+use Rattle.op_model.specs.Messages.{flushes, flushes_end, one_sent, receives, receives_end, receives_from, sends, with_received}
+use Rattle.op_model.specs.Performs.{Performs}
+use Rattle.op_model.specs.Rows.{gives, gives_error, panics}
+use Rattle.op_model.specs.Strands.{channel_at, end_of, has_success, met, settled, with_channel, worker_end}
+use Rattle.op_model.specs.Waits.{Collected, FirstPanic, Results, Target, chosen, collects, collects_end, behind, ends_with, field_names, future_target, gives_chosen, gives_end, gives_results, is_taken, strands_in, targets, took, waits, waits_all, waits_any, waits_for, worker_target}
 use Rattle.machine_model.proofs.Shapes.{in-boolean, in-error, in-function, in-future, in-if, in-int, in-more, in-none, in-one, in-some, in-string, in-structure, in-three, in-two}
 use Rattle.lowered_ends.specs.Starting.{IsStart}
 use Rattle.lowered_ends.proofs.Roles.{roles, settled-same, strand-same}
@@ -135,7 +135,7 @@ module _ (rs : List (Option Role)) where
 
 -- ---- a line for each operation
 
-module _ (facts : Facts) (natives : Answers) (vs : List Value) (asker : Asker) (c : Common) (effect : Effect) where
+module _ (facts : ProgramFacts) (natives : Answers) (vs : List Value) (caller : Caller) (c : Common) (effect : Effect) where
   abbrev rs : List (Option Role)
   rs = roles c
 
@@ -148,14 +148,14 @@ module _ (facts : Facts) (natives : Answers) (vs : List Value) (asker : Asker) (
   world : {P : Came → Type 0} → (came : Came) × P came × (effect ≡ lifted c came) → KeepsRoles rs effect
   world (came, p, e) = just came e
 
-  pub performs-keeps : (op : Operation) → ¬ (IsStart op) → ¬ (op ≡ Workers) → Performs facts natives op vs asker c effect → KeepsRoles rs effect
+  pub performs-keeps : (op : Operation) → ¬ (IsStart op) → ¬ (op ≡ Workers) → Performs facts natives op vs caller c effect → KeepsRoles rs effect
   performs-keeps (Const k) q p h = absurd h
   performs-keeps (Load slot) q p h = in-none vs h (λ none e. just _ e)
   performs-keeps (Store slot) q p h = absurd h
   performs-keeps Pop q p h = absurd h
   performs-keeps (LoadModule m) q p h = in-none vs h (λ none k. in-some (slice_get c.variables m) k (λ held is e. just _ e))
   performs-keeps (StoreModule m) q p h = in-one vs h (λ v is k. in-some (slice_get c.variables m) k (λ held there e. so _ e refl))
-  performs-keeps Tick q p h = in-none vs h (λ none e. so _ e (ticks-keep rs c refl asker.depth c.ticks))
+  performs-keeps Tick q p h = in-none vs h (λ none e. so _ e (ticks-keep rs c refl caller.depth c.ticks))
   performs-keeps Add q p h = in-two vs h (λ a b k. in-int a k (λ x k. in-int b k (λ y k. world k)))
   performs-keeps Subtract q p h = in-two vs h (λ a b k. in-int a k (λ x k. in-int b k (λ y k. world k)))
   performs-keeps Multiply q p h = in-two vs h (λ a b k. in-int a k (λ x k. in-int b k (λ y k. world k)))
@@ -191,13 +191,13 @@ module _ (facts : Facts) (natives : Answers) (vs : List Value) (asker : Asker) (
   performs-keeps (Start unit count) q p e = absurd (q (inl (unit, count, refl)))
   performs-keeps (StartValue count) q p h = absurd (q (inr (count, refl)))
   performs-keeps Workers q p h = absurd (p refl)
-  performs-keeps (Send w) q p h = in-one vs h (λ v is k. in-some asker.role k (λ r role e. so _ e (sends-keep rs c refl r w v (Nil ∷ []))))
-  performs-keeps (Post w) q p h = in-one vs h (λ v is k. in-some asker.role k (λ r role e. so _ e (sends-keep rs c refl r w v [])))
-  performs-keeps (Done w) q p h = in-none vs h (λ none k. in-some asker.role k (λ r role e. so _ e (flushes-keep rs c refl r w)))
-  performs-keeps (Receive w) q p h = in-none vs h (λ none k. in-some asker.role k (λ r role e. so _ e (receives-keep rs c refl r w)))
-  performs-keeps (Flush w) q p h = in-none vs h (λ none k. in-some asker.role k (λ r role e. so _ e (flushes-keep rs c refl r w)))
-  performs-keeps (WaitWorker w) q p h = in-none vs h (λ none k. in-some asker.role k (λ r role k. in-some (worker_target c r w) k (λ t is e. so _ e (waits-keep rs c refl t))))
+  performs-keeps (Send w) q p h = in-one vs h (λ v is k. in-some caller.role k (λ r role e. so _ e (sends-keep rs c refl r w v (Nil ∷ []))))
+  performs-keeps (Post w) q p h = in-one vs h (λ v is k. in-some caller.role k (λ r role e. so _ e (sends-keep rs c refl r w v [])))
+  performs-keeps (Done w) q p h = in-none vs h (λ none k. in-some caller.role k (λ r role e. so _ e (flushes-keep rs c refl r w)))
+  performs-keeps (Receive w) q p h = in-none vs h (λ none k. in-some caller.role k (λ r role e. so _ e (receives-keep rs c refl r w)))
+  performs-keeps (Flush w) q p h = in-none vs h (λ none k. in-some caller.role k (λ r role e. so _ e (flushes-keep rs c refl r w)))
+  performs-keeps (WaitWorker w) q p h = in-none vs h (λ none k. in-some caller.role k (λ r role k. in-some (worker_target c r w) k (λ t is e. so _ e (waits-keep rs c refl t))))
   performs-keeps WaitFuture q p h = in-one vs h (λ f is k. in-future f k (λ n unit same e. so _ e (waits-keep rs c refl (future_target n))))
-  performs-keeps (WaitAny names) q p h = in-some (targets c asker.role names vs) h (λ ts is e. so _ e (any-keeps rs c refl ts))
+  performs-keeps (WaitAny names) q p h = in-some (targets c caller.role names vs) h (λ ts is e. so _ e (any-keeps rs c refl ts))
   performs-keeps (WaitAll atom names) q p h =
-      in-some (slice_get facts.atoms atom) h (λ d there k. in-some (targets c asker.role names vs) k (λ ts is e. so _ e (all-keeps rs c refl atom (field_names d) ts)))
+      in-some (slice_get facts.atoms atom) h (λ d there k. in-some (targets c caller.role names vs) k (λ ts is e. so _ e (all-keeps rs c refl atom (field_names d) ts)))

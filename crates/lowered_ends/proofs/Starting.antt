@@ -11,7 +11,7 @@ use Rattle.value_model.specs.declared.filler.Filler.{Filler}
 use Rattle.value_model.specs.declared.value.Value.{Value}
 use Rattle.value_model.specs.declared.value.Value.TheVariants.{Bool as Truth}
 use Rattle.value_model.specs.Meaning.{Answers}
-use Rattle.run_model.specs.Local.{Act, Later as Awaited, Local, Never, Now, acts}
+use Rattle.op_model.specs.Local.{Act, Later as Awaited, Local, Never, Now, acts}
 use Rattle.machine_model.specs.Machine.{Ask, On, Does, Stuck, Machine, asks, captured_slots}
 use Rattle.machine_model.proofs.Once.{some-same}
 use Rattle.eval_model.specs.Laws.{HasWay}

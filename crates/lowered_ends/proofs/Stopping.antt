@@ -10,13 +10,13 @@ use Rattle.operations.specs.Talk.{Talk, talk_of, workers_in}
 use Rattle.value_model.specs.declared.value.Value.{Value}
 use Rattle.value_model.specs.declared.value.Value.TheVariants.{Future}
 use Rattle.value_model.specs.Meaning.{Answers}
-use Rattle.run_model.specs.Common.{Asker, Common, End, Need, Message, Received, AllEnded, AnyGiven, Role, Status, IsActive, IsBlocked, IsEnded}
-use Rattle.run_model.specs.Effects.{Effect, Waits as WaitsEffect}
-use Rattle.run_model.specs.Facts.{Facts}
-use Rattle.run_model.specs.Performs.{Performs}
-use Rattle.run_model.specs.Strands.{activation_at, end_in, end_of, has_ended, met, no_activation, no_strand, strand_at, worker_end}
-use Rattle.run_model.specs.Waits.{Target, strands_in, targets, with_target, worker_target}
-use Rattle.machine_model.specs.Machine.{Ask, On, Does, Stuck, Frame, Machine, State, asker}
+use Rattle.op_model.specs.Common.{Caller, Common, End, Need, Message, Received, AllEnded, AnyGiven, Role, Status, IsActive, IsBlocked, IsEnded}
+use Rattle.op_model.specs.Effects.{Effect, Waits as WaitsEffect}
+use Rattle.op_model.specs.ProgramFacts.{ProgramFacts}
+use Rattle.op_model.specs.Performs.{Performs}
+use Rattle.op_model.specs.Strands.{activation_at, end_in, end_of, has_ended, met, no_activation, no_strand, strand_at, worker_end}
+use Rattle.op_model.specs.Waits.{Target, strands_in, targets, with_target, worker_target}
+use Rattle.machine_model.specs.Machine.{Ask, On, Does, Stuck, Frame, Machine, State, caller}
 use Rattle.machine_model.specs.Runs.{Picking, does_in, next_operation}
 use Rattle.machine_model.specs.Strands.{AreOn, HasRole, IsLaterThanAll, IsOn, IsUnfinished, LowestIs, Rise, StillWaits, StrandHolds, StrandsHold, TopWaits, due, due_in, frames_of, role_of, roles_of, times, top_role}
 use Rattle.machine_model.proofs.Alike.{or-both}
@@ -153,7 +153,7 @@ module _ {C : Type 0} (natives : Answers) (M : Machine C) (s : State C) (holds :
         let none : end_in x.status ≡ None = ap (λ z. end_in z.status) (sym same) ∙ none-of (end_of c n) left in
         (on-has c n (role_of a (suc w)) (roles_of (frames_of s n)) h.on (has-lowest (role_of a (suc w)) (roles_of (frames_of s n)) ((h.named (role_of a (suc w)) role).1 none))).1)
 
-    awaited : (facts : Facts) (o : Operation) (vs : List Value) (who : Asker) (need : Need) → WaitsAs facts o vs who c need → met c need ≡ false → NamesWorker c need → (TakesFutures o → NoFutures vs) → AwaitsNamed o → Awaits c who.role (talk_of o)
+    awaited : (facts : ProgramFacts) (o : Operation) (vs : List Value) (who : Caller) (need : Need) → WaitsAs facts o vs who c need → met c need ≡ false → NamesWorker c need → (TakesFutures o → NoFutures vs) → AwaitsNamed o → Awaits c who.role (talk_of o)
     awaited facts (op.Receive w) vs who need h unmet there none named =
         in-none vs h (λ empty k. in-some who.role k (λ r role e.
         record { r = r; is = role; worker = w; among = (0, omega arith, refl); unfinished = unfinished-by c r.activation w (or-both _ (is_some (worker_end c r.activation w)) (subst (λ z. met c z ≡ false) e unmet)).1 (subst (NamesWorker c) e there) }))
@@ -199,7 +199,7 @@ module _ {C : Type 0} (natives : Answers) (M : Machine C) (s : State C) (holds :
     need_of _ = AnyGiven []
 
     -- an alternate wait for nothing is met
-    none-any : (facts : Facts) (who : Asker) (need : Need) (vs : List Value) → Performs facts natives (op.WaitAny []) vs who c (WaitsEffect need) → met c need ≡ false → ⊥
+    none-any : (facts : ProgramFacts) (who : Caller) (need : Need) (vs : List Value) → Performs facts natives (op.WaitAny []) vs who c (WaitsEffect need) → met c need ≡ false → ⊥
     none-any facts who need [] h unmet = let same : need ≡ AnyGiven [] = ap need_of h in let bad : true ≡ false = ap (met c) (sym same) ∙ unmet in let q : ⊥ = cc in q
     none-any facts who need (v ∷ vs) h unmet = h
 
@@ -234,7 +234,7 @@ module _ {C : Type 0} (natives : Answers) (M : Machine C) (s : State C) (holds :
             by-ask f fs is Stuck looks still = absurd still
             by-ask f fs is (Does o vs k) looks still =
                 let w = waits n need f fs o vs k lt blocked is looks in
-                let shape = performs-shape M.facts natives vs (asker f fs) c (WaitsEffect need) o (λ names e empty. none-any M.facts (asker f fs) need vs (subst (λ x. Performs M.facts natives x vs (asker f fs) c (WaitsEffect need)) (e ∙ ap op.WaitAny empty) still) unmet) still in
+                let shape = performs-shape M.facts natives vs (caller f fs) c (WaitsEffect need) o (λ names e empty. none-any M.facts (caller f fs) need vs (subst (λ x. Performs M.facts natives x vs (caller f fs) c (WaitsEffect need)) (e ∙ ap op.WaitAny empty) still) unmet) still in
                 record {
                   need = need;
                   blocked = blocked;
@@ -245,7 +245,7 @@ module _ {C : Type 0} (natives : Answers) (M : Machine C) (s : State C) (holds :
                   operands = vs;
                   control = k;
                   looks = looks;
-                  awaits = awaited M.facts o vs (asker f fs) need shape.0 unmet w.0 w.1 w.2;
+                  awaits = awaited M.facts o vs (caller f fs) need shape.0 unmet w.0 w.1 w.2;
                 }
 
             by : (fs : List (Frame C)) → frames_of s n ≡ fs → TopWaits natives M Picking s need fs → Stopped n

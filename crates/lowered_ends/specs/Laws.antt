@@ -7,7 +7,7 @@ use Rattle.type_model.specs.Calls.{Asked}
 use Rattle.typed_tree.specs.declared.package.TypedPackage.{TypedPackage}
 use Rattle.value_model.specs.declared.filler.Filler.{Filler}
 use Rattle.value_model.specs.Meaning.{Answers}
-use Rattle.run_model.specs.Strands.{has_ended}
+use Rattle.op_model.specs.Strands.{has_ended}
 use Rattle.machine_model.specs.Machine.{Machine, State}
 use Rattle.machine_model.specs.Outcomes.{Outcome, IsAllowed, Stalls}
 use Rattle.machine_model.specs.Runs.{AreWords, IsReached, Picking}

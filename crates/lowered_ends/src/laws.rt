@@ -2,7 +2,7 @@
 ghost use Rattle.lowered_ends.specs.Laws.{KeptAllEnd, KeptHasNoStalls, KeptNeverRings, KeptNeverStalls};
 
 use lowered_waits::lowered_code_never_rings;
-use run_model::Meaning;
+use op_model::Meaning;
 use type_model::Types;
 
 /// In a package in which each function has a plan, and in its well-typed code, no workers of an activation wait for one another, at no

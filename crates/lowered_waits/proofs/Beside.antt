@@ -8,18 +8,18 @@ use Rattle.operations.specs.declared.operation.Operation.TheVariants as op
 use Rattle.operations.specs.Talk.{StartsWorkers, Talk, talk_of}
 use Rattle.value_model.specs.declared.value.Value.{Value}
 use Rattle.value_model.specs.Meaning.{Answers}
-use Rattle.run_model.specs.Common.{AnyGiven, Asker, Common, IsBlocked, Need}
-use Rattle.run_model.specs.Effects.{Effect, Gives, Waits}
-use Rattle.run_model.specs.Limits.{most_strands}
-use Rattle.run_model.specs.Performs.{Performs}
-use Rattle.run_model.specs.Strands.{activation_at, strand_at}
+use Rattle.op_model.specs.Common.{AnyGiven, Caller, Common, IsBlocked, Need}
+use Rattle.op_model.specs.Effects.{Effect, Gives, Waits}
+use Rattle.op_model.specs.Limits.{most_strands}
+use Rattle.op_model.specs.Performs.{Performs}
+use Rattle.op_model.specs.Strands.{activation_at, strand_at}
 use Rattle.machine_model.specs.Following.{AreAlike, AreFine, ComesTo, FramesFollow, Quiet, Settles, here, pass, step}
-use Rattle.machine_model.specs.Machine.{Ask, Does, Frame, Machine, On, State, Stuck, asker}
+use Rattle.machine_model.specs.Machine.{Ask, Does, Frame, Machine, On, State, Stuck, caller}
 use Rattle.machine_model.specs.Matching.{Alongside, AskAlike, BelowMatch, FramesMatch, OthersMatch, SameCall, TopsAlong}
 use Rattle.machine_model.specs.Runs.{AreWords, IsReached, Phase, Picking, Running, does_in, next_operation}
 use Rattle.machine_model.specs.Strands.{IsUnfinished, StartsOnce, StillWaits, StrandsHold, TopWaits, WaitsForSome, frames_of, top_role}
 use Rattle.machine_model.proofs.HoldOfStrands.{hold-of-strands}
-use Rattle.machine_model.proofs.Lifts.{picked-match, same-asker}
+use Rattle.machine_model.proofs.Lifts.{picked-match, same-caller}
 use Rattle.machine_model.proofs.Once.{some-same}
 use Rattle.machine_model.proofs.Reached.{reached-follow}
 use Rattle.machine_model.proofs.ShapeRows.{performs-shape}
@@ -44,7 +44,7 @@ wanted o vs = (o, vs)
 same-ask : {C : Type 0} (ask : Ask C) (o other : Operation) (vs us : List Value) (k m : C) → ask ≡ Does o vs k → ask ≡ Does other us m → wanted o vs ≡ wanted other us
 same-ask ask o other vs us k m e d = some-same _ _ (ap does_in (sym e ∙ d))
 
-module _ {B : Type 0} (natives : Answers) (N : Machine B) (who : Asker) (c : Common) (other : Operation) (vs : List Value) where
+module _ {B : Type 0} (natives : Answers) (N : Machine B) (who : Caller) (c : Common) (other : Operation) (vs : List Value) where
   abbrev Comes : Effect → Type 0
   Comes effect = Performs N.facts natives other vs who c effect
 
@@ -83,7 +83,7 @@ module _ {A B : Type 0} (natives : Answers) (M : Machine A) (N : Machine B) (Fol
     talk : talk_of other ≡ talk_of operation
 
   module _ (words : List Text) (input : List ℕ) (ticks : ℕ) (t : State B) (g : Frame B) (gs : List (Frame B)) (other : Operation) (vs : List Value) (m : B) (ok : AreWords words)
-      (reached : IsReached natives N words input ticks Running t) (frames : t.frames ≡ g ∷ gs) (looks : N.look g.unit g.control ≡ Does other vs m) (never : IsNoPass natives N (asker g gs) t.common other vs) where
+      (reached : IsReached natives N words input ticks Running t) (frames : t.frames ≡ g ∷ gs) (looks : N.look g.unit g.control ≡ Does other vs m) (never : IsNoPass natives N (caller g gs) t.common other vs) where
     asked-at : (s : State A) → IsReached natives M words input ticks Running s → (f : Frame A) (fs : List (Frame A)) → s.frames ≡ f ∷ fs → SameCall f g → (d : B) → g.control ≡ d → AskAlike M N Follows natives f.unit f.control d → Asks words input ticks g other vs
     asked-at s came f fs top call d is (inl (o, us, k, l, o', e, look, alike, held)) =
         let here : N.look f.unit g.control ≡ Does o' us l = subst (λ z. N.look f.unit z ≡ Does o' us l) (sym is) look in
@@ -111,7 +111,7 @@ module _ {A B : Type 0} (natives : Answers) (M : Machine A) (N : Machine B) (Fol
         at : (s : State A) → IsReached natives M words input ticks Running s → (fs : List (Frame A)) → s.frames ≡ fs → TopsAlong M N Follows natives t.common fs (g ∷ gs) → Asks words input ticks g other vs
         at s came [] is tops = absurd tops
         at s came (f ∷ fs) is (call, below, (d, q, asked)) =
-            asked-at s came f fs is call d (stands-still natives N (asker g gs) t.common other vs never g.control d m looks q) asked
+            asked-at s came f fs is call d (stands-still natives N (caller g gs) t.common other vs never g.control d m looks q) asked
 
         by : ((s : State A) × IsReached natives M words input ticks Running s × Alongside M N Follows natives Running s t) → Asks words input ticks g other vs
         by (s, came, (same, om, tops)) = at s came s.frames refl (subst (λ l. TopsAlong M N Follows natives t.common s.frames l) frames tops)
@@ -119,26 +119,26 @@ module _ {A B : Type 0} (natives : Answers) (M : Machine A) (N : Machine B) (Fol
   -- ---- what strands need
 
   -- the start of named workers gives nothing
-  workers-give-nothing : (who : Asker) (c : Common) (vs : List Value) → IsNoPass natives N who c op.Workers vs
+  workers-give-nothing : (who : Caller) (c : Common) (vs : List Value) → IsNoPass natives N who c op.Workers vs
   workers-give-nothing who c vs ws gives only =
       in-some (slice_get N.facts.units who.unit) gives (λ u there e. in-if (nat_le (length c.strands + length u.workers) most_strands) (λ x. Gives ws c ≡ x → ⊥) _ _ (λ b d. let q : ⊥ = cc in q) (λ b d. let q : ⊥ = cc in q) e)
 
   pub second-starts-once : StartsOnce natives M → StartsOnce natives N
   second-starts-once once words input ticks t g gs vs m ok reached frames looks =
-      let beside = asks-beside words input ticks t g gs op.Workers vs m ok reached frames looks (workers-give-nothing (asker g gs) t.common vs) in
+      let beside = asks-beside words input ticks t g gs op.Workers vs m ok reached frames looks (workers-give-nothing (caller g gs) t.common vs) in
       let o : beside.operation ≡ op.Workers = workers-only beside.operation (sym beside.talk) in
       sym beside.call.1 ∙ once words input ticks beside.state beside.frame beside.below vs beside.control ok beside.came beside.top (subst (λ x. M.look beside.frame.unit beside.frame.control ≡ Does x vs beside.control) o beside.looks)
 
   -- an alternate wait for nothing waits for ever
-  any-still : (who : Asker) (c : Common) (vs : List Value) → IsNoPass natives N who c (op.WaitAny []) vs
+  any-still : (who : Caller) (c : Common) (vs : List Value) → IsNoPass natives N who c (op.WaitAny []) vs
   any-still who c [] ws gives only = let bad : Gives ws c ≡ Waits (AnyGiven []) = gives in let q : ⊥ = cc in q
   any-still who c (v ∷ vs) ws gives only = absurd gives
 
   pub second-waits-for-some : WaitsForSome natives M → WaitsForSome natives N
   second-waits-for-some some words input ticks t g gs names vs m ok reached frames looks empty =
       let nothing : N.look g.unit g.control ≡ Does (op.WaitAny []) vs m = subst (λ ns. N.look g.unit g.control ≡ Does (op.WaitAny ns) vs m) empty looks in
-      let beside = asks-beside words input ticks t g gs (op.WaitAny []) vs m ok reached frames nothing (any-still (asker g gs) t.common vs) in
-      let who : Asker = record { unit = 0; role = None; depth = 0 } in
+      let beside = asks-beside words input ticks t g gs (op.WaitAny []) vs m ok reached frames nothing (any-still (caller g gs) t.common vs) in
+      let who : Caller = record { unit = 0; role = None; depth = 0 } in
       let nowhere = λ (ns : List (Option ℕ)) (is : beside.operation ≡ op.WaitAny ns). some words input ticks beside.state beside.frame beside.below ns vs beside.control ok beside.came beside.top (subst (λ x. M.look beside.frame.unit beside.frame.control ≡ Does x vs beside.control) is beside.looks) in
       let shape = performs-shape N.facts natives [] who t.common (Waits (AnyGiven [])) beside.operation nowhere ((beside.alike [] who t.common (Waits (AnyGiven []))).1 refl) in
       let q : ⊥ = cc in q
@@ -151,19 +151,19 @@ module _ {A B : Type 0} (natives : Answers) (M : Machine A) (N : Machine B) (Fol
   -- a frame that waits is as it has to be
   abbrev pub WaitsFine : Type 0
   WaitsFine =
-      (who : Asker) (c : Common) (a k : A) (o : Operation) (vs : List Value) (need : Need) → M.look who.unit a ≡ Does o vs k → Performs M.facts natives o vs who c (Waits need) → Fine c a
+      (who : Caller) (c : Common) (a k : A) (o : Operation) (vs : List Value) (need : Need) → M.look who.unit a ≡ Does o vs k → Performs M.facts natives o vs who c (Waits need) → Fine c a
 
   module _ (ready : WaitsFine) (c : Common) (need : Need) (talk : Talk) (f : Frame A) (fs : List (Frame A)) (g : Frame B) (gs : List (Frame B)) (call : SameCall f g) (follows : Follows f.control g.control) (below : BelowMatch M N Follows fs gs) where
-    same-talk : (o : Operation) (vs : List Value) (k : A) → M.look f.unit f.control ≡ Does o vs k → Performs M.facts natives o vs (asker f fs) c (Waits need) →
-        (other : Operation) (us : List Value) (m : B) → N.look g.unit g.control ≡ Does other us m → Performs N.facts natives other us (asker g gs) c (Waits need) → talk_of other ≡ talk_of o
+    same-talk : (o : Operation) (vs : List Value) (k : A) → M.look f.unit f.control ≡ Does o vs k → Performs M.facts natives o vs (caller f fs) c (Waits need) →
+        (other : Operation) (us : List Value) (m : B) → N.look g.unit g.control ≡ Does other us m → Performs N.facts natives other us (caller g gs) c (Waits need) → talk_of other ≡ talk_of o
     same-talk o vs k looks waits other us m seen waits' =
         let there : M.look g.unit f.control ≡ Does o vs k = subst (λ u. M.look u f.control ≡ Does o vs k) call.0 looks in
-        let comes = sim.answers (asker g gs) c f.control g.control (ready (asker f fs) c f.control k o vs need looks waits) follows in
-        by (subst (λ ask. ComesTo M N Follows natives (asker g gs) c f.control ask g.control) there comes)
+        let comes = sim.answers (caller g gs) c f.control g.control (ready (caller f fs) c f.control k o vs need looks waits) follows in
+        by (subst (λ ask. ComesTo M N Follows natives (caller g gs) c f.control ask g.control) there comes)
       where
-        by : ComesTo M N Follows natives (asker g gs) c f.control (Does o vs k) g.control → talk_of other ≡ talk_of o
+        by : ComesTo M N Follows natives (caller g gs) c f.control (Does o vs k) g.control → talk_of other ≡ talk_of o
         by (d, l, o', q, look, alike, held) =
-            let still = stands-still natives N (asker g gs) c other us (waits-still natives N (asker g gs) c other us need waits') g.control d m seen q in
+            let still = stands-still natives N (caller g gs) c other us (waits-still natives N (caller g gs) c other us need waits') g.control d m seen q in
             let here : N.look g.unit g.control ≡ Does o' vs l = subst (λ z. N.look g.unit z ≡ Does o' vs l) (sym still) look in
             let same : wanted o' vs ≡ wanted other us = same-ask (N.look g.unit g.control) o' other vs us l m here seen in
             subst (λ x. talk_of x.0 ≡ talk_of o) same held.talk
@@ -180,7 +180,7 @@ module _ {A B : Type 0} (natives : Answers) (M : Machine A) (N : Machine B) (Fol
       by (Does o vs k) (On y) is seen w w' n = absurd w'
       by (Does o vs k) Stuck is seen w w' n = absurd w'
       by (Does o vs k) (Does other us m) is seen w w' n =
-          sym (same-talk ready t.common need talk f fs g gs call follows below o vs k is (subst (λ c. Performs M.facts natives o vs (asker f fs) c (Waits need)) same w) other us m seen w') ∙ n
+          sym (same-talk ready t.common need talk f fs g gs call follows below o vs k is (subst (λ c. Performs M.facts natives o vs (caller f fs) c (Waits need)) same w) other us m seen w') ∙ n
 
   same-top : (fs : List (Frame A)) (gs : List (Frame B)) → FramesMatch M N Follows fs gs → top_role fs ≡ top_role gs
   same-top [] [] h = refl

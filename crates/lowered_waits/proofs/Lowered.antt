@@ -9,11 +9,11 @@ use Rattle.typed_tree.specs.declared.package.TypedPackage.{TypedPackage}
 use Rattle.value_model.specs.declared.filler.Filler.{Filler}
 use Rattle.value_model.specs.declared.value.Value.{Value}
 use Rattle.value_model.specs.Meaning.{Answers}
-use Rattle.run_model.specs.Common.{Asker, Common, Need}
-use Rattle.run_model.specs.Effects.{Waits}
-use Rattle.run_model.specs.Facts.{Facts}
-use Rattle.run_model.specs.Local.{Local, loaded}
-use Rattle.run_model.specs.Performs.{Performs}
+use Rattle.op_model.specs.Common.{Caller, Common, Need}
+use Rattle.op_model.specs.Effects.{Waits}
+use Rattle.op_model.specs.ProgramFacts.{ProgramFacts}
+use Rattle.op_model.specs.Local.{Local, loaded}
+use Rattle.op_model.specs.Performs.{Performs}
 use Rattle.machine_model.specs.Machine.{Does, Machine, asks, captured_slots}
 use Rattle.machine_model.specs.Runs.{does_in}
 use Rattle.machine_model.specs.Strands.{StartsOnce, WaitsForSome}
@@ -34,7 +34,7 @@ use Rattle.lowered_waits.specs.Laws.{IsLoweredPlan, LoweredHolds, LoweredNeverRi
 use Rattle.lowered_waits.proofs.Beside.{never-rings-too, second-holds, wanted}
 
 -- a variable that is read of a narrower type has a value or can't be read, and so nothing is waited for
-load-waits-not : (natives : Answers) (facts : Facts) (who : Asker) (c : Common) (need : Need) (ts : List Task) (l : Local) (slot : ℕ) (o : Option (Option Value)) (other : Operation) (vs : List Value) (k : Doing) →
+load-waits-not : (natives : Answers) (facts : ProgramFacts) (who : Caller) (c : Common) (need : Need) (ts : List Task) (l : Local) (slot : ℕ) (o : Option (Option Value)) (other : Operation) (vs : List Value) (k : Doing) →
     asks (λ x. doing x ts) (loaded l slot o) ≡ Does other vs k → Performs facts natives other vs who c (Waits need) → ⊥
 load-waits-not natives facts who c need ts l slot (Some (Some v)) other vs k e h = let q : ⊥ = cc in q
 load-waits-not natives facts who c need ts l slot None other vs k e h = let q : ⊥ = cc in q
@@ -48,7 +48,7 @@ module _ (passes : List AtomDef → Asked → TypeLimit → Type 0) (natives : A
   M = trees plan.atoms fillers plan.tree
 
   -- a frame of the package that waits is as it has to be
-  ready : (who : Asker) (c : Common) (d k : Doing) (o : Operation) (vs : List Value) (need : Need) → M.look who.unit d ≡ Does o vs k → Performs M.facts natives o vs who c (Waits need) → IsFine M.facts c d
+  ready : (who : Caller) (c : Common) (d k : Doing) (o : Operation) (vs : List Value) (need : Need) → M.look who.unit d ≡ Does o vs k → Performs M.facts natives o vs who c (Waits need) → IsFine M.facts c d
   ready who c d k o vs need looks waits = by d.tasks looks
     where
       by : (ts : List Task) → next_of (captured_slots M.facts who.unit) d.local ts ≡ Does o vs k → AreFineTasks M.facts c d.local ts

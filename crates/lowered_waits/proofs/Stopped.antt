@@ -4,8 +4,8 @@ use Rattle.std.proofs.lemmas.Bool.{cases_lt}
 use Rattle.std.proofs.lemmas.Option.{none-some, slice_get-get_or}
 use Rattle.std.specs.Prelude.{slice_get}
 use Rattle.value_model.specs.Meaning.{Answers}
-use Rattle.run_model.specs.Common.{Common, IsActive, IsBlocked, Need}
-use Rattle.run_model.specs.Strands.{activation_at, no_activation, no_strand, strand_at}
+use Rattle.op_model.specs.Common.{Common, IsActive, IsBlocked, Need}
+use Rattle.op_model.specs.Strands.{activation_at, no_activation, no_strand, strand_at}
 use Rattle.machine_model.specs.Machine.{Machine, State}
 use Rattle.machine_model.specs.Runs.{Phase, Picking, Running}
 use Rattle.machine_model.specs.Strands.{StrandsHold, TopWaits, frames_in, frames_of}

@@ -1,7 +1,7 @@
 //! Laws of workers of code. These calls do nothing: their clauses are laws.
 ghost use Rattle.lowered_waits.specs.Laws.{LoweredHolds, LoweredNeverRings};
 
-use run_model::Meaning;
+use op_model::Meaning;
 use type_model::Types;
 
 /// In code that is lowered from a package in which each function has a plan, and whose narrowed variables hold values of their

@@ -5,10 +5,10 @@ use Rattle.std.specs.List.{list_all, list_any}
 use Rattle.std.proofs.Math.Seq.{map-set_same}
 use Rattle.value_model.specs.declared.value.Value.{Value}
 use Rattle.value_model.specs.World.{World}
-use Rattle.run_model.specs.Common.{Activation, Channel, Common, Role, Strand, Need, Message, Received, AllEnded, AnyGiven}
-use Rattle.run_model.specs.Messages.{one_received, one_sent, with_received}
-use Rattle.run_model.specs.Strands.{activation_at, channel_at, end_in, end_of, has_ended, has_success, is_success, is_there, met, no_activation, no_channel, no_strand, strand_at, with_channel, with_strand, worker_end}
-use Rattle.run_model.specs.Waits.{Target, took}
+use Rattle.op_model.specs.Common.{Activation, Channel, Common, Role, Strand, Need, Message, Received, AllEnded, AnyGiven}
+use Rattle.op_model.specs.Messages.{one_received, one_sent, with_received}
+use Rattle.op_model.specs.Strands.{activation_at, channel_at, end_in, end_of, has_ended, has_success, is_success, is_there, met, no_activation, no_channel, no_strand, strand_at, with_channel, with_strand, worker_end}
+use Rattle.op_model.specs.Waits.{Target, took}
 use Rattle.machine_model.specs.Keeping.{AreApart}
 use Rattle.machine_model.proofs.Boards.{Board, Crew, Seen}
 use Rattle.machine_model.proofs.Places.{set-cases, set-view}

@@ -5,10 +5,10 @@ use Rattle.bal_base.specs.declared.text.Text.{Text}
 use Rattle.operations.specs.declared.operation.Operation.{Operation}
 use Rattle.value_model.specs.declared.value.Value.{Value}
 use Rattle.value_model.specs.Meaning.{Answers}
-use Rattle.run_model.specs.Common.{Common, Role, Asker}
-use Rattle.run_model.specs.Strands.{settled}
-use Rattle.run_model.specs.Effects.{Effect, Gives, Fails, Waits, Enters, Leaves, Spawns, NoTick, Beyond, Spawned}
-use Rattle.run_model.specs.Performs.{Performs}
+use Rattle.op_model.specs.Common.{Common, Role, Caller}
+use Rattle.op_model.specs.Strands.{settled}
+use Rattle.op_model.specs.Effects.{Effect, Gives, Fails, Waits, Enters, Leaves, Spawns, NoTick, Beyond, Spawned}
+use Rattle.op_model.specs.Performs.{Performs}
 use Rattle.machine_model.specs.Machine.{Machine, Ask, On, Does, Stuck, Frame, State, goes_to}
 use Rattle.machine_model.specs.Runs.{Running, Picking, start, begins_with, first_common, units_to_run, main_arguments}
 use Rattle.machine_model.specs.Following.{AreFine, Both, Quiet, here, step, pass, Held, ComesTo, FramesFollow, EndsFrame}
@@ -31,8 +31,8 @@ module _ {A B : Type 0} (natives : Answers) (M : Machine A) (N : Machine B) (Fol
   abbrev J : Invariant A
   J = along natives M N Follows Fine I Flows FlowsBehind
 
-  abbrev Asker' : Frame A → ℕ → Asker
-  Asker' f depth = record { unit = f.unit; role = f.role; depth = depth }
+  abbrev Caller' : Frame A → ℕ → Caller
+  Caller' f depth = record { unit = f.unit; role = f.role; depth = depth }
 
   abbrev AskN : Common → ℕ → Frame B → Ask B → Type 0
   AskN c depth g ask = AskFits natives N I c depth g ask
@@ -47,7 +47,7 @@ module _ {A B : Type 0} (natives : Answers) (M : Machine A) (N : Machine B) (Fol
   AllFlow' c n ss = AllFlow natives M N Follows Fine I Flows FlowsBehind c n ss
 
   -- the second machine's frame fits behind quiet steps
-  quiet-fits : (c : Common) (f : Frame A) (depth : ℕ) {b d : B} → I.good Running c → Quiet natives N (Asker' f depth) c b d → I.fits c c.running depth (beside f b) → I.fits c c.running depth (beside f d)
+  quiet-fits : (c : Common) (f : Frame A) (depth : ℕ) {b d : B} → I.good Running c → Quiet natives N (Caller' f depth) c b d → I.fits c c.running depth (beside f b) → I.fits c c.running depth (beside f d)
   quiet-fits c f depth good here h = h
   quiet-fits c f depth good (step {a = a} {b = b} e q) h =
       quiet-fits c f depth good q (subst (λ ask. AskN c depth (beside f a) ask) e (kept.asks c depth (beside f a) good h))
@@ -99,14 +99,14 @@ module _ {A B : Type 0} (natives : Answers) (M : Machine A) (N : Machine B) (Fol
 
   -- ---- what a frame asks
 
-  asks-along : (c : Common) (depth : ℕ) (f : Frame A) (b : B) (ask : Ask A) → I.good Running c → I.fits c c.running depth (beside f b) → ComesTo M N Follows natives (Asker' f depth) c f.control ask b → AskFlows natives M N Follows Fine I Flows FlowsBehind c depth f ask → AskFits natives M J c depth f ask
+  asks-along : (c : Common) (depth : ℕ) (f : Frame A) (b : B) (ask : Ask A) → I.good Running c → I.fits c c.running depth (beside f b) → ComesTo M N Follows natives (Caller' f depth) c f.control ask b → AskFlows natives M N Follows Fine I Flows FlowsBehind c depth f ask → AskFits natives M J c depth f ask
   asks-along c depth f b (On x) good fits (d, q, r) flow =
       let goes : Goes c c.running depth (goes_to f x) = record { other = d; follows = r; fits = quiet-fits c f depth good q fits } in
       (goes, flow goes)
   asks-along c depth f b (Does op vs k) good fits (d, m, other, q, look, alike, held) flow = λ effect performs.
       let asked : AskN c depth (beside f d) (Does other vs m) = subst (λ ask. AskN c depth (beside f d) ask) look (kept.asks c depth (beside f d) good (quiet-fits c f depth good q fits)) in
-      let performs' : Performs N.facts natives op vs (Asker' f depth) c effect = subst (λ z. Performs z natives op vs (Asker' f depth) c effect) sim.facts performs in
-      effect-along c depth f op d m k effect (goes-on M.facts natives op vs (Asker' f depth) c effect performs) held (asked effect ((alike vs (Asker' f depth) c effect).0 performs')) (flow effect performs)
+      let performs' : Performs N.facts natives op vs (Caller' f depth) c effect = subst (λ z. Performs z natives op vs (Caller' f depth) c effect) sim.facts performs in
+      effect-along c depth f op d m k effect (goes-on M.facts natives op vs (Caller' f depth) c effect performs) held (asked effect ((alike vs (Caller' f depth) c effect).0 performs')) (flow effect performs)
   asks-along c depth f b Stuck good fits (d, q, look) flow =
       subst (λ ask. AskN c depth (beside f d) ask) look (kept.asks c depth (beside f d) good (quiet-fits c f depth good q fits))
 
@@ -146,7 +146,7 @@ module _ {A B : Type 0} (natives : Answers) (M : Machine A) (N : Machine B) (Fol
       record {
         asks = λ c depth f good (goes, flow).
             asks-along c depth f goes.other (M.look f.unit f.control) good goes.fits
-            (sim.answers (Asker' f depth) c f.control goes.other (flows.fine c depth f good goes flow) goes.follows) (flows.asks c depth f good goes flow);
+            (sim.answers (Caller' f depth) c f.control goes.other (flows.fine c depth f good goes flow) goes.follows) (flows.asks c depth f good goes flow);
         stays = kept.stays;
         follows = kept.follows;
         resumes = λ c n depth f callee v (below, behind) holds.

@@ -6,14 +6,14 @@ use Rattle.bal_base.specs.declared.text.Text.{Text}
 use Rattle.operations.specs.declared.operation.Operation.{Operation}
 use Rattle.value_model.specs.declared.value.Value.{Value}
 use Rattle.value_model.specs.Meaning.{Answers}
-use Rattle.run_model.specs.Common.{Common}
-use Rattle.run_model.specs.Performs.{Performs}
-use Rattle.machine_model.specs.Machine.{Machine, On, Does, Stuck, Frame, State, Next, Moved, Blocked, Ended, NeedsTick, Limit, goes_to, asker, carried, Takes, TakesTop, Step}
+use Rattle.op_model.specs.Common.{Common}
+use Rattle.op_model.specs.Performs.{Performs}
+use Rattle.machine_model.specs.Machine.{Machine, On, Does, Stuck, Frame, State, Next, Moved, Blocked, Ended, NeedsTick, Limit, goes_to, caller, carried, Takes, TakesTop, Step}
 use Rattle.machine_model.specs.Runs.{AreWords, Phase, Running, Picking, Stop, Over, TicksSpent, PastLimit, Runs, moves, blocks, ends, needs_tick, passes, picks, over, picked}
 use Rattle.machine_model.specs.Steps.{state_at}
 use Rattle.machine_model.specs.Following.{AreAlike, Quiet, here, step, Held, ComesTo, FramesFollow, AreFine, Settles, asks, stuck, on}
 use Rattle.machine_model.specs.Matching.{AskAlike, SameCall, BelowMatch, FramesMatch, OthersMatch, StateMatch}
-use Rattle.machine_model.proofs.Lifts.{NextMatch, carried-match, back-some, goes-on, same-asker}
+use Rattle.machine_model.proofs.Lifts.{NextMatch, carried-match, back-some, goes-on, same-caller}
 use Rattle.machine_model.proofs.Steps.{one-quiet}
 use Rattle.machine_model.proofs.Quietly.{quietly, quiet-then, quiet-past}
 use Rattle.machine_model.proofs.Forth.{Came, came-moved, came-blocked, came-ended, came-picked, same-picked}
@@ -46,17 +46,17 @@ module _ {A B : Type 0} (natives : Answers) (M : Machine A) (N : Machine B) (Fol
 
   abbrev pub Meet : Common → Frame A → List (Frame A) → List (List (Frame A)) → A → B → Type 0
   Meet c f fs os a b =
-      (x : A) × (y : B) × Quiet natives M (asker f fs) c a x × Quiet natives N (asker f fs) c b y × IsCame Running (state_at c f x fs os) × Asked f.unit x y
+      (x : A) × (y : B) × Quiet natives M (caller f fs) c a x × Quiet natives N (caller f fs) c b y × IsCame Running (state_at c f x fs os) × Asked f.unit x y
 
   pub meet : (c : Common) (f : Frame A) (fs : List (Frame A)) (os : List (List (Frame A))) {a : A} (b : B) → Settles M f.unit a → IsCame Running (state_at c f a fs os) → Follows a b → Meet c f fs os a b
   meet c f fs os {a = a} b (asks {k = k} {op = op} {vs = vs} e) good r =
-      let h : ComesTo M N Follows natives (asker f fs) c a (Does op vs k) b = subst (λ o. ComesTo M N Follows natives (asker f fs) c a o b) e (sim.answers (asker f fs) c a b (fine words input ticks (state_at c f a fs os) (goes_to f a) fs texts good refl) r) in
+      let h : ComesTo M N Follows natives (caller f fs) c a (Does op vs k) b = subst (λ o. ComesTo M N Follows natives (caller f fs) c a o b) e (sim.answers (caller f fs) c a b (fine words input ticks (state_at c f a fs os) (goes_to f a) fs texts good refl) r) in
       (a, h.0, here, h.3, good, inl (op, vs, k, h.1, h.2, e, h.4, h.5, h.6))
   meet c f fs os {a = a} b (stuck e) good r =
-      let h : ComesTo M N Follows natives (asker f fs) c a Stuck b = subst (λ o. ComesTo M N Follows natives (asker f fs) c a o b) e (sim.answers (asker f fs) c a b (fine words input ticks (state_at c f a fs os) (goes_to f a) fs texts good refl) r) in
+      let h : ComesTo M N Follows natives (caller f fs) c a Stuck b = subst (λ o. ComesTo M N Follows natives (caller f fs) c a o b) e (sim.answers (caller f fs) c a b (fine words input ticks (state_at c f a fs os) (goes_to f a) fs texts good refl) r) in
       (a, h.0, here, h.1, good, inr (e, h.2))
   meet c f fs os {a = a} b (on {b = x} e more) good r =
-      let h : ComesTo M N Follows natives (asker f fs) c a (On x) b = subst (λ o. ComesTo M N Follows natives (asker f fs) c a o b) e (sim.answers (asker f fs) c a b (fine words input ticks (state_at c f a fs os) (goes_to f a) fs texts good refl) r) in
+      let h : ComesTo M N Follows natives (caller f fs) c a (On x) b = subst (λ o. ComesTo M N Follows natives (caller f fs) c a o b) e (sim.answers (caller f fs) c a b (fine words input ticks (state_at c f a fs os) (goes_to f a) fs texts good refl) r) in
       let kept = came-moved natives M words input ticks (state_at c f a fs os) (state_at c f x fs os) good (one-quiet natives M c f fs os a x e) in
       let k = meet c f fs os h.0 more kept h.2 in
       (k.0, k.1, step e k.2, quietly natives N h.1 k.3, k.4, k.5)
@@ -104,9 +104,9 @@ module _ {A B : Type 0} (natives : Answers) (M : Machine A) (N : Machine B) (Fol
       let t = state_at c g y gs ps in
       let taken : Takes natives N t (goes_to g y) gs (Does other vs m) next = subst (λ a. Takes natives N t (goes_to g y) gs a next) d h in
       let effect = taken.0 in
-      let performs : Performs M.facts natives op vs (asker f fs) c effect =
-      subst (λ z. Performs z natives op vs (asker f fs) c effect) (sym sim.facts) (subst (λ z. Performs N.facts natives op vs z c effect) (sym (same-asker M N Follows f g fs gs call below)) ((alike vs (asker g gs) c effect).1 taken.1)) in
-      let match = carried-match M N Follows sim.enters s t (goes_to f x) (goes_to g y) op k m fs gs effect (refl, om) call (goes-on M.facts natives op vs (asker f fs) c effect performs) held below in
+      let performs : Performs M.facts natives op vs (caller f fs) c effect =
+      subst (λ z. Performs z natives op vs (caller f fs) c effect) (sym sim.facts) (subst (λ z. Performs N.facts natives op vs z c effect) (sym (same-caller M N Follows f g fs gs call below)) ((alike vs (caller g gs) c effect).1 taken.1)) in
+      let match = carried-match M N Follows sim.enters s t (goes_to f x) (goes_to g y) op k m fs gs effect (refl, om) call (goes-on M.facts natives op vs (caller f fs) c effect performs) held below in
       let came = back-some (NextMatch M N Follows) next (carried M s (goes_to f x) k fs effect) (carried N t (goes_to g y) m gs effect) taken.2 match in
       (came.0, subst (λ a. Takes natives M s (goes_to f x) fs a came.0) (sym e) (effect, performs, came.1), came.2)
 
@@ -128,7 +128,7 @@ module _ {A B : Type 0} (natives : Answers) (M : Machine A) (N : Machine B) (Fol
   back-met c f g fs gs os ps a b m order stop end call om below (x, y, p, q, good, met) r ih = by met
     where
       past : (n : ℕ) × (n ≤ m) × Runs natives N Running n (state_at c g y gs ps) order stop end
-      past = quiet-past natives N c g gs ps order stop end m (subst (λ z. Quiet natives N z c b y) (same-asker M N Follows f g fs gs call below) q) r
+      past = quiet-past natives N c g gs ps order stop end m (subst (λ z. Quiet natives N z c b y) (same-caller M N Follows f g fs gs call below) q) r
 
       by : Asked f.unit x y → RunsA Running (state_at c f a fs os) order stop end
       by (inl (op, vs, k, l, other, e, d, alike, held)) =

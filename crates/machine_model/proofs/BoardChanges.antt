@@ -2,8 +2,8 @@
 use Rattle.std.proofs.Common.{◌≡◌, ◌≢◌, ◌<◌, ◌≤◌, ◌+◌, ◌++◌, ◌∙◌, ℕ, zero, suc, Bool, true, false, List, [], ◌∷◌, Option, Some, None, refl, sym, subst, ap, inl, inr, ◌⊎◌, arith}
 use Rattle.std.specs.Prelude.{get_or, if◌then◌else◌, map, option_map, remove, slice_get, slice_set}
 use Rattle.std.proofs.lemmas.Option.{get_or_from_slice_get, slice_get-map, slice_get_within}
-use Rattle.run_model.specs.Common.{Role, End, Need, Status, IsActive, IsBlocked, IsEnded}
-use Rattle.run_model.specs.Strands.{end_in}
+use Rattle.op_model.specs.Common.{Role, End, Need, Status, IsActive, IsBlocked, IsEnded}
+use Rattle.op_model.specs.Strands.{end_in}
 use Rattle.machine_model.specs.Runs.{Phase, Running, Picking}
 use Rattle.machine_model.specs.Strands.{HasRole, IsLaterThanAll, LowestIs, Rise, due_in, idle_times, role_of, times}
 use Rattle.machine_model.proofs.Once.{some-same}

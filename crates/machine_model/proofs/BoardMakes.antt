@@ -2,9 +2,9 @@
 use Rattle.std.proofs.Common.{◌≡◌, ◌≢◌, ◌<◌, ◌≤◌, ◌+◌, ◌++◌, ◌∙◌, ℕ, zero, suc, List, [], ◌∷◌, Option, Some, None, length, refl, sym, subst, ap, inl, inr, ◌⊎◌, arith}
 use Rattle.std.specs.Prelude.{option_map, replicate, slice_get}
 use Rattle.std.proofs.lemmas.Option.{slice_get_within}
-use Rattle.run_model.specs.Common.{Role, End, IsActive}
-use Rattle.run_model.specs.Levels.{numbers_from}
-use Rattle.run_model.specs.Strands.{end_in}
+use Rattle.op_model.specs.Common.{Role, End, IsActive}
+use Rattle.op_model.specs.Levels.{numbers_from}
+use Rattle.op_model.specs.Strands.{end_in}
 use Rattle.machine_model.specs.Runs.{Running}
 use Rattle.machine_model.specs.Strands.{HasRole, IsLaterThanAll, LowestIs, Rise, due_in, role_of, times}
 use Rattle.machine_model.proofs.Once.{some-same}

@@ -2,8 +2,8 @@
 use Rattle.std.proofs.Common.{◌≡◌, ◌≢◌, ◌<◌, ◌≤◌, ◌∙◌, ℕ, List, [], ◌∷◌, Option, Some, None, length, refl, sym, subst, ap, inl, inr, ◌⊎◌, arith}
 use Rattle.std.specs.Prelude.{⊤, get_or, option_map, slice_get, slice_set}
 use Rattle.std.proofs.lemmas.List.{length-set}
-use Rattle.run_model.specs.Common.{Role, End, Status, IsActive}
-use Rattle.run_model.specs.Strands.{end_in}
+use Rattle.op_model.specs.Common.{Role, End, Status, IsActive}
+use Rattle.op_model.specs.Strands.{end_in}
 use Rattle.machine_model.specs.Runs.{Phase, Running, Picking}
 use Rattle.machine_model.specs.Strands.{HasRole, IsLaterThan, IsLaterThanAll, LowestIs, Rise, due_in, role_of, times}
 use Rattle.machine_model.proofs.Once.{some-same}

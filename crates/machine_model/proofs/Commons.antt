@@ -4,9 +4,9 @@ use Rattle.std.specs.Prelude.{get_or, if◌then◌else◌, map, option_map, repl
 use Rattle.std.proofs.lemmas.List.{length-map, map-set}
 use Rattle.std.proofs.lemmas.Option.{get_or_from_slice_get, slice_get-map}
 use Rattle.std.proofs.Math.ListN.{get_or-map}
-use Rattle.run_model.specs.CallRows.{new_activation}
-use Rattle.run_model.specs.Common.{Activation, Common, End, Need, Role, Status, Strand, IsActive, IsBlocked, IsEnded}
-use Rattle.run_model.specs.Strands.{activation_at, channel_at, end_in, end_of, is_success, met, no_activation, no_channel, no_strand, settled, strand_at, strand_blocked, strand_made, wakes, with_status, with_strand, woken, woken_from, worker_end, worker_ended}
+use Rattle.op_model.specs.CallRows.{new_activation}
+use Rattle.op_model.specs.Common.{Activation, Common, End, Need, Role, Status, Strand, IsActive, IsBlocked, IsEnded}
+use Rattle.op_model.specs.Strands.{activation_at, channel_at, end_in, end_of, is_success, met, no_activation, no_channel, no_strand, settled, strand_at, strand_blocked, strand_made, wakes, with_status, with_strand, woken, woken_from, worker_end, worker_ended}
 use Rattle.machine_model.proofs.Alike.{Calm, board, crew_of, seen, still-unmet}
 use Rattle.machine_model.proofs.BoardChanges.{no_seen, rouse, roused_from, settle, stopped-status, stopped_so}
 use Rattle.machine_model.proofs.Boards.{Crew, Seen, closed, crew_at, status_in}

@@ -4,7 +4,7 @@ use Rattle.std.specs.Prelude.{slice_get}
 use Rattle.bal_base.specs.declared.fault.LimitKind.{LimitKind}
 use Rattle.bal_base.specs.declared.text.Text.{Text}
 use Rattle.value_model.specs.Meaning.{Answers}
-use Rattle.run_model.specs.Common.{Common}
+use Rattle.op_model.specs.Common.{Common}
 use Rattle.machine_model.specs.Machine.{Machine, Frame, State, Moved, Blocked, Ended, NeedsTick, Limit, Step}
 use Rattle.machine_model.specs.Runs.{AreWords, Phase, Running, Picking, Stop, Over, TicksSpent, PastLimit, Runs, moves, blocks, ends, needs_tick, passes, picks, over, picked, taken_up, IsReached, after_move, after_block, after_end, after_pick}
 use Rattle.machine_model.specs.Following.{FramesFollow, AreFine}

@@ -8,11 +8,11 @@ use Rattle.operations.specs.declared.operation.Operation.{Operation}
 use Rattle.operations.specs.declared.operation.Operation.TheVariants.{Workers, WaitAny}
 use Rattle.value_model.specs.declared.value.Value.{Value}
 use Rattle.value_model.specs.Meaning.{Answers}
-use Rattle.run_model.specs.Common.{Activation, Common, Need, Role, Status, Strand, IsActive, IsBlocked, IsEnded}
-use Rattle.run_model.specs.Effects.{Effect, Gives, Fails, Waits, Enters, Leaves, Spawns, NoTick, Beyond}
-use Rattle.run_model.specs.Strands.{end_in, met, no_activation, settled, wakes, with_status, woken, woken_from}
+use Rattle.op_model.specs.Common.{Activation, Common, Need, Role, Status, Strand, IsActive, IsBlocked, IsEnded}
+use Rattle.op_model.specs.Effects.{Effect, Gives, Fails, Waits, Enters, Leaves, Spawns, NoTick, Beyond}
+use Rattle.op_model.specs.Strands.{end_in, met, no_activation, settled, wakes, with_status, woken, woken_from}
 use Rattle.machine_model.specs.Keeping.{RunsOn}
-use Rattle.machine_model.specs.Machine.{Machine, Ask, On, Does, Stuck, Frame, State, Next, Moved, Blocked, Ended, asker, carried, Takes, TakesTop, Step}
+use Rattle.machine_model.specs.Machine.{Machine, Ask, On, Does, Stuck, Frame, State, Next, Moved, Blocked, Ended, caller, carried, Takes, TakesTop, Step}
 use Rattle.machine_model.specs.Runs.{AreWords, Phase, Running, Picking, Reaches, IsReached, after_block, after_end, after_move, after_pick, begins_with, first_common, start, starts, units_to_run}
 use Rattle.machine_model.specs.Strands.{ActivationHolds, AreOn, HoldOfStrands, LowestIs, Rise, StartsOnce, StillWaits, StrandHolds, StrandsHold, TopWaits, WaitsForSome, due, due_in, frames_in, roles_of, times}
 use Rattle.machine_model.proofs.Alike.{board, crew_of, seen}
@@ -40,7 +40,7 @@ module _ {C : Type 0} (natives : Answers) (M : Machine C) where
   NextInner next = ComesInner natives M (Some next)
 
   module _ (s : State C) (inner : Inner natives M Running s) (f : Frame C) (fs : List (Frame C)) (is : s.frames ≡ f ∷ fs) where
-    effect-inner : (op : Operation) (vs : List Value) (k : C) (effect : Effect) → M.look f.unit f.control ≡ Does op vs k → (op ≡ Workers → f.role ≡ None) → ShapeOf M.facts op vs (asker f fs) s.common effect → ComesInner natives M (carried M s f k fs effect)
+    effect-inner : (op : Operation) (vs : List Value) (k : C) (effect : Effect) → M.look f.unit f.control ≡ Does op vs k → (op ≡ Workers → f.role ≡ None) → ShapeOf M.facts op vs (caller f fs) s.common effect → ComesInner natives M (carried M s f k fs effect)
     effect-inner op vs k (Gives ws d) look once shape = gives-inner natives M s inner f fs is d (M.resume k ws) shape
     effect-inner op vs k (Fails e d) look once shape = fails-inner natives M s inner f fs is e d k shape
     effect-inner op vs k (Waits need) look once shape = waits-inner natives M s inner f fs is need op vs k look shape
@@ -53,7 +53,7 @@ module _ {C : Type 0} (natives : Answers) (M : Machine C) where
     takes-inner : (ask : Ask C) (next : Next C) → M.look f.unit f.control ≡ ask → AsksWell f ask → Takes natives M s f fs ask next → NextInner next
     takes-inner (On b) next look well taken = subst NextInner (sym taken) (on-inner natives M s inner f fs is b)
     takes-inner (Does op vs k) next look (once, some) (effect, performs, came) =
-        subst (ComesInner natives M) came (effect-inner op vs k effect look once (performs-shape M.facts natives vs (asker f fs) s.common effect op some performs))
+        subst (ComesInner natives M) came (effect-inner op vs k effect look once (performs-shape M.facts natives vs (caller f fs) s.common effect op some performs))
     takes-inner Stuck next look well taken = absurd taken
 
   step-inner : (s : State C) (next : Next C) → Inner natives M Running s → ((f : Frame C) (fs : List (Frame C)) → s.frames ≡ f ∷ fs → AsksWell f (M.look f.unit f.control)) → Step natives M s next → NextInner next
@@ -168,7 +168,7 @@ module _ {C : Type 0} (natives : Answers) (M : Machine C) where
     top-waits need (f ∷ fs) unmet h = by (M.look f.unit f.control) h
       where
         by : (ask : Ask C) → AskWaits natives M c need f fs ask → StillWaits natives M phase s need f fs ask
-        by (Does op vs k) h = still-performs M.facts natives op vs (asker f fs) c need h unmet
+        by (Does op vs k) h = still-performs M.facts natives op vs (caller f fs) c need h unmet
         by (On k) h = absurd h
         by Stuck h = absurd h
 

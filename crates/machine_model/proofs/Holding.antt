@@ -4,9 +4,9 @@ use Rattle.std.specs.Prelude.{slice_get}
 use Rattle.std.proofs.lemmas.List.{get_or-set_other, get_or-set_same, length-set}
 use Rattle.std.proofs.lemmas.Option.{slice_get_within}
 use Rattle.value_model.specs.Meaning.{Answers}
-use Rattle.run_model.specs.Common.{Common, Need, Role, Status, IsActive, IsBlocked}
-use Rattle.run_model.specs.Strands.{activation_at, channel_at, end_in}
-use Rattle.machine_model.specs.Machine.{Machine, Ask, On, Does, Stuck, Frame, State, asker, put, stopped}
+use Rattle.op_model.specs.Common.{Common, Need, Role, Status, IsActive, IsBlocked}
+use Rattle.op_model.specs.Strands.{activation_at, channel_at, end_in}
+use Rattle.machine_model.specs.Machine.{Machine, Ask, On, Does, Stuck, Frame, State, caller, put, stopped}
 use Rattle.machine_model.specs.Runs.{Phase, Running, Picking}
 use Rattle.machine_model.specs.Strands.{HasRole, frames_in, frames_of, roles_of}
 use Rattle.machine_model.proofs.Alike.{QueueHolds, board}
@@ -24,7 +24,7 @@ module _ {C : Type 0} (natives : Answers) (M : Machine C) where
 
   -- the frame is to do what waits so
   abbrev pub AskWaits : Common → Need → Frame C → List (Frame C) → Ask C → Type 0
-  AskWaits c need f fs (Does op vs k) = WaitsAs M.facts op vs (asker f fs) c need
+  AskWaits c need f fs (Does op vs k) = WaitsAs M.facts op vs (caller f fs) c need
   AskWaits c need f fs (On k) = ⊥
   AskWaits c need f fs Stuck = ⊥
 
@@ -48,7 +48,7 @@ module _ {C : Type 0} (natives : Answers) (M : Machine C) where
   top-stays c d need (f ∷ fs) calls sent h = by (M.look f.unit f.control) h
     where
       by : (ask : Ask C) → AskWaits c need f fs ask → AskWaits d need f fs ask
-      by (Does op vs k) h = waits-stay M.facts natives c d calls op vs (asker f fs) need (λ r is w. sent r (inl is) w) h
+      by (Does op vs k) h = waits-stay M.facts natives c d calls op vs (caller f fs) need (λ r is w. sent r (inl is) w) h
       by (On k) h = absurd h
       by Stuck h = absurd h
 

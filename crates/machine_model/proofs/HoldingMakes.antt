@@ -4,10 +4,10 @@ use Rattle.std.specs.Prelude.{⊤, get_or, map, option_map, slice_get}
 use Rattle.std.proofs.lemmas.List.{get_or-append-add, get_or_append_left, length-append, length-map}
 use Rattle.std.proofs.lemmas.Option.{slice_get_within}
 use Rattle.value_model.specs.Meaning.{Answers}
-use Rattle.run_model.specs.CallRows.{strands_made}
-use Rattle.run_model.specs.Common.{Common, Need, Role, Status, Strand, IsActive, IsBlocked}
-use Rattle.run_model.specs.Effects.{Spawned}
-use Rattle.run_model.specs.Strands.{end_in, no_activation, no_channel, strand_made}
+use Rattle.op_model.specs.CallRows.{strands_made}
+use Rattle.op_model.specs.Common.{Common, Need, Role, Status, Strand, IsActive, IsBlocked}
+use Rattle.op_model.specs.Effects.{Spawned}
+use Rattle.op_model.specs.Strands.{end_in, no_activation, no_channel, strand_made}
 use Rattle.machine_model.specs.Machine.{Machine, Frame, State, all_begun, with_begun}
 use Rattle.machine_model.specs.Runs.{Running}
 use Rattle.machine_model.specs.Strands.{HasRole, frames_in, frames_of, role_of, roles_of}

@@ -7,13 +7,13 @@ use Rattle.operations.specs.declared.operation.Operation.{Operation}
 use Rattle.operations.specs.declared.operation.Operation.TheVariants.{Workers}
 use Rattle.value_model.specs.declared.value.Value.{Value}
 use Rattle.value_model.specs.Meaning.{Answers}
-use Rattle.run_model.specs.CallRows.{new_activation, strands_made, workers_from}
-use Rattle.run_model.specs.Common.{Common, Role, IsActive}
-use Rattle.run_model.specs.Effects.{Spawns, Spawned}
-use Rattle.run_model.specs.Facts.{WorkerFacts}
-use Rattle.run_model.specs.Levels.{numbers_from}
-use Rattle.run_model.specs.Strands.{activation_at, no_activation, strand_made}
-use Rattle.machine_model.specs.Machine.{Machine, Frame, State, Moved, all_begun, asker, carried}
+use Rattle.op_model.specs.CallRows.{new_activation, strands_made, workers_from}
+use Rattle.op_model.specs.Common.{Common, Role, IsActive}
+use Rattle.op_model.specs.Effects.{Spawns, Spawned}
+use Rattle.op_model.specs.ProgramFacts.{WorkerFacts}
+use Rattle.op_model.specs.Levels.{numbers_from}
+use Rattle.op_model.specs.Strands.{activation_at, no_activation, strand_made}
+use Rattle.machine_model.specs.Machine.{Machine, Frame, State, Moved, all_begun, caller, carried}
 use Rattle.machine_model.specs.Runs.{Running}
 use Rattle.machine_model.specs.Strands.{HasRole, frames_of, role_of, roles_of}
 use Rattle.machine_model.proofs.Alike.{QueueHolds, board, crew_of, seen}
@@ -129,10 +129,10 @@ module _ {C : Type 0} (natives : Answers) (M : Machine C) where
     runs-there : c.running < length c.strands
     runs-there = let x = strand-of c c.running IsActive inner.held.runs in slice_get_within c.strands c.running x.0 x.1
 
-    pub spawns-inner : (op : Operation) (k : C) (ss : List Spawned) (role : Option Role) (vs : List Value) (d : Common) → (op ≡ Workers → f.role ≡ None) → SpawnsOne M.facts (asker f fs) c ss role d ⊎ SpawnsCrew M.facts op c ss role d → ComesInner natives M (carried M s f k fs (Spawns ss role vs d))
+    pub spawns-inner : (op : Operation) (k : C) (ss : List Spawned) (role : Option Role) (vs : List Value) (d : Common) → (op ≡ Workers → f.role ≡ None) → SpawnsOne M.facts (caller f fs) c ss role d ⊎ SpawnsCrew M.facts op c ss role d → ComesInner natives M (carried M s f k fs (Spawns ss role vs d))
     spawns-inner op k ss role vs d once shape = by (all_begun M ss) refl
       where
-        one-so : (x : SpawnsOne M.facts (asker f fs) c ss role d) (more : List (List (Frame C))) → all_begun M ss ≡ Some more → Inner natives M Running (record { common = d; frames = record { unit = f.unit; role = role; control = M.resume k vs } ∷ fs; others = s.others ++ more })
+        one-so : (x : SpawnsOne M.facts (caller f fs) c ss role d) (more : List (List (Frame C))) → all_begun M ss ≡ Some more → Inner natives M Running (record { common = d; frames = record { unit = f.unit; role = role; control = M.resume k vs } ∷ fs; others = s.others ++ more })
         one-so x more all =
             let same : strands_made ss x.before ≡ d = ap (λ l. strands_made l x.before) x.is ∙ (ap (λ r. strand_made x.one.unit r x.before) x.no_role ∙ sym x.made) in
             let alike = x.calm.alike in
@@ -164,6 +164,6 @@ module _ {C : Type 0} (natives : Answers) (M : Machine C) where
         by None e = tt
         by (Some more) e = pick shape
           where
-            pick : SpawnsOne M.facts (asker f fs) c ss role d ⊎ SpawnsCrew M.facts op c ss role d → Inner natives M Running (record { common = d; frames = record { unit = f.unit; role = role; control = M.resume k vs } ∷ fs; others = s.others ++ more })
+            pick : SpawnsOne M.facts (caller f fs) c ss role d ⊎ SpawnsCrew M.facts op c ss role d → Inner natives M Running (record { common = d; frames = record { unit = f.unit; role = role; control = M.resume k vs } ∷ fs; others = s.others ++ more })
             pick (inl x) = one-so x more e
             pick (inr x) = crew-so x more e

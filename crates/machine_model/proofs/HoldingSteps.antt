@@ -6,10 +6,10 @@ use Rattle.std.proofs.lemmas.List.{get_or-set_other, length-map, length-set}
 use Rattle.operations.specs.declared.operation.Operation.{Operation}
 use Rattle.value_model.specs.declared.value.Value.{Value}
 use Rattle.value_model.specs.Meaning.{Answers}
-use Rattle.run_model.specs.Common.{Common, End, Returned, Panicked, Need, Role, Status, IsActive, IsBlocked, IsEnded}
-use Rattle.run_model.specs.Effects.{Fails, Waits, Enters, Leaves}
-use Rattle.run_model.specs.Strands.{end_in, ended_count, is_success, met, settled, strand_blocked, strand_ended, wakes, woken, workers_ended}
-use Rattle.machine_model.specs.Machine.{Machine, Does, Frame, State, Next, Moved, Blocked, Ended, NeedsTick, Limit, asker, carried, frames_from, given, goes_on, goes_to, left_with, next_units, put, roles_left, roles_to, unwound}
+use Rattle.op_model.specs.Common.{Common, End, Returned, Panicked, Need, Role, Status, IsActive, IsBlocked, IsEnded}
+use Rattle.op_model.specs.Effects.{Fails, Waits, Enters, Leaves}
+use Rattle.op_model.specs.Strands.{end_in, ended_count, is_success, met, settled, strand_blocked, strand_ended, wakes, woken, workers_ended}
+use Rattle.machine_model.specs.Machine.{Machine, Does, Frame, State, Next, Moved, Blocked, Ended, NeedsTick, Limit, caller, carried, frames_from, given, goes_on, goes_to, left_with, next_units, put, roles_left, roles_to, unwound}
 use Rattle.machine_model.specs.Runs.{Phase, Running, Picking, picked, taken_up}
 use Rattle.machine_model.specs.Strands.{HasRole, frames_in, frames_of, roles_of}
 use Rattle.machine_model.proofs.Alike.{Alike, Calm, board, calm-still, seen}
@@ -191,14 +191,14 @@ module _ {C : Type 0} (natives : Answers) (M : Machine C) where
               moved-inner natives M s inner d (record { unit = unit; role = None; control = j } ∷ goes_to f k ∷ fs) (λ e. let bad : ⊥ = cc in bad) goes
               (pushed-held (board d) R0 (at n0 roles R0) (held-alike d calm.alike) moves (inl (λ e. let none : f.role ∷ roles_of fs ≡ [] = sym tops ∙ e in let bad : ⊥ = cc in bad))) (there-alike d calm.alike) (unmet-calm s.common d calm inner.unmet)
 
-      pub waits-inner : (need : Need) (op : Operation) (vs : List Value) (k : C) → M.look f.unit f.control ≡ Does op vs k → WaitsAs M.facts op vs (asker f fs) s.common need × (met s.common need ≡ false) → ComesInner (carried M s f k fs (Waits need))
+      pub waits-inner : (need : Need) (op : Operation) (vs : List Value) (k : C) → M.look f.unit f.control ≡ Does op vs k → WaitsAs M.facts op vs (caller f fs) s.common need × (met s.common need ≡ false) → ComesInner (carried M s f k fs (Waits need))
       waits-inner need op vs k look (waits, unmet) =
           let d = strand_blocked need s.common in
           let blocked = IsBlocked need in
           let same = sym (board-stopped s.common blocked) in
           let stop = stopped-held (board s.common) R0 inner.held blocked refl (λ ne. absurd (ne refl)) in
           let here : status_in (board d) n0 ≡ Some blocked = ap (λ b. status_in b n0) (board-stopped s.common blocked) ∙ stopped-here (board s.common) blocked inner.held.runs in
-          let still : TopWaitsAs natives M d need (f ∷ fs) = subst (λ ask. AskWaits natives M d need f fs ask) (sym look) (waits-stay M.facts natives s.common d (λ a w n i. i) op vs (asker f fs) need (λ r e w. refl) waits) in
+          let still : TopWaitsAs natives M d need (f ∷ fs) = subst (λ ask. AskWaits natives M d need f fs ask) (sym look) (waits-stay M.facts natives s.common d (λ a w n i. i) op vs (caller f fs) need (λ r e w. refl) waits) in
           stops-inner natives M s inner d (f ∷ fs) (onward-stopped s.common blocked)
           (same-roles (at-still n0 (f.role ∷ roles_of fs) R0 top) (subst (λ b. Held Picking b R0) same stop)) (subst AreThere same (there-stopped s.common blocked inner.there))
           (unmet-blocked s.common need inner.held.runs inner.unmet unmet)

@@ -5,9 +5,9 @@ use Rattle.std.proofs.lemmas.List.{length-set, length-map, length-append}
 use Rattle.bal_base.specs.declared.text.Text.{Text}
 use Rattle.value_model.specs.declared.value.Value.{Value}
 use Rattle.value_model.specs.Meaning.{Answers}
-use Rattle.run_model.specs.Common.{Common, Role, End, Returned, Panicked}
-use Rattle.run_model.specs.Strands.{activation_at, settled, strand_blocked, strand_ended, worker_ended, workers_ended, woken}
-use Rattle.run_model.specs.Effects.{Effect, Gives, Fails, Waits, Enters, Leaves, Spawns, NoTick, Beyond, Spawned}
+use Rattle.op_model.specs.Common.{Common, Role, End, Returned, Panicked}
+use Rattle.op_model.specs.Strands.{activation_at, settled, strand_blocked, strand_ended, worker_ended, workers_ended, woken}
+use Rattle.op_model.specs.Effects.{Effect, Gives, Fails, Waits, Enters, Leaves, Spawns, NoTick, Beyond, Spawned}
 use Rattle.machine_model.specs.Machine.{Machine, Ask, On, Does, Stuck, Frame, State, Next, Moved, Blocked, Ended, NeedsTick, Limit, goes_to, put, stopped, next_units, frames_from, roles_to, unwound, roles_left, left_with, goes_on, given, with_begun, all_begun, carried, Takes, TakesTop, Step}
 use Rattle.machine_model.specs.Runs.{AreWords, Phase, Running, Picking, picked, taken_up, Reaches, starts, after_move, after_block, after_end, after_pick}
 use Rattle.machine_model.specs.Keeping.{Invariant, RunsOn, IsFresh, AreApart, ApartFrom, KeepsStrands, Caught, BelowFit, FramesFit, OthersFit, StateFits, LaterBut, AllBegin, EffectFits, AskFits, EndFits, IsKept}

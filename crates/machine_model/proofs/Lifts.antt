@@ -7,12 +7,12 @@ use Rattle.operations.specs.declared.operation.Operation.TheVariants.{Return, Pa
 use Rattle.value_model.specs.declared.value.Value.{Value}
 use Rattle.value_model.specs.declared.value.Value.TheVariants.{Error}
 use Rattle.value_model.specs.Meaning.{Answers}
-use Rattle.run_model.specs.Facts.{Facts}
-use Rattle.run_model.specs.Common.{Common, Asker, Role, End, Returned, Panicked}
-use Rattle.run_model.specs.Strands.{settled, strand_blocked, strand_ended, worker_ended, workers_ended}
-use Rattle.run_model.specs.Effects.{Effect, Gives, Fails, Waits, Enters, Leaves, Spawns, NoTick, Beyond, Spawned}
-use Rattle.run_model.specs.Performs.{Performs}
-use Rattle.machine_model.specs.Machine.{Machine, Frame, State, Next, Moved, Blocked, Ended, NeedsTick, Limit, goes_to, asker, next_units, frames_from, roles_to, begun, unwound, roles_left, left_with, goes_on, given, with_begun, all_begun, carried}
+use Rattle.op_model.specs.ProgramFacts.{ProgramFacts}
+use Rattle.op_model.specs.Common.{Common, Caller, Role, End, Returned, Panicked}
+use Rattle.op_model.specs.Strands.{settled, strand_blocked, strand_ended, worker_ended, workers_ended}
+use Rattle.op_model.specs.Effects.{Effect, Gives, Fails, Waits, Enters, Leaves, Spawns, NoTick, Beyond, Spawned}
+use Rattle.op_model.specs.Performs.{Performs}
+use Rattle.machine_model.specs.Machine.{Machine, Frame, State, Next, Moved, Blocked, Ended, NeedsTick, Limit, goes_to, caller, next_units, frames_from, roles_to, begun, unwound, roles_left, left_with, goes_on, given, with_begun, all_begun, carried}
 use Rattle.machine_model.specs.Following.{Both, Held, EndsFrame}
 use Rattle.machine_model.specs.Matching.{SameCall, BelowMatch, FramesMatch, OthersMatch, StateMatch}
 
@@ -24,15 +24,15 @@ GoesOn (Fails e c) = ⊥
 GoesOn (Leaves v) = ⊥
 GoesOn effect = ⊤
 
-pub goes-on : (facts : Facts) (natives : Answers) (op : Operation) (vs : List Value) (asker : Asker) (c : Common) (effect : Effect) → Performs facts natives op vs asker c effect → GoesOn effect → ¬ (EndsFrame op)
-goes-on facts natives Return (v ∷ []) asker c effect h g x = subst GoesOn h g
-goes-on facts natives Return [] asker c effect h g x = h
-goes-on facts natives Return (v ∷ w ∷ vs) asker c effect h g x = h
-goes-on facts natives Panic (Error n ∷ []) asker c effect h g x = subst GoesOn h g
-goes-on facts natives Panic (v ∷ []) asker c effect h g x = h
-goes-on facts natives Panic [] asker c effect h g x = h
-goes-on facts natives Panic (v ∷ w ∷ vs) asker c effect h g x = h
-goes-on facts natives op vs asker c effect h g x = x
+pub goes-on : (facts : ProgramFacts) (natives : Answers) (op : Operation) (vs : List Value) (caller : Caller) (c : Common) (effect : Effect) → Performs facts natives op vs caller c effect → GoesOn effect → ¬ (EndsFrame op)
+goes-on facts natives Return (v ∷ []) caller c effect h g x = subst GoesOn h g
+goes-on facts natives Return [] caller c effect h g x = h
+goes-on facts natives Return (v ∷ w ∷ vs) caller c effect h g x = h
+goes-on facts natives Panic (Error n ∷ []) caller c effect h g x = subst GoesOn h g
+goes-on facts natives Panic (v ∷ []) caller c effect h g x = h
+goes-on facts natives Panic [] caller c effect h g x = h
+goes-on facts natives Panic (v ∷ w ∷ vs) caller c effect h g x = h
+goes-on facts natives op vs caller c effect h g x = x
 
 -- ---- two options of which both or none is there
 
@@ -111,8 +111,8 @@ module _ {A B : Type 0} (M : Machine A) (N : Machine B) (Follows : A → B → T
   below-length [] (g ∷ gs) h = absurd h
   below-length (f ∷ fs) [] h = absurd h
 
-  pub same-asker : (f : Frame A) (g : Frame B) (fs : List (Frame A)) (gs : List (Frame B)) → SameCall f g → Below fs gs → asker f fs ≡ asker g gs
-  same-asker f g fs gs (u, r) h = λ i. record { unit = u i; role = r i; depth = suc (below-length fs gs h i) }
+  pub same-caller : (f : Frame A) (g : Frame B) (fs : List (Frame A)) (gs : List (Frame B)) → SameCall f g → Below fs gs → caller f fs ≡ caller g gs
+  same-caller f g fs gs (u, r) h = λ i. record { unit = u i; role = r i; depth = suc (below-length fs gs h i) }
 
   -- ---- panics
 

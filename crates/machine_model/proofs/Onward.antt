@@ -3,8 +3,8 @@ use Rattle.std.proofs.Common.{◌≡◌, ◌≢◌, ◌++◌, ◌==◌, ◌∙�
 use Rattle.std.specs.Prelude.{get_or, if◌then◌else◌, slice_get, slice_set}
 use Rattle.std.proofs.lemmas.List.{length-map, length-set}
 use Rattle.value_model.specs.declared.value.Value.{Value}
-use Rattle.run_model.specs.Common.{Activation, Common, End, Need, Role, Status, IsActive, IsBlocked, IsEnded}
-use Rattle.run_model.specs.Strands.{activation_at, channel_at, end_in, no_activation, no_channel, settled, strand_at, wakes, with_status, with_strand, woken, worker_ended, workers_ended}
+use Rattle.op_model.specs.Common.{Activation, Common, End, Need, Role, Status, IsActive, IsBlocked, IsEnded}
+use Rattle.op_model.specs.Strands.{activation_at, channel_at, end_in, no_activation, no_channel, settled, strand_at, wakes, with_status, with_strand, woken, worker_ended, workers_ended}
 use Rattle.machine_model.specs.Keeping.{AreApart}
 use Rattle.machine_model.specs.Runs.{Running}
 use Rattle.machine_model.proofs.Alike.{Alike, QueueHolds, board, seen}

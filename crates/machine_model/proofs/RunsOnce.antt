@@ -2,8 +2,8 @@
 use Rattle.std.proofs.Common.{◌≡◌, ℕ, suc, List, [], ◌∷◌, Some, refl, sym, subst, ap, ◌∙◌}
 use Rattle.std.specs.Prelude.{drop, get_or, slice_get}
 use Rattle.value_model.specs.Meaning.{Answers}
-use Rattle.run_model.specs.Common.{Common}
-use Rattle.run_model.specs.Laws.{AnswerOnce}
+use Rattle.op_model.specs.Common.{Common}
+use Rattle.op_model.specs.Laws.{AnswerOnce}
 use Rattle.machine_model.specs.Machine.{Machine, State, Next, Moved, Blocked, Ended, NeedsTick, Limit, Step}
 use Rattle.machine_model.specs.Runs.{Phase, Running, Picking, Stop, Over, TicksSpent, PastLimit, Runs, moves, blocks, ends, needs_tick, passes, picks, over, picked}
 use Rattle.machine_model.specs.Laws.{RunsOnce}

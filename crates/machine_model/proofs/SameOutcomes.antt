@@ -4,7 +4,7 @@ use Rattle.std.specs.Prelude.{map}
 use Rattle.bal_base.specs.declared.text.Text.{Text}
 use Rattle.value_model.specs.declared.value.Value.{Value}
 use Rattle.value_model.specs.Meaning.{Answers}
-use Rattle.run_model.specs.Common.{Common}
+use Rattle.op_model.specs.Common.{Common}
 use Rattle.machine_model.specs.Machine.{Machine, begun}
 use Rattle.machine_model.specs.Runs.{start, starts, begins_with, first_common, units_to_run, main_arguments}
 use Rattle.machine_model.specs.Following.{Both, FramesFollow, AreFine, Settles}

@@ -6,15 +6,15 @@ use Rattle.operations.specs.declared.operation.Operation.{Operation}
 use Rattle.operations.specs.declared.operation.Operation.TheVariants.{Workers, Done, Receive, Flush, WaitWorker, WaitFuture, WaitAny, WaitAll}
 use Rattle.value_model.specs.declared.value.Value.{Value}
 use Rattle.value_model.specs.declared.value.Value.TheVariants.{Nil, Bool as Truth, Int, Str, Struct, Error, Function, Future}
-use Rattle.run_model.specs.CallRows.{new_activation, strands_made, workers_from}
-use Rattle.run_model.specs.Common.{Asker, Common, End, Need, Message, Received, AllEnded, AnyGiven, Role}
-use Rattle.run_model.specs.Effects.{Effect, Gives, Fails, Waits, Enters, Leaves, Spawns, NoTick, Beyond, Spawned}
-use Rattle.run_model.specs.Facts.{Facts, WorkerFacts}
-use Rattle.run_model.specs.Messages.{flushes, flushes_end, receives, receives_end, receives_from}
-use Rattle.run_model.specs.Operands.{NoOperand, One, Two, Three, OneAndMore, AnInt, AString, ABoolean, AStructure, AnError, AFunction, AFuture}
-use Rattle.run_model.specs.Performs.{AsWorker}
-use Rattle.run_model.specs.Strands.{channel_at, end_of, has_ended, is_there, met, settled, strand_made, worker_end}
-use Rattle.run_model.specs.Waits.{Target, strands_in, targets, waits, waits_for, worker_target}
+use Rattle.op_model.specs.CallRows.{new_activation, strands_made, workers_from}
+use Rattle.op_model.specs.Common.{Caller, Common, End, Need, Message, Received, AllEnded, AnyGiven, Role}
+use Rattle.op_model.specs.Effects.{Effect, Gives, Fails, Waits, Enters, Leaves, Spawns, NoTick, Beyond, Spawned}
+use Rattle.op_model.specs.ProgramFacts.{ProgramFacts, WorkerFacts}
+use Rattle.op_model.specs.Messages.{flushes, flushes_end, receives, receives_end, receives_from}
+use Rattle.op_model.specs.Operands.{NoOperand, One, Two, Three, OneAndMore, AnInt, AString, ABoolean, AStructure, AnError, AFunction, AFuture}
+use Rattle.op_model.specs.Performs.{AsWorker}
+use Rattle.op_model.specs.Strands.{channel_at, end_of, has_ended, is_there, met, settled, strand_made, worker_end}
+use Rattle.op_model.specs.Waits.{Target, strands_in, targets, waits, waits_for, worker_target}
 use Rattle.machine_model.specs.Strands.{role_of}
 use Rattle.machine_model.proofs.Alike.{Alike, Calm, or-both}
 
@@ -79,27 +79,27 @@ in-if false P x y h k = k refl
 
 -- ---- shapes
 
-module _ (facts : Facts) where
+module _ (facts : ProgramFacts) where
   -- by which need an operation waits, whether or not it is met
-  abbrev pub WaitsAs : Operation → List Value → Asker → Common → Need → Type 0
-  WaitsAs (Receive w) vs asker c need = NoOperand vs (AsWorker asker (λ r. need ≡ Message r.activation w r.worker))
-  WaitsAs (Done w) vs asker c need = NoOperand vs (AsWorker asker (λ r. need ≡ Received r.activation r.worker w (channel_at c r.activation r.worker w).sent))
-  WaitsAs (Flush w) vs asker c need = NoOperand vs (AsWorker asker (λ r. need ≡ Received r.activation r.worker w (channel_at c r.activation r.worker w).sent))
-  WaitsAs (WaitWorker w) vs asker c need = NoOperand vs (AsWorker asker (λ r. IsSomeAnd (worker_target c r w) (λ t. need ≡ AllEnded (t.strand ∷ []))))
-  WaitsAs WaitFuture vs asker c need = One vs (λ f. AFuture f (λ n. need ≡ AllEnded (n ∷ [])))
-  WaitsAs (WaitAny names) vs asker c need = IsSomeAnd (targets c asker.role names vs) (λ ts. need ≡ AnyGiven (strands_in ts))
-  WaitsAs (WaitAll atom names) vs asker c need =
-      IsSomeAnd (slice_get facts.atoms atom) (λ d. IsSomeAnd (targets c asker.role names vs) (λ ts. need ≡ AllEnded (strands_in ts)))
-  WaitsAs op vs asker c need = ⊥
+  abbrev pub WaitsAs : Operation → List Value → Caller → Common → Need → Type 0
+  WaitsAs (Receive w) vs caller c need = NoOperand vs (AsWorker caller (λ r. need ≡ Message r.activation w r.worker))
+  WaitsAs (Done w) vs caller c need = NoOperand vs (AsWorker caller (λ r. need ≡ Received r.activation r.worker w (channel_at c r.activation r.worker w).sent))
+  WaitsAs (Flush w) vs caller c need = NoOperand vs (AsWorker caller (λ r. need ≡ Received r.activation r.worker w (channel_at c r.activation r.worker w).sent))
+  WaitsAs (WaitWorker w) vs caller c need = NoOperand vs (AsWorker caller (λ r. IsSomeAnd (worker_target c r w) (λ t. need ≡ AllEnded (t.strand ∷ []))))
+  WaitsAs WaitFuture vs caller c need = One vs (λ f. AFuture f (λ n. need ≡ AllEnded (n ∷ [])))
+  WaitsAs (WaitAny names) vs caller c need = IsSomeAnd (targets c caller.role names vs) (λ ts. need ≡ AnyGiven (strands_in ts))
+  WaitsAs (WaitAll atom names) vs caller c need =
+      IsSomeAnd (slice_get facts.atoms atom) (λ d. IsSomeAnd (targets c caller.role names vs) (λ ts. need ≡ AllEnded (strands_in ts)))
+  WaitsAs op vs caller c need = ⊥
 
   -- a strand is made for a future
-  pub record SpawnsOne (asker : Asker) (c : Common) (ss : List Spawned) (role : Option Role) (d : Common) : Type 0 where
+  pub record SpawnsOne (caller : Caller) (c : Common) (ss : List Spawned) (role : Option Role) (d : Common) : Type 0 where
     pub one : Spawned
     pub before : Common
     pub is : ss ≡ one ∷ []
     pub no_role : one.role ≡ None
-    pub same_role : role ≡ asker.role
-    pub calm : Calm asker.role c before
+    pub same_role : role ≡ caller.role
+    pub calm : Calm caller.role c before
     pub made : d ≡ strand_made one.unit None before
 
   -- an activation begins, and strands are made for its named workers
@@ -112,15 +112,15 @@ module _ (facts : Facts) where
     pub new_role : role ≡ Some (role_of (length c.activations) 0)
     pub made : d ≡ strands_made ss (record c { activations = c.activations ++ new_activation c unit (length workers) ∷ [] })
 
-  abbrev pub ShapeOf : Operation → List Value → Asker → Common → Effect → Type 0
-  ShapeOf op vs asker c (Gives ws d) = Calm asker.role c d ⊎ ((e : Common) × Alike asker.role c e × (d ≡ settled e))
-  ShapeOf op vs asker c (Fails e d) = Alike asker.role c d
-  ShapeOf op vs asker c (Waits need) = WaitsAs op vs asker c need × (met c need ≡ false)
-  ShapeOf op vs asker c (Enters unit args d) = Calm asker.role c d
-  ShapeOf op vs asker c (Leaves v) = ⊤
-  ShapeOf op vs asker c (Spawns ss role ws d) = SpawnsOne asker c ss role d ⊎ SpawnsCrew op c ss role d
-  ShapeOf op vs asker c NoTick = ⊤
-  ShapeOf op vs asker c (Beyond limit) = ⊤
+  abbrev pub ShapeOf : Operation → List Value → Caller → Common → Effect → Type 0
+  ShapeOf op vs caller c (Gives ws d) = Calm caller.role c d ⊎ ((e : Common) × Alike caller.role c e × (d ≡ settled e))
+  ShapeOf op vs caller c (Fails e d) = Alike caller.role c d
+  ShapeOf op vs caller c (Waits need) = WaitsAs op vs caller c need × (met c need ≡ false)
+  ShapeOf op vs caller c (Enters unit args d) = Calm caller.role c d
+  ShapeOf op vs caller c (Leaves v) = ⊤
+  ShapeOf op vs caller c (Spawns ss role ws d) = SpawnsOne caller c ss role d ⊎ SpawnsCrew op c ss role d
+  ShapeOf op vs caller c NoTick = ⊤
+  ShapeOf op vs caller c (Beyond limit) = ⊤
 
 -- ---- no need that is met blocks
 

@@ -7,13 +7,13 @@ use Rattle.operations.specs.declared.operation.Operation.TheVariants.{Flush, Don
 use Rattle.value_model.specs.declared.value.Value.{Value}
 use Rattle.value_model.specs.declared.value.Value.TheVariants.{Future}
 use Rattle.value_model.specs.Meaning.{Answers}
-use Rattle.run_model.specs.Common.{AllEnded, AnyGiven, Asker, Common, Need, Received, Role}
-use Rattle.run_model.specs.Effects.{Waits}
-use Rattle.run_model.specs.Facts.{Facts}
-use Rattle.run_model.specs.Operands.{AFuture, NoOperand, One}
-use Rattle.run_model.specs.Performs.{Performs}
-use Rattle.run_model.specs.Strands.{activation_at, channel_at, has_success, met}
-use Rattle.run_model.specs.Waits.{Target, chosen, field_names, future_target, gives_chosen, gives_results, collects, strands_in, targets, waits_all, waits_any, with_target, worker_target}
+use Rattle.op_model.specs.Common.{AllEnded, AnyGiven, Caller, Common, Need, Received, Role}
+use Rattle.op_model.specs.Effects.{Waits}
+use Rattle.op_model.specs.ProgramFacts.{ProgramFacts}
+use Rattle.op_model.specs.Operands.{AFuture, NoOperand, One}
+use Rattle.op_model.specs.Performs.{Performs}
+use Rattle.op_model.specs.Strands.{activation_at, channel_at, has_success, met}
+use Rattle.op_model.specs.Waits.{Target, chosen, field_names, future_target, gives_chosen, gives_results, collects, strands_in, targets, waits_all, waits_any, with_target, worker_target}
 use Rattle.machine_model.proofs.Shapes.{WaitsAs, flushes-waits, in-some, receives-waits, waits-waits}
 
 -- ---- on the same operands
@@ -43,23 +43,23 @@ any-waits c ts e = ap (λ b. if b then gives_chosen c (chosen c (filter (λ t. h
 all-waits : (c : Common) (atom : ℕ) (names : List Text) (ts : List Target) → met c (AllEnded (strands_in ts)) ≡ false → waits_all c atom names ts ≡ Waits (AllEnded (strands_in ts))
 all-waits c atom names ts e = ap (λ b. if b then gives_results atom names (collects ts c) else Waits (AllEnded (strands_in ts))) e
 
-module _ (facts : Facts) (natives : Answers) where
-  pub still-performs : (op : Operation) (vs : List Value) (asker : Asker) (c : Common) (need : Need) → WaitsAs facts op vs asker c need → met c need ≡ false → Performs facts natives op vs asker c (Waits need)
-  still-performs (Receive w) vs asker c need h unmet =
-      map-none vs h (λ k. map-some asker.role k (λ r is e. ap Waits e ∙ sym (receives-waits c r w (subst (λ n. met c n ≡ false) e unmet))))
-  still-performs (Done w) vs asker c need h unmet =
-      map-none vs h (λ k. map-some asker.role k (λ r is e. ap Waits e ∙ sym (flushes-waits c r w (subst (λ n. met c n ≡ false) e unmet))))
-  still-performs (Flush w) vs asker c need h unmet =
-      map-none vs h (λ k. map-some asker.role k (λ r is e. ap Waits e ∙ sym (flushes-waits c r w (subst (λ n. met c n ≡ false) e unmet))))
-  still-performs (WaitWorker w) vs asker c need h unmet =
-      map-none vs h (λ k. map-some asker.role k (λ r is k. map-some (worker_target c r w) k (λ t there e. ap Waits e ∙ sym (waits-waits c t (subst (λ n. met c n ≡ false) e unmet)))))
-  still-performs WaitFuture vs asker c need h unmet =
+module _ (facts : ProgramFacts) (natives : Answers) where
+  pub still-performs : (op : Operation) (vs : List Value) (caller : Caller) (c : Common) (need : Need) → WaitsAs facts op vs caller c need → met c need ≡ false → Performs facts natives op vs caller c (Waits need)
+  still-performs (Receive w) vs caller c need h unmet =
+      map-none vs h (λ k. map-some caller.role k (λ r is e. ap Waits e ∙ sym (receives-waits c r w (subst (λ n. met c n ≡ false) e unmet))))
+  still-performs (Done w) vs caller c need h unmet =
+      map-none vs h (λ k. map-some caller.role k (λ r is e. ap Waits e ∙ sym (flushes-waits c r w (subst (λ n. met c n ≡ false) e unmet))))
+  still-performs (Flush w) vs caller c need h unmet =
+      map-none vs h (λ k. map-some caller.role k (λ r is e. ap Waits e ∙ sym (flushes-waits c r w (subst (λ n. met c n ≡ false) e unmet))))
+  still-performs (WaitWorker w) vs caller c need h unmet =
+      map-none vs h (λ k. map-some caller.role k (λ r is k. map-some (worker_target c r w) k (λ t there e. ap Waits e ∙ sym (waits-waits c t (subst (λ n. met c n ≡ false) e unmet)))))
+  still-performs WaitFuture vs caller c need h unmet =
       map-one vs h (λ v k. map-future v k (λ n e. ap Waits e ∙ sym (waits-waits c (future_target n) (subst (λ n. met c n ≡ false) e unmet))))
-  still-performs (WaitAny names) vs asker c need h unmet =
-      map-some (targets c asker.role names vs) h (λ ts is e. ap Waits e ∙ sym (any-waits c ts (subst (λ n. met c n ≡ false) e unmet)))
-  still-performs (WaitAll atom names) vs asker c need h unmet =
-      map-some (slice_get facts.atoms atom) h (λ d there k. map-some (targets c asker.role names vs) k (λ ts is e. ap Waits e ∙ sym (all-waits c atom (field_names d) ts (subst (λ n. met c n ≡ false) e unmet))))
-  still-performs _ vs asker c need h unmet = absurd h
+  still-performs (WaitAny names) vs caller c need h unmet =
+      map-some (targets c caller.role names vs) h (λ ts is e. ap Waits e ∙ sym (any-waits c ts (subst (λ n. met c n ≡ false) e unmet)))
+  still-performs (WaitAll atom names) vs caller c need h unmet =
+      map-some (slice_get facts.atoms atom) h (λ d there k. map-some (targets c caller.role names vs) k (λ ts is e. ap Waits e ∙ sym (all-waits c atom (field_names d) ts (subst (λ n. met c n ≡ false) e unmet))))
+  still-performs _ vs caller c need h unmet = absurd h
 
   -- ---- it waits for the same later, where the strands of workers stay, and what this worker has sent
 
@@ -97,12 +97,12 @@ module _ (facts : Facts) (natives : Answers) where
     same-targets : (P : List Target → Type 0) (role : Option Role) (names : List (Option ℕ)) (vs : List Value) → IsSomeAnd (targets c role names vs) P → IsSomeAnd (targets d role names vs) P
     same-targets P role names vs h = in-some (targets c role names vs) h (λ ts is p. subst (λ o. IsSomeAnd o P) (sym (targets-stay role names vs ts is)) p)
 
-    pub waits-stay : (op : Operation) (vs : List Value) (asker : Asker) (need : Need) → ((r : Role) → asker.role ≡ Some r → (w : ℕ) → (channel_at d r.activation r.worker w).sent ≡ (channel_at c r.activation r.worker w).sent) → WaitsAs facts op vs asker c need → WaitsAs facts op vs asker d need
-    waits-stay (Receive w) vs asker need sent h = h
-    waits-stay (Done w) vs asker need sent h = map-none vs h (λ k. map-some asker.role k (λ r is e. e ∙ ap (Received r.activation r.worker w) (sym (sent r is w))))
-    waits-stay (Flush w) vs asker need sent h = map-none vs h (λ k. map-some asker.role k (λ r is e. e ∙ ap (Received r.activation r.worker w) (sym (sent r is w))))
-    waits-stay (WaitWorker w) vs asker need sent h = map-none vs h (λ k. map-some asker.role k (λ r is k. same-target (λ t. need ≡ AllEnded (t.strand ∷ [])) r w k))
-    waits-stay WaitFuture vs asker need sent h = h
-    waits-stay (WaitAny names) vs asker need sent h = same-targets (λ ts. need ≡ AnyGiven (strands_in ts)) asker.role names vs h
-    waits-stay (WaitAll atom names) vs asker need sent h = map-some (slice_get facts.atoms atom) h (λ d there k. same-targets (λ ts. need ≡ AllEnded (strands_in ts)) asker.role names vs k)
-    waits-stay _ vs asker need sent h = absurd h
+    pub waits-stay : (op : Operation) (vs : List Value) (caller : Caller) (need : Need) → ((r : Role) → caller.role ≡ Some r → (w : ℕ) → (channel_at d r.activation r.worker w).sent ≡ (channel_at c r.activation r.worker w).sent) → WaitsAs facts op vs caller c need → WaitsAs facts op vs caller d need
+    waits-stay (Receive w) vs caller need sent h = h
+    waits-stay (Done w) vs caller need sent h = map-none vs h (λ k. map-some caller.role k (λ r is e. e ∙ ap (Received r.activation r.worker w) (sym (sent r is w))))
+    waits-stay (Flush w) vs caller need sent h = map-none vs h (λ k. map-some caller.role k (λ r is e. e ∙ ap (Received r.activation r.worker w) (sym (sent r is w))))
+    waits-stay (WaitWorker w) vs caller need sent h = map-none vs h (λ k. map-some caller.role k (λ r is k. same-target (λ t. need ≡ AllEnded (t.strand ∷ [])) r w k))
+    waits-stay WaitFuture vs caller need sent h = h
+    waits-stay (WaitAny names) vs caller need sent h = same-targets (λ ts. need ≡ AnyGiven (strands_in ts)) caller.role names vs h
+    waits-stay (WaitAll atom names) vs caller need sent h = map-some (slice_get facts.atoms atom) h (λ d there k. same-targets (λ ts. need ≡ AllEnded (strands_in ts)) caller.role names vs k)
+    waits-stay _ vs caller need sent h = absurd h

@@ -6,10 +6,10 @@ use Rattle.operations.specs.declared.operation.Operation.TheVariants.{Return, Pa
 use Rattle.operations.specs.Talk.{talk_of}
 use Rattle.value_model.specs.declared.value.Value.{Value}
 use Rattle.value_model.specs.Meaning.{Answers}
-use Rattle.run_model.specs.Common.{Common, Asker}
-use Rattle.run_model.specs.Facts.{Facts}
-use Rattle.run_model.specs.Effects.{Effect, Gives}
-use Rattle.run_model.specs.Performs.{Performs}
+use Rattle.op_model.specs.Common.{Common, Caller}
+use Rattle.op_model.specs.ProgramFacts.{ProgramFacts}
+use Rattle.op_model.specs.Effects.{Effect, Gives}
+use Rattle.op_model.specs.Performs.{Performs}
 use Rattle.machine_model.specs.Machine.{Machine, Ask, On, Does, Stuck, Frame, State}
 use Rattle.machine_model.specs.Runs.{AreWords, Running, IsReached}
 
@@ -20,18 +20,18 @@ EndsFrame Panic = ⊤
 EndsFrame op = ⊥
 
 -- on the same operands they come to the same
-abbrev pub AreAlike : Facts → Answers → Operation → Operation → Type 0
+abbrev pub AreAlike : ProgramFacts → Answers → Operation → Operation → Type 0
 AreAlike facts natives op other =
-    (vs : List Value) (asker : Asker) (c : Common) (effect : Effect) → Performs facts natives op vs asker c effect ↔ Performs facts natives other vs asker c effect
+    (vs : List Value) (caller : Caller) (c : Common) (effect : Effect) → Performs facts natives op vs caller c effect ↔ Performs facts natives other vs caller c effect
 
 -- ---- steps that change nothing that is shared
 
-module _ {C : Type 0} (natives : Answers) (M : Machine C) (asker : Asker) (common : Common) where
+module _ {C : Type 0} (natives : Answers) (M : Machine C) (caller : Caller) (common : Common) where
   -- some steps lead from the first to the second: by itself, or by operations that here can only give this
   pub data Quiet : C → C → Type 0 where
     here : {a : C} → Quiet a a
-    step : {a b c : C} → M.look asker.unit a ≡ On b → Quiet b c → Quiet a c
-    pass : {a k c : C} {op : Operation} {vs ws : List Value} → M.look asker.unit a ≡ Does op vs k → Performs M.facts natives op vs asker common (Gives ws common) → ((effect : Effect) → Performs M.facts natives op vs asker common effect → effect ≡ Gives ws common) → Quiet (M.resume k ws) c → Quiet a c
+    step : {a b c : C} → M.look caller.unit a ≡ On b → Quiet b c → Quiet a c
+    pass : {a k c : C} {op : Operation} {vs ws : List Value} → M.look caller.unit a ≡ Does op vs k → Performs M.facts natives op vs caller common (Gives ws common) → ((effect : Effect) → Performs M.facts natives op vs caller common effect → effect ≡ Gives ws common) → Quiet (M.resume k ws) c → Quiet a c
 
 -- a frame of this unit comes by itself to what it asks
 module _ {C : Type 0} (M : Machine C) (unit : ℕ) where
@@ -63,12 +63,12 @@ module _ {A B : Type 0} (M : Machine A) (N : Machine B) (Follows : A → B → T
     pub catches : (e : Value) → Both Follows (M.catch k e) (N.catch m e)
 
   -- the second machine comes to what the first one, at a, asks, or to an operation that comes to the same
-  abbrev pub ComesTo : Answers → Asker → Common → A → Ask A → B → Type 0
-  ComesTo natives asker c a (On x) b = (d : B) × Quiet natives N asker c b d × Follows x d
-  ComesTo natives asker c a (Does op vs k) b =
-      (d : B) × (m : B) × (other : Operation) × Quiet natives N asker c b d × (N.look asker.unit d ≡ Does other vs m)
+  abbrev pub ComesTo : Answers → Caller → Common → A → Ask A → B → Type 0
+  ComesTo natives caller c a (On x) b = (d : B) × Quiet natives N caller c b d × Follows x d
+  ComesTo natives caller c a (Does op vs k) b =
+      (d : B) × (m : B) × (other : Operation) × Quiet natives N caller c b d × (N.look caller.unit d ≡ Does other vs m)
       × AreAlike N.facts natives op other × Held op other a d k m
-  ComesTo natives asker c a Stuck b = (d : B) × Quiet natives N asker c b d × (N.look asker.unit d ≡ Stuck)
+  ComesTo natives caller c a Stuck b = (d : B) × Quiet natives N caller c b d × (N.look caller.unit d ≡ Stuck)
 
 -- what holds of the running frame of each state that is reached on words that are texts, as far as the second machine needs it
 abbrev pub AreFine : {A : Type 0} → Answers → Machine A → (Common → A → Type 0) → Type 0
@@ -82,4 +82,4 @@ module _ {A B : Type 0} (natives : Answers) (M : Machine A) (N : Machine B) (Fol
     pub facts : M.facts ≡ N.facts
     pub launch : M.launch ≡ N.launch
     pub enters : (unit : ℕ) (args : List Value) → Both Follows (M.enter unit args) (N.enter unit args)
-    pub answers : (asker : Asker) (c : Common) (a : A) (b : B) → Fine c a → Follows a b → ComesTo M N Follows natives asker c a (M.look asker.unit a) b
+    pub answers : (caller : Caller) (c : Common) (a : A) (b : B) → Fine c a → Follows a b → ComesTo M N Follows natives caller c a (M.look caller.unit a) b

@@ -3,10 +3,10 @@ use Rattle.std.specs.Prelude.{◌≡◌, ◌≢◌, ◌⊎◌, ◌<◌, ◌+◌,
 use Rattle.bal_base.specs.declared.text.Text.{Text}
 use Rattle.value_model.specs.declared.value.Value.{Value}
 use Rattle.value_model.specs.Meaning.{Answers}
-use Rattle.run_model.specs.Common.{Common, Role, End, Returned, Panicked}
-use Rattle.run_model.specs.Strands.{activation_at, settled, strand_blocked, strand_ended, worker_ended}
-use Rattle.run_model.specs.Effects.{Effect, Gives, Fails, Waits, Enters, Leaves, Spawns, NoTick, Beyond, Spawned}
-use Rattle.run_model.specs.Performs.{Performs}
+use Rattle.op_model.specs.Common.{Common, Role, End, Returned, Panicked}
+use Rattle.op_model.specs.Strands.{activation_at, settled, strand_blocked, strand_ended, worker_ended}
+use Rattle.op_model.specs.Effects.{Effect, Gives, Fails, Waits, Enters, Leaves, Spawns, NoTick, Beyond, Spawned}
+use Rattle.op_model.specs.Performs.{Performs}
 use Rattle.machine_model.specs.Machine.{Machine, Ask, On, Does, Stuck, Frame, State, goes_to, next_units}
 use Rattle.machine_model.specs.Runs.{AreWords, Phase, Running, Picking, start, taken_up}
 

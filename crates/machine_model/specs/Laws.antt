@@ -2,8 +2,8 @@
 use Rattle.std.specs.Prelude.{◌≡◌, ◌↔◌, ℕ, List}
 use Rattle.bal_base.specs.declared.text.Text.{Text}
 use Rattle.value_model.specs.Meaning.{Answers}
-use Rattle.run_model.specs.Common.{Common}
-use Rattle.run_model.specs.Laws.{AnswerOnce}
+use Rattle.op_model.specs.Common.{Common}
+use Rattle.op_model.specs.Laws.{AnswerOnce}
 use Rattle.machine_model.specs.Machine.{Machine, Frame, State, Next, Step}
 use Rattle.machine_model.specs.Runs.{AreWords, Phase, Stop, Runs, IsReached}
 use Rattle.machine_model.specs.Outcomes.{Outcome, IsAllowed}

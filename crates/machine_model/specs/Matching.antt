@@ -5,9 +5,9 @@ use Rattle.bal_base.specs.declared.text.Text.{Text}
 use Rattle.operations.specs.declared.operation.Operation.{Operation}
 use Rattle.value_model.specs.declared.value.Value.{Value}
 use Rattle.value_model.specs.Meaning.{Answers}
-use Rattle.run_model.specs.Common.{Common}
+use Rattle.op_model.specs.Common.{Common}
 use Rattle.machine_model.specs.Following.{AreAlike, AreFine, Await, FramesFollow, Held, Quiet, Settles}
-use Rattle.machine_model.specs.Machine.{Does, Frame, Machine, State, Stuck, asker}
+use Rattle.machine_model.specs.Machine.{Does, Frame, Machine, State, Stuck, caller}
 use Rattle.machine_model.specs.Runs.{AreWords, IsReached, Phase, Picking, Running}
 
 abbrev pub SameCall : {A B : Type 0} → Frame A → Frame B → Type 0
@@ -46,7 +46,7 @@ module _ {A B : Type 0} (M : Machine A) (N : Machine B) (Follows : A → B → T
   abbrev pub TopsAlong : Answers → Common → List (Frame A) → List (Frame B) → Type 0
   TopsAlong natives c [] [] = ⊤
   TopsAlong natives c (f ∷ fs) (g ∷ gs) =
-      SameCall f g × BelowMatch fs gs × ((d : B) × Quiet natives N (asker g gs) c g.control d × AskAlike natives f.unit f.control d)
+      SameCall f g × BelowMatch fs gs × ((d : B) × Quiet natives N (caller g gs) c g.control d × AskAlike natives f.unit f.control d)
   TopsAlong natives c [] (g ∷ gs) = ⊥
   TopsAlong natives c (f ∷ fs) [] = ⊥
 

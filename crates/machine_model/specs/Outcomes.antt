@@ -5,8 +5,8 @@ use Rattle.bal_base.specs.declared.text.Text.{Text}
 use Rattle.value_model.specs.declared.value.Value.{Value}
 use Rattle.value_model.specs.declared.value.Value.TheVariants.{Nil, Error}
 use Rattle.value_model.specs.Meaning.{Answers}
-use Rattle.run_model.specs.Common.{Common, End, Returned, Panicked, Need, Message, Received, AllEnded, AnyGiven, Status, IsActive, IsBlocked, IsEnded}
-use Rattle.run_model.specs.Strands.{activation_at, end_of, has_ended, strand_at}
+use Rattle.op_model.specs.Common.{Common, End, Returned, Panicked, Need, Message, Received, AllEnded, AnyGiven, Status, IsActive, IsBlocked, IsEnded}
+use Rattle.op_model.specs.Strands.{activation_at, end_of, has_ended, strand_at}
 use Rattle.machine_model.specs.Machine.{Machine, State}
 use Rattle.machine_model.specs.Runs.{Picking, Stop, Over, TicksSpent, PastLimit, Runs, start}
 

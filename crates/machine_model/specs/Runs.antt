@@ -9,8 +9,8 @@ use Rattle.value_model.specs.declared.value.Value.TheVariants.{Str, Struct}
 use Rattle.value_model.specs.Heap.{Items, no_heap}
 use Rattle.value_model.specs.Meaning.{Answers}
 use Rattle.value_model.specs.World.{World}
-use Rattle.run_model.specs.Rows.{makes, new_structure}
-use Rattle.run_model.specs.Common.{Common, IsActive}
+use Rattle.op_model.specs.Rows.{makes, new_structure}
+use Rattle.op_model.specs.Common.{Common, IsActive}
 use Rattle.machine_model.specs.Machine.{Machine, Ask, On, Does, Stuck, Launch, Frame, State, Moved, Blocked, Ended, NeedsTick, Limit, begun, Step}
 
 -- ---- the start

@@ -5,11 +5,11 @@ use Rattle.bal_base.specs.declared.text.Text.{Text}
 use Rattle.operations.specs.declared.operation.Operation.TheVariants.{Workers, WaitAny}
 use Rattle.value_model.specs.declared.value.Value.{Value}
 use Rattle.value_model.specs.Meaning.{Answers}
-use Rattle.run_model.specs.Common.{Activation, Common, Need, Role, Strand, Status, IsActive, IsBlocked, IsEnded}
-use Rattle.run_model.specs.Effects.{Waits}
-use Rattle.run_model.specs.Performs.{Performs}
-use Rattle.run_model.specs.Strands.{activation_at, channel_at, end_in, met, settled}
-use Rattle.machine_model.specs.Machine.{Machine, Ask, On, Does, Stuck, Frame, State, asker}
+use Rattle.op_model.specs.Common.{Activation, Common, Need, Role, Strand, Status, IsActive, IsBlocked, IsEnded}
+use Rattle.op_model.specs.Effects.{Waits}
+use Rattle.op_model.specs.Performs.{Performs}
+use Rattle.op_model.specs.Strands.{activation_at, channel_at, end_in, met, settled}
+use Rattle.machine_model.specs.Machine.{Machine, Ask, On, Does, Stuck, Frame, State, caller}
 use Rattle.machine_model.specs.Runs.{AreWords, Phase, Running, Picking, IsReached}
 use Rattle.machine_model.specs.Keeping.{RunsOn}
 
@@ -108,7 +108,7 @@ module _ {C : Type 0} (natives : Answers) (M : Machine C) (phase : Phase) (s : S
 
   -- what the frame is to do can't be done, for this need
   abbrev pub StillWaits : Need → Frame C → List (Frame C) → Ask C → Type 0
-  StillWaits need f fs (Does op vs k) = Performs M.facts natives op vs (asker f fs) s.common (Waits need)
+  StillWaits need f fs (Does op vs k) = Performs M.facts natives op vs (caller f fs) s.common (Waits need)
   StillWaits need f fs (On c) = ⊥
   StillWaits need f fs Stuck = ⊥
 

@@ -5,7 +5,7 @@ ghost use Rattle.machine_model.specs.Matching.{ReachedFollow};
 ghost use Rattle.machine_model.specs.Strands.{HoldOfStrands};
 ghost use Rattle.machine_model.specs.Steps.{GoesAreSteps, StepsChain, StepsAreReached, StepsThenRuns};
 
-use run_model::Meaning;
+use op_model::Meaning;
 
 /// A machine.
 pub trait AnyMachine {
@@ -20,7 +20,7 @@ pub trait AnyMachine {
 /// Two machines, of which the second follows the first.
 pub trait Followed {
     ghost use Rattle.machine_model.specs.Machine.{Machine};
-    ghost use Rattle.run_model.specs.Common.{Common};
+    ghost use Rattle.op_model.specs.Common.{Common};
 
     /// What frames of the first keep.
     ghost control: { Type 0 };
@@ -58,7 +58,7 @@ pub trait FollowedAlong {
     ghost use Rattle.std.specs.Prelude.{ℕ};
     ghost use Rattle.machine_model.specs.Machine.{Machine, Frame};
     ghost use Rattle.machine_model.specs.Keeping.{Invariant};
-    ghost use Rattle.run_model.specs.Common.{Common};
+    ghost use Rattle.op_model.specs.Common.{Common};
 
     /// What frames of the first keep.
     ghost control: { Type 0 };

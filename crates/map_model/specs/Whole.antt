@@ -5,7 +5,7 @@ use Rattle.std.specs.List.{AllZip, flat_map}
 use Rattle.type_model.specs.SameType.{IsSameType}
 use Rattle.typed_tree.specs.declared.package.TypedPackage.{TypedPackage}
 use Rattle.typed_tree.specs.Units.{UnitBody, OfFunction, OfWorker, OfAnonymous, OfInitialiser}
-use Rattle.run_model.specs.Levels.{numbers_from}
+use Rattle.op_model.specs.Levels.{numbers_from}
 use Rattle.stack_code.specs.declared.code.Code.{Code}
 use Rattle.stack_code.specs.declared.code.StackMap.{StackMap}
 use Rattle.stack_code.specs.Commands.{Command, Do, GoTo, GoToIfNot, OpenTrap, CloseTrap}

@@ -15,20 +15,20 @@ use Rattle.value_model.specs.Meaning.{Answers}
 use Rattle.value_model.specs.PanicName.{future_taken}
 use Rattle.value_model.specs.Stands.{Belongs}
 use Rattle.value_model.specs.World.{Came, Gave, PassesCells, Threw, World}
-use Rattle.run_model.specs.CallRows.{arguments, checked, new_activation, starts, starts_workers, strands_made, ticks, with_arguments, with_rest, workers_from}
-use Rattle.run_model.specs.Common.{AllEnded, AnyGiven, Asker, Common, End, Panicked, Returned, Role}
-use Rattle.run_model.specs.Copies.{copy_of, with_copies}
-use Rattle.run_model.specs.Effects.{Beyond, Effect, Enters, Fails, Gives, Leaves, NoTick, Spawned, Spawns, Waits, lifted, with_world}
-use Rattle.run_model.specs.Equality.{AreEqual}
-use Rattle.run_model.specs.Facts.{Facts, WorkerFacts, own_types}
-use Rattle.run_model.specs.Limits.{most_cells, most_frames, most_strands}
-use Rattle.run_model.specs.Messages.{flushes, flushes_end, one_sent, receives_end, receives_from, sends}
-use Rattle.run_model.specs.Performs.{Performs, atom_number}
-use Rattle.run_model.specs.Rows.{found, gives, gives_error, new_structure, next_structure, panics, within}
-use Rattle.run_model.specs.Strands.{channel_at, end_of, has_success, met, settled, strand_at, strand_made, with_channel, with_strand, worker_end}
-use Rattle.run_model.specs.StructureRows.{at_place, makes_function, makes_list, reads_char}
-use Rattle.run_model.specs.ValueRows.{IsBefore, IsNotBehind}
-use Rattle.run_model.specs.Waits.{Collected, FirstPanic, Results, Target, behind, chosen, collects, collects_end, ends_with, field_names, future_target, gives_chosen, gives_end, gives_results, is_taken, strands_in, targets, took, waits, waits_all, waits_any, waits_for, with_results, worker_target}
+use Rattle.op_model.specs.CallRows.{arguments, checked, new_activation, starts, starts_workers, strands_made, ticks, with_arguments, with_rest, workers_from}
+use Rattle.op_model.specs.Common.{AllEnded, AnyGiven, Caller, Common, End, Panicked, Returned, Role}
+use Rattle.op_model.specs.Copies.{copy_of, with_copies}
+use Rattle.op_model.specs.Effects.{Beyond, Effect, Enters, Fails, Gives, Leaves, NoTick, Spawned, Spawns, Waits, lifted, with_world}
+use Rattle.op_model.specs.Equality.{AreEqual}
+use Rattle.op_model.specs.ProgramFacts.{ProgramFacts, WorkerFacts, own_types}
+use Rattle.op_model.specs.Limits.{most_cells, most_frames, most_strands}
+use Rattle.op_model.specs.Messages.{flushes, flushes_end, one_sent, receives_end, receives_from, sends}
+use Rattle.op_model.specs.Performs.{Performs, atom_number}
+use Rattle.op_model.specs.Rows.{found, gives, gives_error, new_structure, next_structure, panics, within}
+use Rattle.op_model.specs.Strands.{channel_at, end_of, has_success, met, settled, strand_at, strand_made, with_channel, with_strand, worker_end}
+use Rattle.op_model.specs.StructureRows.{at_place, makes_function, makes_list, reads_char}
+use Rattle.op_model.specs.ValueRows.{IsBefore, IsNotBehind}
+use Rattle.op_model.specs.Waits.{Collected, FirstPanic, Results, Target, behind, chosen, collects, collects_end, ends_with, field_names, future_target, gives_chosen, gives_end, gives_results, is_taken, strands_in, targets, took, waits, waits_all, waits_any, waits_for, with_results, worker_target}
 use Rattle.machine_model.proofs.Shapes.{in-boolean, in-error, in-function, in-future, in-if, in-int, in-more, in-none, in-one, in-some, in-string, in-structure, in-three, in-two}
 use Rattle.output_growth.specs.Growth.{AnswersGrow, CameBegins}
 use Rattle.output_growth.proofs.Rows.{Begins, all-of, casts-begins, compare-begins, divides-begins, error-begins, error-made-begins, field-read-begins, found-begins, function-begins, int-begins, item-read-begins, item-set-begins, key-read-begins, key-set-begins, mapping-made-begins, optional-read-begins, panic-begins, remains-begins, structure-begins, tells-begins, text-begins, within-begins}
@@ -179,7 +179,7 @@ module _ (o : List ℕ) where
 
 -- ---- a line for each operation
 
-module _ (facts : Facts) (natives : Answers) (grow : AnswersGrow natives) (vs : List Value) (asker : Asker) (c : Common) (effect : Effect) where
+module _ (facts : ProgramFacts) (natives : Answers) (grow : AnswersGrow natives) (vs : List Value) (caller : Caller) (c : Common) (effect : Effect) where
   abbrev o : List ℕ
   o = c.world.output
 
@@ -192,14 +192,14 @@ module _ (facts : Facts) (natives : Answers) (grow : AnswersGrow natives) (vs : 
   this : (other : Effect) → effect ≡ other → EffectBegins o other → EffectBegins o effect
   this other e begins = so o effect other e begins
 
-  pub performs-begins : (op : Operation) → Performs facts natives op vs asker c effect → EffectBegins c.world.output effect
+  pub performs-begins : (op : Operation) → Performs facts natives op vs caller c effect → EffectBegins c.world.output effect
   performs-begins (Const k) e = absurd e
   performs-begins (Load slot) k = in-none vs k (λ none e. one (panics c.world NotInitialised) (panic-begins o c.world h NotInitialised) e)
   performs-begins (Store slot) k = absurd k
   performs-begins Pop k = absurd k
   performs-begins (LoadModule m) k = in-none vs k (λ none k. in-some (slice_get c.variables m) k (λ held is e. one (found c.world NotInitialised held) (found-begins o c.world h NotInitialised held) e))
   performs-begins (StoreModule m) k = in-one vs k (λ v is k. in-some (slice_get c.variables m) k (λ held there e. this _ e h))
-  performs-begins Tick k = in-none vs k (λ none e. this _ e (ticks-begin o c h asker.depth c.ticks))
+  performs-begins Tick k = in-none vs k (λ none e. this _ e (ticks-begin o c h caller.depth c.ticks))
   performs-begins Add k = in-two vs k (λ a b k. in-int a k (λ x k. in-int b k (λ y k. on-world o c effect (int-begins o c.world h (x +ℤ y)) k)))
   performs-begins Subtract k = in-two vs k (λ a b k. in-int a k (λ x k. in-int b k (λ y k. on-world o c effect (int-begins o c.world h (x -ℤ y)) k)))
   performs-begins Multiply k = in-two vs k (λ a b k. in-int a k (λ x k. in-int b k (λ y k. on-world o c effect (int-begins o c.world h (x *ℤ y)) k)))
@@ -237,21 +237,21 @@ module _ (facts : Facts) (natives : Answers) (grow : AnswersGrow natives) (vs : 
   performs-begins (Library call atom count) k = on-world o c effect (λ came p. grow (own_types facts) (number_of call) (atom_number atom) vs c.world came p) k
   performs-begins Return k = in-one vs k (λ v is e. this _ e tt)
   performs-begins Panic k = in-one vs k (λ v is k. in-error v k (λ n e. this _ e h))
-  performs-begins (Start unit count) e = this _ e (starts-begin o c asker.role unit vs h)
+  performs-begins (Start unit count) e = this _ e (starts-begin o c caller.role unit vs h)
   performs-begins (StartValue count) k =
       in-more vs k (λ f args k. in-function f k (λ n k. in-some (slice_get c.world.heap.functions n) k (λ held there k. in-some (slice_get facts.units held.unit) k (λ u is e.
       let d = with_arguments c u args in
-      this _ e (checked-begins o d (starts d asker.role held.unit (arguments c held u args)) (starts-begin o d asker.role held.unit (arguments c held u args) (rest-begins o u.rest u.params c.world args h)))))))
-  performs-begins Workers k = in-some (slice_get facts.units asker.unit) k (λ u is e. this _ e (workers-begin o c h asker.unit u.workers vs))
-  performs-begins (Send w) k = in-one vs k (λ v is k. in-some asker.role k (λ r role e. this _ e (sends-begin o c h r w v (Nil ∷ []))))
-  performs-begins (Post w) k = in-one vs k (λ v is k. in-some asker.role k (λ r role e. this _ e (sends-begin o c h r w v [])))
-  performs-begins (Done w) k = in-none vs k (λ none k. in-some asker.role k (λ r role e. this _ e (flushes-begin o c h r w)))
+      this _ e (checked-begins o d (starts d caller.role held.unit (arguments c held u args)) (starts-begin o d caller.role held.unit (arguments c held u args) (rest-begins o u.rest u.params c.world args h)))))))
+  performs-begins Workers k = in-some (slice_get facts.units caller.unit) k (λ u is e. this _ e (workers-begin o c h caller.unit u.workers vs))
+  performs-begins (Send w) k = in-one vs k (λ v is k. in-some caller.role k (λ r role e. this _ e (sends-begin o c h r w v (Nil ∷ []))))
+  performs-begins (Post w) k = in-one vs k (λ v is k. in-some caller.role k (λ r role e. this _ e (sends-begin o c h r w v [])))
+  performs-begins (Done w) k = in-none vs k (λ none k. in-some caller.role k (λ r role e. this _ e (flushes-begin o c h r w)))
   performs-begins (Receive w) k =
-      in-none vs k (λ none k. in-some asker.role k (λ r role e. this _ e (received-begins o c h r w (channel_at c r.activation w r.worker).queue)))
-  performs-begins (Flush w) k = in-none vs k (λ none k. in-some asker.role k (λ r role e. this _ e (flushes-begin o c h r w)))
+      in-none vs k (λ none k. in-some caller.role k (λ r role e. this _ e (received-begins o c h r w (channel_at c r.activation w r.worker).queue)))
+  performs-begins (Flush w) k = in-none vs k (λ none k. in-some caller.role k (λ r role e. this _ e (flushes-begin o c h r w)))
   performs-begins (WaitWorker w) k =
-      in-none vs k (λ none k. in-some asker.role k (λ r role k. in-some (worker_target c r w) k (λ t is e. this _ e (waits-begin o c t h))))
+      in-none vs k (λ none k. in-some caller.role k (λ r role k. in-some (worker_target c r w) k (λ t is e. this _ e (waits-begin o c t h))))
   performs-begins WaitFuture k = in-one vs k (λ f is k. in-future f k (λ n unit same e. this _ e (waits-begin o c (future_target n) h)))
-  performs-begins (WaitAny names) k = in-some (targets c asker.role names vs) k (λ ts is e. this _ e (any-begins o c ts h))
+  performs-begins (WaitAny names) k = in-some (targets c caller.role names vs) k (λ ts is e. this _ e (any-begins o c ts h))
   performs-begins (WaitAll atom names) k =
-      in-some (slice_get facts.atoms atom) k (λ d there k. in-some (targets c asker.role names vs) k (λ ts is e. this _ e (all-begins o c atom (field_names d) ts h)))
+      in-some (slice_get facts.atoms atom) k (λ d there k. in-some (targets c caller.role names vs) k (λ ts is e. this _ e (all-begins o c atom (field_names d) ts h)))

@@ -13,13 +13,13 @@ use Rattle.value_model.specs.Heap.{Entries, Items, Structure, entry_at}
 use Rattle.value_model.specs.PanicName.{number_parsing_error}
 use Rattle.value_model.specs.Stands.{OwnTypes}
 use Rattle.value_model.specs.World.{Came, Gave, PassesCells, Threw, World}
-use Rattle.run_model.specs.Copies.{copy_of, freezes, has_cycle, reached_from, with_copies}
-use Rattle.run_model.specs.Library.{LibraryAnswers, LibraryComes, ParsesInt, Prints, Pushes, Reads, ReadsAfter, ReadsAs, RemovesAt, RemovesKey, Slices, TakesPart, Then, last_place, texts_of, with_input, written}
-use Rattle.run_model.specs.Limits.{most_line_bytes}
-use Rattle.run_model.specs.Rows.{Else, GivesList, found, gives, gives_error, panics, place_of, within}
-use Rattle.run_model.specs.Stores.{StoresAt, remove_entry, stored}
-use Rattle.run_model.specs.Strings.{int_in, part_of}
-use Rattle.run_model.specs.Texts.{text_of}
+use Rattle.op_model.specs.Copies.{copy_of, freezes, has_cycle, reached_from, with_copies}
+use Rattle.op_model.specs.Library.{LibraryAnswers, LibraryComes, ParsesInt, Prints, Pushes, Reads, ReadsAfter, ReadsAs, RemovesAt, RemovesKey, Slices, TakesPart, Then, last_place, texts_of, with_input, written}
+use Rattle.op_model.specs.Limits.{most_line_bytes}
+use Rattle.op_model.specs.Rows.{Else, GivesList, found, gives, gives_error, panics, place_of, within}
+use Rattle.op_model.specs.Stores.{StoresAt, remove_entry, stored}
+use Rattle.op_model.specs.Strings.{int_in, part_of}
+use Rattle.op_model.specs.Texts.{text_of}
 use Rattle.machine_model.proofs.Shapes.{in-if, in-some}
 use Rattle.output_growth.specs.Growth.{AnswersGrow, CameBegins}
 use Rattle.output_growth.proofs.Rows.{Begins, all-of, else-begins, error-begins, found-begins, given-begins, int-begins, list-begins, mapping-begins, new-list-begins, panic-begins, stores-begin, text-begins, unless-begins, where-begins, with-more, within-begins}

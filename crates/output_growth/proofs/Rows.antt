@@ -15,12 +15,12 @@ use Rattle.value_model.specs.Heap.{Entries, Items, Members, Structure, cells, en
 use Rattle.value_model.specs.PanicName.{panic_message}
 use Rattle.value_model.specs.Stands.{Belongs, OwnTypes}
 use Rattle.value_model.specs.World.{Came, Gave, PassesCells, Threw, World}
-use Rattle.run_model.specs.Limits.{most_cells, most_code_points, most_items}
-use Rattle.run_model.specs.Operands.{cause_of, pairs_of}
-use Rattle.run_model.specs.Rows.{Else, GivesInt, GivesList, GivesText, HasEntries, HasItems, ListAt, MappingAt, Tells, Unless, Where, found, gives, gives_error, gives_nothing, gives_structure, makes, makes_error, new_structure, next_error, next_structure, panics, place_of, with_heap, within}
-use Rattle.run_model.specs.Stores.{StoresAt, StoresKey, entries_from, item_stored, set_entry, stored}
-use Rattle.run_model.specs.StructureRows.{MakesError, MakesMapping, ReadsField, ReadsItem, ReadsKey, ReadsOptional, SetsItem, SetsKey, at_place, makes_function, or_nil}
-use Rattle.run_model.specs.ValueRows.{Casts, Compare, Divides, Remains}
+use Rattle.op_model.specs.Limits.{most_cells, most_code_points, most_items}
+use Rattle.op_model.specs.Operands.{cause_of, pairs_of}
+use Rattle.op_model.specs.Rows.{Else, GivesInt, GivesList, GivesText, HasEntries, HasItems, ListAt, MappingAt, Tells, Unless, Where, found, gives, gives_error, gives_nothing, gives_structure, makes, makes_error, new_structure, next_error, next_structure, panics, place_of, with_heap, within}
+use Rattle.op_model.specs.Stores.{StoresAt, StoresKey, entries_from, item_stored, set_entry, stored}
+use Rattle.op_model.specs.StructureRows.{MakesError, MakesMapping, ReadsField, ReadsItem, ReadsKey, ReadsOptional, SetsItem, SetsKey, at_place, makes_function, or_nil}
+use Rattle.op_model.specs.ValueRows.{Casts, Compare, Divides, Remains}
 use Rattle.machine_model.proofs.Shapes.{in-if, in-some}
 use Rattle.output_growth.specs.Growth.{CameBegins}
 

@@ -4,10 +4,10 @@ use Rattle.std.specs.Prelude.{⊤, option_map}
 use Rattle.bal_io.specs.Content.{IsPrefixOf}
 use Rattle.value_model.specs.declared.value.Value.{Value}
 use Rattle.value_model.specs.Meaning.{Answers}
-use Rattle.run_model.specs.Common.{Common, End, Panicked, Returned, Role}
-use Rattle.run_model.specs.Effects.{Beyond, Effect, Enters, Fails, Gives, Leaves, NoTick, Spawns, Waits}
-use Rattle.run_model.specs.Strands.{worker_ended, workers_ended}
-use Rattle.machine_model.specs.Machine.{Ask, Does, Frame, Machine, Next, On, State, Stuck, Takes, TakesTop, all_begun, asker, begun, carried, goes_on, goes_to, given, left_with, next_units, roles_left, unwound}
+use Rattle.op_model.specs.Common.{Common, End, Panicked, Returned, Role}
+use Rattle.op_model.specs.Effects.{Beyond, Effect, Enters, Fails, Gives, Leaves, NoTick, Spawns, Waits}
+use Rattle.op_model.specs.Strands.{worker_ended, workers_ended}
+use Rattle.machine_model.specs.Machine.{Ask, Does, Frame, Machine, Next, On, State, Stuck, Takes, TakesTop, all_begun, caller, begun, carried, goes_on, goes_to, given, left_with, next_units, roles_left, unwound}
 use Rattle.machine_model.specs.Runs.{Phase, Runs, Stop, blocks, ends, moves, needs_tick, over, passes, picks}
 use Rattle.output_growth.specs.Growth.{AnswersGrow, NextBegins, OutputGrows, ReachedGrows}
 use Rattle.output_growth.proofs.Effects.{EffectBegins, performs-begins}
@@ -56,7 +56,7 @@ module _ {C : Type 0} (natives : Answers) (M : Machine C) where
   takes-begins grow s f fs (Does op vs k) next (effect, performs, e) =
       let o = s.common.world.output in
       subst (MaybeBegins M o) e
-      (carried-begins M o s f k fs effect (all-of o) (performs-begins M.facts natives grow vs (asker f fs) s.common effect op performs))
+      (carried-begins M o s f k fs effect (all-of o) (performs-begins M.facts natives grow vs (caller f fs) s.common effect op performs))
   takes-begins grow s f fs Stuck next h = absurd h
 
   top-begins : AnswersGrow natives → (s : State C) (fs : List (Frame C)) (next : Next C) → TakesTop natives M s fs next → NextBegins s.common.world.output next

@@ -5,7 +5,7 @@ use Rattle.value_model.specs.declared.value.Value.{Value}
 use Rattle.value_model.specs.Meaning.{Answers}
 use Rattle.value_model.specs.Stands.{OwnTypes}
 use Rattle.value_model.specs.World.{Came, Gave, PassesCells, Threw, World}
-use Rattle.run_model.specs.Common.{Common}
+use Rattle.op_model.specs.Common.{Common}
 use Rattle.machine_model.specs.Machine.{Blocked, Ended, Limit, Machine, Moved, NeedsTick, Next, State, Step}
 use Rattle.machine_model.specs.Runs.{Phase, Runs, Stop}
 

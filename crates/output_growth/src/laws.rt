@@ -1,9 +1,9 @@
 //! Laws of output. These calls do nothing: their clauses are laws.
-ghost use Rattle.run_model.specs.Library.{LibraryAnswers};
+ghost use Rattle.op_model.specs.Library.{LibraryAnswers};
 ghost use Rattle.output_growth.specs.Growth.{AnswersGrow, OutputGrows, ReachedGrows};
 
 use machine_model::AnyMachine;
-use run_model::Meaning;
+use op_model::Meaning;
 
 /// What was written before a step is a first part of what was written behind it, and the output of a state that is reached is a
 /// first part of that of whatever a run comes to from there, where no call of the natives takes output back.

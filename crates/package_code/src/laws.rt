@@ -1,7 +1,7 @@
 //! The law of code that is run in the place of its package. This call does nothing: its clause is a law.
 ghost use Rattle.package_code.specs.Laws.{CodeRunsAsItsPackage};
 
-use run_model::Meaning;
+use op_model::Meaning;
 
 /// What comes of runs of a program, by the picks of a seed, comes of runs of the trees of a package, where its code is lowered from that
 /// package with its variables read as declared.

@@ -4,7 +4,7 @@
 ghost use Rattle.std.specs.Prelude.{IfOk, OnErr};
 ghost use Rattle.bal_io.specs.Faults.{CountsFaults};
 ghost use Rattle.typed_tree.specs.declared.package.TypedPackage.{TypedPackage as TypedPackageOf};
-ghost use Rattle.run_model.specs.Library.{LibraryAnswers};
+ghost use Rattle.op_model.specs.Library.{LibraryAnswers};
 ghost use Rattle.machine_model.specs.Runs.{AreWords};
 ghost use Rattle.eval_model.specs.Trees.{trees};
 ghost use Rattle.lower_model.specs.Whole.{IsLowered};
@@ -29,8 +29,7 @@ use value_model::FillerList;
 /// The run of a package as code, over the definitions of its atoms and these fillers of lists, by the numbers of atoms: what comes of it
 /// comes of the package's trees, by the picks that the seed names. Its output is written as it comes, and all of it is written where an
 /// outcome is answered; nothing is written after a call that did not succeed, which is answered with `Failed`. It answers want
-/// of memory also where the package, with its variables read as declared, has more than [`lower_package::MOST_NODES`] nodes, and where
-/// the run is not followed to its end (`code_runs::run`). The package reads its variables as declared from then on
+/// of memory also where the run is not followed to its end (`code_runs::run`). The package reads its variables as declared from then on
 /// (`bare_packages::read_as_declared`). Making the code takes time and room that grow with the package, before anything is written.
 pub fn run_package<O: Sink>(
     alloc: Global,

@@ -11,6 +11,7 @@ use Rattle.typed_tree.specs.declared.package.TypedPackage.{TypedPackage}
 use Rattle.input_calls.specs.Calls.{CallsReadln}
 use Rattle.value_model.specs.declared.filler.Filler.{Filler}
 use Rattle.whole_input.specs.Lines.{IsReadWhole}
+use Rattle.op_model.specs.Library.{LibraryAnswers}
 use Rattle.machine_model.specs.Machine.{Machine}
 use Rattle.machine_model.specs.Outcomes as model
 use Rattle.eval_model.specs.Tasks.{Doing}
@@ -18,10 +19,10 @@ use Rattle.eval_model.specs.Trees.{trees}
 use Rattle.code_verifier.specs.LedTo.{SomePasses}
 use Rattle.filler_tables.specs.Asked.{AsksFillers}
 use Rattle.filler_tables.specs.Tables.{IsFillerTable}
-use Rattle.plain_steps.specs.Ended.{outcome_of}
-use Rattle.plain_steps.specs.declared.outcome.Outcome.{Outcome}
-use Rattle.tree_programs.specs.Fillers.{fillers_by}
-use Rattle.tree_runs.specs.Running.{IsCut, RunsTo}
+use Rattle.code_frames.specs.Programs.{fillers_by}
+use Rattle.code_steps.specs.Ended.{outcome_of}
+use Rattle.code_steps.specs.declared.outcome.Outcome.{Outcome}
+use Rattle.seeded_runs.specs.Runs.{IsCut, RunsTo}
 use Rattle.package_runs.specs.Outside.{Outside}
 use Rattle.package_runs.specs.declared.accepted.RunFault.{RunFault}
 use Rattle.package_runs.specs.declared.accepted.RunFault.TheVariants as fault
@@ -55,11 +56,11 @@ module _ (atoms : List AtomDef) (p : TypedPackage) where
   module _ (words : List Text) (ticks seed : ℕ) (before after : Outside) where
     -- the run came to this outcome, and all its output was written
     abbrev pub HasRun : model.Outcome → Type 0
-    HasRun o = IsRunOver (λ M bytes. RunsTo M words bytes ticks seed o before.written after.written) before.rest after.rest
+    HasRun o = IsRunOver (λ M bytes. RunsTo LibraryAnswers M words bytes ticks seed o before.written after.written) before.rest after.rest
 
     -- it was cut short, and a first part of its output was written
     abbrev pub IsCutShort : Type 0
-    IsCutShort = IsRunOver (λ M bytes. IsCut M words bytes ticks seed before.written after.written) before.rest after.rest
+    IsCutShort = IsRunOver (λ M bytes. IsCut LibraryAnswers M words bytes ticks seed before.written after.written) before.rest after.rest
 
 -- it didn't begin: nothing was written, and some first part of the input may have been read
 pub record IsNotBegun (p : TypedPackage) (before after : Outside) : Type 0 where

@@ -6,11 +6,11 @@ use Rattle.std.proofs.lemmas.Option.{slice_get-map}
 use Rattle.bal_base.specs.declared.fault.LimitKind.TheVariants.{Cells, Strands}
 use Rattle.value_model.specs.declared.value.Value.{Value}
 use Rattle.value_model.specs.Heap.{FunctionObject, Heap, cells}
-use Rattle.run_model.specs.CallRows.{arguments, starts, with_arguments}
-use Rattle.run_model.specs.Common.{Common, Role}
-use Rattle.run_model.specs.Effects.{Effect, Beyond, Enters}
-use Rattle.run_model.specs.Facts.{UnitFacts}
-use Rattle.run_model.specs.Limits.{most_cells, most_strands}
+use Rattle.op_model.specs.CallRows.{arguments, starts, with_arguments}
+use Rattle.op_model.specs.Common.{Common, Role}
+use Rattle.op_model.specs.Effects.{Effect, Beyond, Enters}
+use Rattle.op_model.specs.ProgramFacts.{UnitFacts}
+use Rattle.op_model.specs.Limits.{most_cells, most_strands}
 use Rattle.plain_run.proofs.Lists.{append-one}
 use Rattle.plain_calls.proofs.Making.{starts-past}
 use Rattle.plain_calls.specs.Callees.{rest_fits, value_called, value_started}

@@ -7,12 +7,12 @@ use Rattle.std.proofs.lemmas.Option.{slice_get-map}
 use Rattle.bal_base.specs.declared.fault.LimitKind.TheVariants.{Strands}
 use Rattle.value_model.specs.declared.value.Value.{Value}
 use Rattle.value_model.specs.declared.value.Value.TheVariants.{Future}
-use Rattle.run_model.specs.CallRows.{new_activation, starts, starts_workers, strands_made, workers_from}
-use Rattle.run_model.specs.Common.{Common, Role}
-use Rattle.run_model.specs.Effects.{Effect, Beyond, Spawns}
-use Rattle.run_model.specs.Facts.{WorkerFacts}
-use Rattle.run_model.specs.Limits.{most_strands}
-use Rattle.run_model.specs.Strands.{strand_made}
+use Rattle.op_model.specs.CallRows.{new_activation, starts, starts_workers, strands_made, workers_from}
+use Rattle.op_model.specs.Common.{Common, Role}
+use Rattle.op_model.specs.Effects.{Effect, Beyond, Spawns}
+use Rattle.op_model.specs.ProgramFacts.{WorkerFacts}
+use Rattle.op_model.specs.Limits.{most_strands}
+use Rattle.op_model.specs.Strands.{strand_made}
 use Rattle.plain_run.proofs.Lists.{append-one, replicate-more}
 use Rattle.plain_calls.specs.Making.{with_another}
 

@@ -3,11 +3,11 @@ use Rattle.std.specs.Prelude.{◌++◌, Bool, List, Option, nat_le}
 use Rattle.value_model.specs.declared.value.Value.{Value}
 use Rattle.value_model.specs.Heap.{FunctionObject, cells}
 use Rattle.value_model.specs.World.{World}
-use Rattle.run_model.specs.CallRows.{arguments, checked, passed, starts, with_arguments, with_rest}
-use Rattle.run_model.specs.Common.{Common, Role}
-use Rattle.run_model.specs.Effects.{Effect, Enters}
-use Rattle.run_model.specs.Facts.{UnitFacts}
-use Rattle.run_model.specs.Limits.{most_cells}
+use Rattle.op_model.specs.CallRows.{arguments, checked, passed, starts, with_arguments, with_rest}
+use Rattle.op_model.specs.Common.{Common, Role}
+use Rattle.op_model.specs.Effects.{Effect, Enters}
+use Rattle.op_model.specs.ProgramFacts.{UnitFacts}
+use Rattle.op_model.specs.Limits.{most_cells}
 
 -- whether the list of the rest parameter, if there is one, has room
 abbrev pub rest_fits : UnitFacts → World → List Value → Bool

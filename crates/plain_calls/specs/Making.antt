@@ -1,6 +1,6 @@
 -- Strands and activations that are made.
 use Rattle.std.specs.Prelude.{◌++◌, [], ◌∷◌}
-use Rattle.run_model.specs.Common.{Activation, Common}
+use Rattle.op_model.specs.Common.{Activation, Common}
 
 -- one activation more
 abbrev pub with_another : Common → Activation → Common

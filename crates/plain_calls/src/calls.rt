@@ -5,11 +5,11 @@ ghost use Rattle.std.specs.Prelude.{◌≡◌, ◌∷◌, ◌-◌, ◌++◌, [],
 ghost use Rattle.operations.specs.declared.operation.Operation.TheVariants as operation;
 ghost use Rattle.value_model.specs.Heap.{Items, cells};
 ghost use Rattle.value_model.specs.declared.value.Value.TheVariants.{Function, Struct};
-ghost use Rattle.run_model.specs.Limits.{most_cells};
-ghost use Rattle.run_model.specs.Rows.{makes, new_structure as new_structure_of, next_structure};
+ghost use Rattle.op_model.specs.Limits.{most_cells};
+ghost use Rattle.op_model.specs.Rows.{makes, new_structure as new_structure_of, next_structure};
 ghost use Rattle.plain_run.specs.Effects.{EffectStays, IsPerformed, Stays, effect_of};
-ghost use Rattle.plain_run.specs.declared.held.Asker.{Asker as AskerOf};
-ghost use Rattle.plain_run.specs.Facts.{unit_facts_of};
+ghost use Rattle.plain_run.specs.declared.held.Caller.{Caller as CallerOf};
+ghost use Rattle.plain_run.specs.ProgramFacts.{unit_facts_of};
 ghost use Rattle.plain_run.specs.Held.{common_of, function_of, role_of, world_of};
 ghost use Rattle.plain_calls.specs.Callees.{all_passed, rest_fits, value_called, value_started, with_list};
 
@@ -17,7 +17,7 @@ use crate::slices::{behind, front};
 use crate::starting::{MOST_STRANDS, starts};
 use bal_base::{LimitKind, Memory};
 use plain_run::{
-    Asker, Common, Effect, Facts, FunctionObject, Members, Performed, UnitFacts, World,
+    Caller, Common, Effect, FunctionObject, Members, Performed, ProgramFacts, UnitFacts, World,
     has_room_for, new_structure, share_all,
 };
 use std::alloc::Global;
@@ -62,7 +62,7 @@ fn make_list(world: &mut World, atom: u32, items: Vec<Value>) -> Result<Value, M
     ensures given { IfOk result (λ v. v ≡ Struct (next_structure (world_of world.old))) }
     ensures made { OnOk result (world_of world.new ≡ makes (world_of world.old) (new_structure_of (Some atom) true (Items items.items) ∷ [])) }
 {
-    let number = world.heap.structures.as_slice().len() as u32;
+    let number = world.heap.structures.len() as u32;
     let made = new_structure(Some(atom), true, Members::Items(items));
     world.heap.structures.push(made)?;
     Ok(Value::Struct(number))
@@ -72,13 +72,10 @@ fn make_list(world: &mut World, atom: u32, items: Vec<Value>) -> Result<Value, M
 fn add_shared(values: &[Value], shared: &mut Vec<Value>) -> Result<(), Memory>
     ensures { OnOk result (shared.new.items ≡ shared.old.items ++ values.now) }
 {
-    match values {
-        [] => Ok(()),
-        [v, rest @ ..] => {
-            shared.push(v.share())?;
-            add_shared(rest, shared)
-        }
+    for v in values {
+        shared.push(v.share())?;
     }
+    Ok(())
 }
 
 /// The arguments of a call: those past the other parameters are in a list, which is made; the captured values come last.
@@ -130,18 +127,18 @@ fn enters(
 /// A call of the function value with this number.
 fn calls_value(
     alloc: Global,
-    facts: &Facts,
+    facts: &ProgramFacts,
     n: u32,
     args: &[Value],
     common: &mut Common,
 ) -> Result<Performed, Memory>
-    ensures row { IfOk result (λ done. (asker : AskerOf) (count : ℕ) → IsPerformed facts.now (operation.CallValue count) (Function n ∷ args.now) asker common.old common.new ⊥ done) }
+    ensures row { IfOk result (λ done. (caller : CallerOf) (count : ℕ) → IsPerformed facts.now (operation.CallValue count) (Function n ∷ args.now) caller common.old common.new ⊥ done) }
     ensures stays { IfOk result (Stays common.old common.new) }
 {
     match function_at(alloc, &common.world, n)? {
-        None => Ok(Performed::Unfit),
+        None => Ok(Performed::Stuck),
         Some(f) => match facts.units.get(f.unit as usize) {
-            None => Ok(Performed::Unfit),
+            None => Ok(Performed::Stuck),
             Some(unit) => Ok(Performed::Done(enters(alloc, unit, &f, args, common)?)),
         },
     }
@@ -150,17 +147,17 @@ fn calls_value(
 /// A call of a function value.
 pub fn perform_call_value(
     alloc: Global,
-    facts: &Facts,
+    facts: &ProgramFacts,
     count: u64,
     operands: &[Value],
     common: &mut Common,
 ) -> Result<Performed, Memory>
-    ensures row { IfOk result (λ done. (asker : AskerOf) → IsPerformed facts.now (operation.CallValue count) operands.now asker common.old common.new ⊥ done) }
+    ensures row { IfOk result (λ done. (caller : CallerOf) → IsPerformed facts.now (operation.CallValue count) operands.now caller common.old common.new ⊥ done) }
     ensures stays { IfOk result (Stays common.old common.new) }
 {
     match operands {
         [Value::Function(n), args @ ..] => calls_value(alloc, facts, *n, args, common),
-        _ => Ok(Performed::Unfit),
+        _ => Ok(Performed::Stuck),
     }
 }
 
@@ -170,10 +167,10 @@ fn starts_value(
     unit: &UnitFacts,
     f: &FunctionObject,
     args: &[Value],
-    asker: &Asker,
+    caller: &Caller,
     common: &mut Common,
 ) -> Result<Effect, Memory>
-    ensures row { IfOk result (λ e. effect_of e common.new ≡ value_started (common_of common.old) (option_map role_of asker.now.role) (function_of f.now) (unit_facts_of unit.now) args.now) }
+    ensures row { IfOk result (λ e. effect_of e common.new ≡ value_started (common_of common.old) (option_map role_of caller.now.role) (function_of f.now) (unit_facts_of unit.now) args.now) }
     ensures stays { IfOk result (EffectStays common.old common.new) }
 {
     if !fits(unit, &common.world, args) {
@@ -183,27 +180,27 @@ fn starts_value(
         return Ok(Effect::Beyond(LimitKind::Strands));
     }
     let args = pass_args(alloc, unit, f.captured.as_slice(), args, &mut common.world)?;
-    starts(alloc, common, asker.role, f.unit, args)
+    starts(alloc, common, caller.role, f.unit, args)
 }
 
 /// A strand is started with the function value with this number.
 fn starts_function(
     alloc: Global,
-    facts: &Facts,
+    facts: &ProgramFacts,
     n: u32,
     args: &[Value],
-    asker: &Asker,
+    caller: &Caller,
     common: &mut Common,
 ) -> Result<Performed, Memory>
-    ensures row { IfOk result (λ done. (count : ℕ) → IsPerformed facts.now (operation.StartValue count) (Function n ∷ args.now) asker.now common.old common.new ⊥ done) }
+    ensures row { IfOk result (λ done. (count : ℕ) → IsPerformed facts.now (operation.StartValue count) (Function n ∷ args.now) caller.now common.old common.new ⊥ done) }
     ensures stays { IfOk result (Stays common.old common.new) }
 {
     match function_at(alloc, &common.world, n)? {
-        None => Ok(Performed::Unfit),
+        None => Ok(Performed::Stuck),
         Some(f) => match facts.units.get(f.unit as usize) {
-            None => Ok(Performed::Unfit),
+            None => Ok(Performed::Stuck),
             Some(unit) => {
-                let effect = starts_value(alloc, unit, &f, args, asker, common)?;
+                let effect = starts_value(alloc, unit, &f, args, caller, common)?;
                 Ok(Performed::Done(effect))
             }
         },
@@ -213,19 +210,19 @@ fn starts_function(
 /// A strand is started with a function value.
 pub fn perform_start_value(
     alloc: Global,
-    facts: &Facts,
+    facts: &ProgramFacts,
     count: u64,
     operands: &[Value],
-    asker: &Asker,
+    caller: &Caller,
     common: &mut Common,
 ) -> Result<Performed, Memory>
-    ensures row { IfOk result (λ done. IsPerformed facts.now (operation.StartValue count) operands.now asker.now common.old common.new ⊥ done) }
+    ensures row { IfOk result (λ done. IsPerformed facts.now (operation.StartValue count) operands.now caller.now common.old common.new ⊥ done) }
     ensures stays { IfOk result (Stays common.old common.new) }
 {
     match operands {
         [Value::Function(n), args @ ..] => {
-            starts_function(alloc, facts, *n, args, asker, common)
+            starts_function(alloc, facts, *n, args, caller, common)
         }
-        _ => Ok(Performed::Unfit),
+        _ => Ok(Performed::Stuck),
     }
 }

@@ -3,14 +3,14 @@
 
 ghost use Rattle.std.specs.Prelude.{◌≡◌, IfOk, OnOk, map, option_map, true};
 ghost use Rattle.operations.specs.declared.operation.Operation.TheVariants as operation;
-ghost use Rattle.run_model.specs.CallRows as model;
-ghost use Rattle.run_model.specs.Strands.{strand_made};
-ghost use Rattle.plain_run.specs.declared.facts.Facts.{Facts as FactsOf};
+ghost use Rattle.op_model.specs.CallRows as model;
+ghost use Rattle.op_model.specs.Strands.{strand_made};
+ghost use Rattle.plain_run.specs.declared.facts.ProgramFacts.{ProgramFacts as FactsOf};
 ghost use Rattle.plain_run.specs.Effects.{EffectStays, IsPerformed, Stays, effect_of, spawned_of};
 ghost use Rattle.plain_run.specs.Held.{common_of, role_of};
 
 use bal_base::{LimitKind, Memory};
-use plain_run::{Asker, Common, Effect, Performed, Role, Spawned, Status, Strand, share_all};
+use plain_run::{Caller, Common, Effect, Performed, Role, Spawned, Status, Strand, share_all};
 use std::alloc::Global;
 use value_model::Value;
 
@@ -69,12 +69,12 @@ pub fn perform_start(
     unit: u32,
     count: u64,
     operands: &[Value],
-    asker: &Asker,
+    caller: &Caller,
     common: &mut Common,
 ) -> Result<Performed, Memory>
-    ensures row { IfOk result (λ done. (facts : FactsOf) → IsPerformed facts (operation.Start unit count) operands.now asker.now common.old common.new ⊥ done) }
+    ensures row { IfOk result (λ done. (facts : FactsOf) → IsPerformed facts (operation.Start unit count) operands.now caller.now common.old common.new ⊥ done) }
     ensures stays { IfOk result (Stays common.old common.new) }
 {
     let args = share_all(alloc, operands)?;
-    Ok(Performed::Done(starts(alloc, common, asker.role, unit, args)?))
+    Ok(Performed::Done(starts(alloc, common, caller.role, unit, args)?))
 }

@@ -3,11 +3,11 @@
 
 ghost use Rattle.std.specs.Prelude.{◌≡◌, ◌∷◌, ◌+◌, ◌++◌, ◌<◌, ◌^◌, [], IfOk, None, OnOk, length, map, option_map, replicate, true};
 ghost use Rattle.operations.specs.declared.operation.Operation.TheVariants as operation;
-ghost use Rattle.run_model.specs.CallRows as model;
-ghost use Rattle.run_model.specs.Levels.{numbers_from};
-ghost use Rattle.run_model.specs.Strands.{no_channel};
+ghost use Rattle.op_model.specs.CallRows as model;
+ghost use Rattle.op_model.specs.Levels.{numbers_from};
+ghost use Rattle.op_model.specs.Strands.{no_channel};
 ghost use Rattle.plain_run.specs.Effects.{EffectStays, IsPerformed, Stays, effect_of, spawned_of};
-ghost use Rattle.plain_run.specs.Facts.{worker_facts_of};
+ghost use Rattle.plain_run.specs.ProgramFacts.{worker_facts_of};
 ghost use Rattle.plain_run.specs.Held.{activation_of, channel_of, common_of, end_of};
 ghost use Rattle.plain_calls.specs.Making.{with_another};
 
@@ -15,8 +15,8 @@ use crate::slices::{behind, front};
 use crate::starting::{MOST_STRANDS, make_strand};
 use bal_base::{LimitKind, Memory};
 use plain_run::{
-    Activation, Asker, Channel, Common, Effect, End, Facts, Performed, Role, Spawned, WorkerFacts,
-    share_all,
+    Activation, Caller, Channel, Common, Effect, End, Performed, ProgramFacts, Role, Spawned,
+    WorkerFacts, share_all,
 };
 use std::alloc::Global;
 use value_model::Value;
@@ -33,19 +33,23 @@ fn add_workers(
     requires { worker + length workers.now < 2 ^ 64 }
     ensures { OnOk result (map spawned_of spawned.new.items ≡ map spawned_of spawned.old.items ++ model.workers_from activation worker (map worker_facts_of workers.now) values.now) }
 {
-    match workers {
-        [] => Ok(()),
-        [first, rest @ ..] => {
-            let count = first.captured.len();
-            spawned.push(Spawned {
-                unit: first.unit,
-                args: share_all(alloc, front(values, count))?,
-                role: Some(Role { activation, worker }),
-            })?;
-            let left = behind(values, count);
-            add_workers(alloc, activation, worker + 1, rest, left, spawned)
-        }
+    let mut left = values;
+    let mut number = worker;
+    for next in workers {
+        let count = next.captured.len();
+        let args = share_all(alloc, front(left, count))?;
+        spawned.push(Spawned {
+            unit: next.unit,
+            args,
+            role: Some(Role {
+                activation,
+                worker: number,
+            }),
+        })?;
+        left = behind(left, count);
+        number += 1;
     }
+    Ok(())
 }
 
 /// The numbers from this one on, one for each worker, behind the others.
@@ -53,13 +57,12 @@ fn add_numbers(first: u64, workers: &[WorkerFacts], numbers: &mut Vec<u64>) -> R
     requires { first + length workers.now < 2 ^ 64 }
     ensures { OnOk result (numbers.new.items ≡ numbers.old.items ++ numbers_from first (length workers.now)) }
 {
-    match workers {
-        [] => Ok(()),
-        [_, rest @ ..] => {
-            numbers.push(first)?;
-            add_numbers(first + 1, rest, numbers)
-        }
+    let mut number = first;
+    for _ in workers {
+        numbers.push(number)?;
+        number += 1;
     }
+    Ok(())
 }
 
 /// So many workers, none of which has ended.
@@ -124,13 +127,10 @@ fn new_activation(
 fn make_strands(common: &mut Common, spawned: &[Spawned]) -> Result<(), Memory>
     ensures { OnOk result (common_of common.new ≡ model.strands_made (map spawned_of spawned.now) (common_of common.old)) }
 {
-    match spawned {
-        [] => Ok(()),
-        [first, rest @ ..] => {
-            make_strand(common, first.unit, first.role)?;
-            make_strands(common, rest)
-        }
+    for s in spawned {
+        make_strand(common, s.unit, s.role)?;
     }
+    Ok(())
 }
 
 /// One activation more.
@@ -175,20 +175,20 @@ fn starts_workers(
 /// The named workers of the unit start, with the values that they capture.
 pub fn perform_workers(
     alloc: Global,
-    facts: &Facts,
+    facts: &ProgramFacts,
     operands: &[Value],
-    asker: &Asker,
+    caller: &Caller,
     common: &mut Common,
 ) -> Result<Performed, Memory>
-    ensures row { IfOk result (λ done. IsPerformed facts.now operation.Workers operands.now asker.now common.old common.new ⊥ done) }
+    ensures row { IfOk result (λ done. IsPerformed facts.now operation.Workers operands.now caller.now common.old common.new ⊥ done) }
     ensures stays { IfOk result (Stays common.old common.new) }
 {
-    match facts.units.get(asker.unit as usize) {
-        None => Ok(Performed::Unfit),
+    match facts.units.get(caller.unit as usize) {
+        None => Ok(Performed::Stuck),
         Some(unit) => Ok(Performed::Done(starts_workers(
             alloc,
             common,
-            asker.unit,
+            caller.unit,
             unit.workers.as_slice(),
             operands,
         )?)),

@@ -6,9 +6,9 @@ use Rattle.value_model.specs.declared.value.Value.{Value}
 use Rattle.value_model.specs.declared.panics.PanicName.TheVariants.{CyclicValue}
 use Rattle.value_model.specs.Heap.{cells}
 use Rattle.value_model.specs.World.{World, Came, Gave, PassesCells}
-use Rattle.run_model.specs.Copies.{copied_structures, copied_value, copy_of, freezes, has_cycle, reached_from, with_copies}
-use Rattle.run_model.specs.Limits.{most_cells}
-use Rattle.run_model.specs.Rows.{makes, next_structure, panics}
+use Rattle.op_model.specs.Copies.{copied_structures, copied_value, copy_of, freezes, has_cycle, reached_from, with_copies}
+use Rattle.op_model.specs.Limits.{most_cells}
+use Rattle.op_model.specs.Rows.{makes, next_structure, panics}
 use Rattle.plain_run.specs.declared.held.Structure.{Structure}
 use Rattle.plain_run.specs.Held.{structure_of}
 use Rattle.plain_copies.specs.Copied.{IsCopied, copy_given, structures_copied}

@@ -2,3 +2,4 @@ pub mod Copying
 pub mod Giving
 pub mod Resting
 pub mod Sums
+pub mod Turns

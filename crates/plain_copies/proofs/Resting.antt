@@ -1,6 +1,6 @@
 -- A level like the one before it is like all that come.
 use Rattle.std.proofs.Common.{◌≡◌, ◌∙◌, ◌+◌, ◌-◌, ◌++◌, ◌≤◌, ℕ, zero, suc, List, flat_map, ap, arith}
-use Rattle.run_model.specs.Levels.{levels}
+use Rattle.op_model.specs.Levels.{levels}
 
 module _ {A : Type 0} (tidy : List A → List A) (kids : A → List A) (roots xs : List A) (n : ℕ) (at : xs ≡ levels tidy kids roots n) (rest : xs ≡ tidy (roots ++ flat_map kids xs)) where
   more : (k m : ℕ) → k + n ≡ m → xs ≡ levels tidy kids roots m

@@ -1,7 +1,7 @@
 -- The cells of several structures.
-use Rattle.std.proofs.Common.{◌≡◌, ◌+◌, ℕ, List, [], ◌∷◌, ◌++◌, ◌≤◌, ◌-◌, suc, take, Option, drop, get_or, length, map, refl, sym, subst, arith}
+use Rattle.std.proofs.Common.{◌≡◌, ◌∙◌, ◌+◌, ◌<◌, ◌≤◌, ℕ, List, [], ◌∷◌, ◌++◌, take, Option, get_or, length, map, refl, sym, ap, subst, arith}
 use Rattle.std.specs.List.{sum_by}
-use Rattle.std.proofs.lemmas.List.{map-append, take_all}
+use Rattle.std.proofs.lemmas.List.{map-append, take_all, take_more}
 use Rattle.std.proofs.lemmas.List.Sums.{sum_by-append, sum_by-cons}
 use Rattle.value_model.specs.Heap.{Heap, Structure as ModelStructure, cells}
 use Rattle.plain_run.specs.declared.held.Structure.{Structure}
@@ -16,14 +16,19 @@ sum-held (s ∷ ss) =
     let more = sum-held ss in
     omega (arith, here, there, more)
 
-pub cells-more : (s : Structure) (ss : List Structure) (o : Option ℕ) → IsSum (s.greatest + 1 + sum_by (λ x. x.greatest + 1) ss) o → IsSum (sum_by (λ x. x.greatest + 1) (s ∷ ss)) o
-cells-more s ss o h = subst (λ n. IsSum n o) (sym (sum_by-cons (λ x. x.greatest + 1) s ss)) h
+-- one structure more behind the first ones
+pub cells-step : (ss : List Structure) (i : ℕ) (s : Structure) (o : Option ℕ) → i < length ss → s ≡ get_or ss i s → IsSum (s.greatest + 1 + sum_by (λ x. x.greatest + 1) (take i ss)) o → IsSum (sum_by (λ x. x.greatest + 1) (take (i + 1) ss)) o
+cells-step ss i s o l e h = subst (λ n. IsSum n o) sum h
+  where
+    sum : s.greatest + 1 + sum_by (λ x. x.greatest + 1) (take i ss) ≡ sum_by (λ x. x.greatest + 1) (take (i + 1) ss)
+    sum =
+        let next : take (i + 1) ss ≡ take i ss ++ s ∷ [] = take_more ss i s l ∙ ap (λ x. take i ss ++ x ∷ []) (sym e) in
+        let all = sum_by-append (λ x. x.greatest + 1) (take i ss) (s ∷ []) in
+        let same = ap (sum_by (λ x. x.greatest + 1)) next in
+        omega (arith, all, same, sum_by-cons (λ x. x.greatest + 1) s [])
 
-pub cells-first : (ss : List Structure) (s : Structure) (o : Option ℕ) → 1 ≤ length ss → s ≡ get_or ss 0 s → IsSum (s.greatest + 1 + sum_by (λ x. x.greatest + 1) (take (length ss - 1) (drop 1 ss))) o → IsSum (sum_by (λ x. x.greatest + 1) ss) o
-cells-first [] s o l e h = absurd (omega arith)
-cells-first (x ∷ ss) s o l e h =
-    let rest : take (suc (length ss) - 1) ss ≡ ss = take_all (suc (length ss) - 1) ss (omega arith) in
-    cells-more x ss o (subst (λ ys. IsSum (x.greatest + 1 + sum_by (λ y. y.greatest + 1) ys) o) rest (subst (λ y. IsSum (y.greatest + 1 + sum_by (λ y. y.greatest + 1) (take (suc (length ss) - 1) ss)) o) e h))
+pub cells-all : (ss : List Structure) (i : ℕ) (o : Option ℕ) → length ss ≤ i → IsSum (sum_by (λ x. x.greatest + 1) (take i ss)) o → IsSum (sum_by (λ x. x.greatest + 1) ss) o
+cells-all ss i o l h = subst (λ xs. IsSum (sum_by (λ x. x.greatest + 1) xs) o) (take_all i ss l) h
 
 pub copies-cells : (h : Heap) (ss : List ModelStructure) → cells (record { structures = h.structures ++ ss; errors = h.errors; functions = h.functions }) ≡ cells h + sum_by (λ s. s.greatest + 1) ss
 copies-cells h ss = let all = sum_by-append (λ s. s.greatest + 1) h.structures ss in omega (arith, all)

@@ -5,9 +5,9 @@ use Rattle.bal_base.specs.declared.text.Text.{Text}
 use Rattle.value_model.specs.declared.value.Value.{Value}
 use Rattle.value_model.specs.Heap.{Heap, Structure, cells}
 use Rattle.value_model.specs.World.{World, Came}
-use Rattle.run_model.specs.Copies.{copied_structure, copied_value, copy_of, mutable_members, reached, with_copies}
-use Rattle.run_model.specs.Limits.{most_cells}
-use Rattle.run_model.specs.Rows.{gives, within}
+use Rattle.op_model.specs.Copies.{copied_structure, copied_value, copy_of, mutable_members, reached, with_copies}
+use Rattle.op_model.specs.Limits.{most_cells}
+use Rattle.op_model.specs.Rows.{gives, within}
 
 abbrev pub second : Text × Value → Value
 second e = e.1

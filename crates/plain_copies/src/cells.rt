@@ -4,8 +4,8 @@
 ghost use Rattle.std.specs.Prelude.{◌≡◌, ◌++◌, ◌+◌, IfOk, OnOk, map, nat_le, ℕ};
 ghost use Rattle.std.specs.List.{sum_by};
 ghost use Rattle.value_model.specs.Heap.{cells};
-ghost use Rattle.run_model.specs.Limits.{most_cells};
-ghost use Rattle.run_model.specs.Rows.{makes};
+ghost use Rattle.op_model.specs.Limits.{most_cells};
+ghost use Rattle.op_model.specs.Rows.{makes};
 ghost use Rattle.plain_run.specs.Held.{heap_of, structure_of, world_of};
 ghost use Rattle.plain_copies.specs.Copied.{IsSum};
 
@@ -29,10 +29,11 @@ fn more_cells(left: Option<u64>, greatest: u64) -> Option<u64>
 pub fn cells_of(structures: &[Structure]) -> Option<u64>
     ensures { IsSum (sum_by (λ s. s.greatest + 1) structures.now) result }
 {
-    match structures {
-        [] => Some(0),
-        [s, rest @ ..] => more_cells(cells_of(rest), s.greatest),
+    let mut sum = Some(0);
+    for s in structures {
+        sum = more_cells(sum, s.greatest);
     }
+    sum
 }
 
 /// Whether there is room for the structures.

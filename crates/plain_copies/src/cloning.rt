@@ -2,7 +2,7 @@
 #![tactic(auto, using(crate::proofs::Giving::giving))]
 
 ghost use Rattle.std.specs.Prelude.{◌≡◌, IfOk};
-ghost use Rattle.run_model.specs.Copies as model;
+ghost use Rattle.op_model.specs.Copies as model;
 ghost use Rattle.plain_run.specs.Came.{WorldStays, came_of};
 ghost use Rattle.plain_run.specs.Held.{world_of};
 ghost use Rattle.plain_copies.specs.Copied.{IsCopied, copy_given};

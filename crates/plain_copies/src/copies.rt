@@ -2,7 +2,7 @@
 #![tactic(auto, using(crate::proofs::Copying::copying))]
 
 ghost use Rattle.std.specs.Prelude.{◌≡◌, ◌+◌, ◌++◌, IfOk, OnOk, map, option_map, option_to_list, position, slice_get};
-ghost use Rattle.run_model.specs.Copies as model;
+ghost use Rattle.op_model.specs.Copies as model;
 ghost use Rattle.plain_run.specs.Held.{heap_of, members_of, structure_of};
 ghost use Rattle.plain_copies.specs.Copied.{copied_entry, is_number, structures_copied};
 
@@ -66,13 +66,10 @@ fn push_values(
 ) -> Result<(), Memory>
     ensures { OnOk result (copies.new.items ≡ copies.old.items ++ map (model.copied_value first numbers.now) values.now) }
 {
-    match values {
-        [] => Ok(()),
-        [v, rest @ ..] => {
-            copies.push(copied_value(first, numbers, v)?)?;
-            push_values(first, numbers, rest, copies)
-        }
+    for v in values {
+        copies.push(copied_value(first, numbers, v)?)?;
     }
+    Ok(())
 }
 
 fn push_entries(
@@ -83,14 +80,11 @@ fn push_entries(
 ) -> Result<(), Memory>
     ensures { OnOk result (copies.new.items ≡ copies.old.items ++ map (copied_entry first numbers.now) entries.now) }
 {
-    match entries {
-        [] => Ok(()),
-        [entry, rest @ ..] => {
-            let v = copied_value(first, numbers, &entry.1)?;
-            copies.push((entry.0.share(), v))?;
-            push_entries(first, numbers, rest, copies)
-        }
+    for entry in entries {
+        let v = copied_value(first, numbers, &entry.1)?;
+        copies.push((entry.0.share(), v))?;
     }
+    Ok(())
 }
 
 fn copied_members(
@@ -187,11 +181,8 @@ pub(crate) fn push_copies(
 ) -> Result<(), Memory>
     ensures { OnOk result (map structure_of copies.new.items ≡ map structure_of copies.old.items ++ structures_copied first numbers.now mutable (heap_of heap.now) left.now) }
 {
-    match left {
-        [] => Ok(()),
-        [n, rest @ ..] => {
-            push_copy(alloc, first, numbers, mutable, heap, *n, copies)?;
-            push_copies(alloc, first, numbers, mutable, heap, rest, copies)
-        }
+    for n in left {
+        push_copy(alloc, first, numbers, mutable, heap, *n, copies)?;
     }
+    Ok(())
 }

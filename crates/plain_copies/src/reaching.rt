@@ -4,14 +4,14 @@
 ghost use Rattle.std.specs.Prelude.{◌≡◌, ◌++◌, ◌==◌, ◌∷◌, [], IfOk, OnOk, flat_map, map, option_to_list, true};
 ghost use Rattle.std.specs.List.{list_any};
 ghost use Rattle.value_model.specs.declared.value.Value.TheVariants.{Struct};
-ghost use Rattle.run_model.specs.Copies as model;
-ghost use Rattle.run_model.specs.Levels.{distinct as distinct_of, levels};
+ghost use Rattle.op_model.specs.Copies as model;
+ghost use Rattle.op_model.specs.Levels.{distinct as distinct_of, levels};
 ghost use Rattle.plain_run.specs.Held.{heap_of};
 ghost use Rattle.plain_copies.specs.Copied.{reaches_itself as reaches_itself_of, second};
 
 use bal_base::{Memory, Text};
+use op_model::distinct;
 use plain_run::{Heap, Members};
-use run_model::distinct;
 use std::alloc::Global;
 use value_model::Value;
 
@@ -52,13 +52,10 @@ fn push_number(numbers: &mut Vec<u32>, n: Option<u32>) -> Result<(), Memory>
 fn push_mutable(heap: &Heap, values: &[Value], numbers: &mut Vec<u32>) -> Result<(), Memory>
     ensures { OnOk result (numbers.new.items ≡ numbers.old.items ++ model.mutable_numbers (heap_of heap.now) values.now) }
 {
-    match values {
-        [] => Ok(()),
-        [v, rest @ ..] => {
-            push_number(numbers, mutable_number(heap, v))?;
-            push_mutable(heap, rest, numbers)
-        }
+    for v in values {
+        push_number(numbers, mutable_number(heap, v))?;
     }
+    Ok(())
 }
 
 fn push_mutable_entries(
@@ -68,13 +65,10 @@ fn push_mutable_entries(
 ) -> Result<(), Memory>
     ensures { OnOk result (numbers.new.items ≡ numbers.old.items ++ model.mutable_numbers (heap_of heap.now) (map second entries.now)) }
 {
-    match entries {
-        [] => Ok(()),
-        [entry, rest @ ..] => {
-            push_number(numbers, mutable_number(heap, &entry.1))?;
-            push_mutable_entries(heap, rest, numbers)
-        }
+    for entry in entries {
+        push_number(numbers, mutable_number(heap, &entry.1))?;
     }
+    Ok(())
 }
 
 /// The mutable structures among the members of the structure with this number, behind the others.
@@ -94,13 +88,10 @@ fn push_members(heap: &Heap, n: u32, numbers: &mut Vec<u32>) -> Result<(), Memor
 fn push_all(heap: &Heap, found: &[u32], numbers: &mut Vec<u32>) -> Result<(), Memory>
     ensures { OnOk result (numbers.new.items ≡ numbers.old.items ++ flat_map (model.mutable_members (heap_of heap.now)) found.now) }
 {
-    match found {
-        [] => Ok(()),
-        [n, rest @ ..] => {
-            push_members(heap, *n, numbers)?;
-            push_all(heap, rest, numbers)
-        }
+    for n in found {
+        push_members(heap, *n, numbers)?;
     }
+    Ok(())
 }
 
 /// The roots and what is among the members of those that were found, each where it comes first.

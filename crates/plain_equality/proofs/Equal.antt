@@ -5,7 +5,7 @@ use Rattle.std.specs.Prelude.{is_some, option_and_then, option_map, slice_get}
 use Rattle.value_model.specs.declared.value.Value.{Value}
 use Rattle.value_model.specs.declared.value.Value.TheVariants.{Struct}
 use Rattle.value_model.specs.Heap.{Heap, Structure, Members, Items, Entries}
-use Rattle.run_model.specs.Equality.{AreEqual, Face, IsList, IsMapping, IsOther, Step, face_of, member_at, value_at}
+use Rattle.op_model.specs.Equality.{AreEqual, Face, IsList, IsMapping, IsOther, Step, face_of, member_at, value_at}
 use Rattle.plain_equality.specs.Pairs.{AreKnownSides, IsKnown}
 
 same_some : {A : Type 0} (x y : A) → Some x ≡ Some y → x ≡ y

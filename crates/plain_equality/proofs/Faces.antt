@@ -4,7 +4,7 @@ use Rattle.std.specs.Prelude.{option_map, slice_get}
 use Rattle.std.proofs.lemmas.Option.{slice_get-map}
 use Rattle.value_model.specs.declared.value.Value.TheVariants.{Struct}
 use Rattle.value_model.specs.Heap.{AreAlike, Entries, Items, Members, Structure as ModelStructure}
-use Rattle.run_model.specs.Equality.{Face, IsList, IsMapping, IsOther, face_of}
+use Rattle.op_model.specs.Equality.{Face, IsList, IsMapping, IsOther, face_of}
 use Rattle.plain_run.specs.declared.held.Heap.{Heap}
 use Rattle.plain_run.specs.declared.held.Structure.{Structure}
 use Rattle.plain_run.specs.Held.{heap_of, members_of, structure_of}
@@ -17,8 +17,8 @@ abbrev face_by : ℕ → Option ModelStructure → Face
 face_by n (Some s) = face_in s.members
 face_by n None = IsOther (Struct n)
 
-face-held : (h : Heap) (n : ℕ) (o : Option Structure) → slice_get h.structures.items n ≡ o → face_of (heap_of h) (Struct n) ≡ face_by n (option_map structure_of o)
-face-held h n o e = ap (face_by n) (slice_get-map structure_of h.structures.items n ∙ ap (option_map structure_of) e)
+face-held : (h : Heap) (n : ℕ) (o : Option Structure) → slice_get h.structures n ≡ o → face_of (heap_of h) (Struct n) ≡ face_by n (option_map structure_of o)
+face-held h n o e = ap (face_by n) (slice_get-map structure_of h.structures n ∙ ap (option_map structure_of) e)
 
 apart : (x y : Face) → ¬ (x ≡ y) → x ≡ y → false ≡ true
 apart x y n e = absurd (n e)
@@ -44,7 +44,7 @@ same_number n m e = cc
 
 module _ (h : Heap) (n m : ℕ) where
   -- both are there
-  pub both-there : (s t : Structure) (b : Bool) → slice_get h.structures.items n ≡ Some s → slice_get h.structures.items m ≡ Some t → IsTrue b ↔ AreAlike (members_of s.members) (members_of t.members) → IsTrue b ↔ (face_of (heap_of h) (Struct n) ≡ face_of (heap_of h) (Struct m))
+  pub both-there : (s t : Structure) (b : Bool) → slice_get h.structures n ≡ Some s → slice_get h.structures m ≡ Some t → IsTrue b ↔ AreAlike (members_of s.members) (members_of t.members) → IsTrue b ↔ (face_of (heap_of h) (Struct n) ≡ face_of (heap_of h) (Struct m))
   both-there s t b e f k =
       let x = face-held h n (Some s) e in
       let y = face-held h m (Some t) f in
@@ -52,16 +52,16 @@ module _ (h : Heap) (n m : ℕ) where
       (λ i. x ∙ (alike.0 (k.0 i) ∙ sym y), λ i. k.1 (alike.1 (sym x ∙ (i ∙ y))))
 
   -- the first one alone is there
-  pub first-there : (s : Structure) → slice_get h.structures.items n ≡ Some s → slice_get h.structures.items m ≡ None → ¬ (face_of (heap_of h) (Struct n) ≡ face_of (heap_of h) (Struct m))
+  pub first-there : (s : Structure) → slice_get h.structures n ≡ Some s → slice_get h.structures m ≡ None → ¬ (face_of (heap_of h) (Struct n) ≡ face_of (heap_of h) (Struct m))
   first-there s e f i =
       let x = face-held h n (Some s) e in
       let y = face-held h m None f in
       other_list m (members_of s.members) (sym y ∙ (sym i ∙ x))
 
   -- the first one is not there, and so the second one is not
-  pub past-faces : slice_get h.structures.items n ≡ None → face_of (heap_of h) (Struct n) ≡ face_of (heap_of h) (Struct m) → slice_get h.structures.items m ≡ None
-  past-faces e face = by (slice_get h.structures.items m) refl
+  pub past-faces : slice_get h.structures n ≡ None → face_of (heap_of h) (Struct n) ≡ face_of (heap_of h) (Struct m) → slice_get h.structures m ≡ None
+  past-faces e face = by (slice_get h.structures m) refl
     where
-      by : (o : Option Structure) → slice_get h.structures.items m ≡ o → o ≡ None
+      by : (o : Option Structure) → slice_get h.structures m ≡ o → o ≡ None
       by None f = refl
       by (Some t) f = absurd (other_list n (members_of t.members) (sym (face-held h n None e) ∙ (face ∙ face-held h m (Some t) f)))

@@ -6,7 +6,7 @@ use Rattle.std.proofs.lemmas.List.Elements.{All-append, All-more, All-nil, All-p
 use Rattle.value_model.specs.declared.value.Value.{Value}
 use Rattle.value_model.specs.declared.value.Value.TheVariants.{Struct}
 use Rattle.value_model.specs.Heap.{Heap}
-use Rattle.run_model.specs.Equality.{face_of}
+use Rattle.op_model.specs.Equality.{face_of}
 use Rattle.plain_equality.specs.Pairs.{AreHeld, AreKnownSides, AreMembersKnown, HoldsMore, IsHeld, IsKnown, IsPair}
 use Rattle.plain_equality.proofs.Equal.{is_leaf, leaf-apart, leaf-same}
 

@@ -11,7 +11,7 @@ use Rattle.type_model.specs.Places.{is_same_text}
 use Rattle.value_model.specs.declared.value.Value.{Value}
 use Rattle.value_model.specs.declared.value.Value.TheVariants.{Struct}
 use Rattle.value_model.specs.Heap.{Entries, Items, Members, entry_at}
-use Rattle.run_model.specs.Equality.{Step, ToPlace, ToKey, face_of, member_at}
+use Rattle.op_model.specs.Equality.{Step, ToPlace, ToKey, face_of, member_at}
 use Rattle.plain_run.specs.declared.held.Heap.{Heap}
 use Rattle.plain_run.specs.declared.held.Structure.{Structure}
 use Rattle.plain_run.specs.Held.{heap_of, members_of, structure_of}
@@ -208,18 +208,18 @@ module _ (es ds : List (Text × Value)) where
 
 -- ---- structures
 
-member-held : (h : Heap) (n : ℕ) (step : Step) (o : Option Structure) → slice_get h.structures.items n ≡ o → member_at (heap_of h) step (Struct n) ≡ option_and_then (λ s. member_in step s.members) (option_map structure_of o)
-member-held h n step o e = ap (option_and_then (λ s. member_in step s.members)) (slice_get-map structure_of h.structures.items n ∙ ap (option_map structure_of) e)
+member-held : (h : Heap) (n : ℕ) (step : Step) (o : Option Structure) → slice_get h.structures n ≡ o → member_at (heap_of h) step (Struct n) ≡ option_and_then (λ s. member_in step s.members) (option_map structure_of o)
+member-held h n step o e = ap (option_and_then (λ s. member_in step s.members)) (slice_get-map structure_of h.structures n ∙ ap (option_map structure_of) e)
 
 module _ (h : Heap) (n m : ℕ) where
-  pub structures-there : (s t : Structure) (o : Option (List (Value × Value))) → slice_get h.structures.items n ≡ Some s → slice_get h.structures.items m ≡ Some t → AreMemberPairs (members_of s.members) (members_of t.members) o → AreStructurePairs (heap_of h) n m o
+  pub structures-there : (s t : Structure) (o : Option (List (Value × Value))) → slice_get h.structures n ≡ Some s → slice_get h.structures m ≡ Some t → AreMemberPairs (members_of s.members) (members_of t.members) o → AreStructurePairs (heap_of h) n m o
   structures-there s t (Some pairs) e f (sides, all) = (
     λ step. subst (λ x. AreSides pairs x (member_at (heap_of h) step (Struct m))) (sym (member-held h n step (Some s) e)) (subst (λ y. AreSides pairs (member_in step (members_of s.members)) y) (sym (member-held h m step (Some t) f)) (sides step)),
     All-weaker (IsMemberPair (members_of s.members) (members_of t.members)) (λ p. (step : Step) × (member_at (heap_of h) step (Struct n) ≡ Some p.0) × (member_at (heap_of h) step (Struct m) ≡ Some p.1)) (λ p (step, a, b). (step, member-held h n step (Some s) e ∙ a, member-held h m step (Some t) f ∙ b)) pairs all,
   )
   structures-there s t None e f (step, apart) = (step, λ i. apart (sym (ap is_some (member-held h n step (Some s) e)) ∙ (i ∙ ap is_some (member-held h m step (Some t) f))))
 
-  pub structures-past : slice_get h.structures.items n ≡ None → face_of (heap_of h) (Struct n) ≡ face_of (heap_of h) (Struct m) → AreStructurePairs (heap_of h) n m (Some [])
+  pub structures-past : slice_get h.structures n ≡ None → face_of (heap_of h) (Struct n) ≡ face_of (heap_of h) (Struct m) → AreStructurePairs (heap_of h) n m (Some [])
   structures-past e face =
       let f = past-faces h n m e face in (
         λ step. subst (λ x. AreSides [] x (member_at (heap_of h) step (Struct m))) (sym (member-held h n step None e)) (subst (λ y. AreSides [] None y) (sym (member-held h m step None f)) tt),

@@ -3,10 +3,10 @@ use Rattle.std.proofs.Common.{◌≡◌, ◌↔◌, Bool, true, IsTrue, [], ◌�
 use Rattle.value_model.specs.declared.value.Value.{Value}
 use Rattle.value_model.specs.declared.value.Value.TheVariants.{Bool as Truth}
 use Rattle.operations.specs.declared.operation.Operation.TheVariants as operation
-use Rattle.run_model.specs.Equality.{AreEqual}
-use Rattle.run_model.specs.Rows.{gives}
-use Rattle.plain_run.specs.declared.facts.Facts.{Facts}
-use Rattle.plain_run.specs.declared.held.Asker.{Asker}
+use Rattle.op_model.specs.Equality.{AreEqual}
+use Rattle.op_model.specs.Rows.{gives}
+use Rattle.plain_run.specs.declared.facts.ProgramFacts.{ProgramFacts}
+use Rattle.plain_run.specs.declared.held.Caller.{Caller}
 use Rattle.plain_run.specs.declared.held.Common.{Common}
 use Rattle.plain_run.specs.declared.effect.Effect.TheVariants.{Gives}
 use Rattle.plain_run.specs.declared.effect.Performed.{Performed}
@@ -14,5 +14,5 @@ use Rattle.plain_run.specs.declared.effect.Performed.TheVariants.{Done}
 use Rattle.plain_run.specs.Effects.{IsPerformed}
 use Rattle.plain_run.specs.Held.{heap_of, world_of}
 
-pub equal-done : (a b : Value) (facts : Facts) (asker : Asker) (c : Common) (equal : Bool) (done : Performed) → IsTrue equal ↔ AreEqual (heap_of c.world.heap) a b → done ≡ Done (Gives (Some (Truth equal))) → IsPerformed facts operation.Equal (a ∷ b ∷ []) asker c c ⊥ done
-equal-done a b facts asker c equal done h e = subst (IsPerformed facts operation.Equal (a ∷ b ∷ []) asker c c ⊥) (sym e) (gives (world_of c.world) (Truth equal), (equal, h, refl), refl)
+pub equal-done : (a b : Value) (facts : ProgramFacts) (caller : Caller) (c : Common) (equal : Bool) (done : Performed) → IsTrue equal ↔ AreEqual (heap_of c.world.heap) a b → done ≡ Done (Gives (Some (Truth equal))) → IsPerformed facts operation.Equal (a ∷ b ∷ []) caller c c ⊥ done
+equal-done a b facts caller c equal done h e = subst (IsPerformed facts operation.Equal (a ∷ b ∷ []) caller c c ⊥) (sym e) (gives (world_of c.world) (Truth equal), (equal, h, refl), refl)

@@ -6,7 +6,7 @@ use Rattle.std.proofs.lemmas.List.Elements.{All-append, All-contains, All-more, 
 use Rattle.value_model.specs.declared.value.Value.{Value}
 use Rattle.value_model.specs.declared.value.Value.TheVariants.{Struct}
 use Rattle.value_model.specs.Heap.{Heap}
-use Rattle.run_model.specs.Equality.{AreEqual, Step, face_of, member_at}
+use Rattle.op_model.specs.Equality.{AreEqual, Step, face_of, member_at}
 use Rattle.plain_equality.specs.Pairs.{AreHeld, AreKnownSides, AreMembersHeld, AreMembersKnown, AreSides, AreStructurePairs, IsHeld, IsKnown}
 use Rattle.plain_equality.proofs.Equal.{equal-faces, equal-members, equal-steps, known-equal}
 use Rattle.plain_equality.proofs.Holding.{holds-weaker, known-more, members-more}

@@ -5,7 +5,7 @@ use Rattle.bal_base.specs.declared.text.Text.{Text}
 use Rattle.value_model.specs.declared.value.Value.{Value}
 use Rattle.value_model.specs.declared.value.Value.TheVariants.{Struct}
 use Rattle.value_model.specs.Heap.{Heap, Members, Items, Entries, entry_at}
-use Rattle.run_model.specs.Equality.{Step, ToPlace, ToKey, AreEqual, face_of, member_at}
+use Rattle.op_model.specs.Equality.{Step, ToPlace, ToKey, AreEqual, face_of, member_at}
 
 -- two structures are a pair that is held
 abbrev pub IsPair : List (ℕ × ℕ) → Value → Value → Type 0

@@ -2,9 +2,9 @@
 ghost use Rattle.std.specs.Prelude.{◌≡◌, ◌↔◌, IfOk, IsTrue, true};
 ghost use Rattle.operations.specs.declared.operation.Operation.TheVariants as operation;
 ghost use Rattle.value_model.specs.declared.value.Value.TheVariants.{Struct};
-ghost use Rattle.run_model.specs.Equality.{AreEqual, face_of};
-ghost use Rattle.plain_run.specs.declared.facts.Facts.{Facts as FactsOf};
-ghost use Rattle.plain_run.specs.declared.held.Asker.{Asker as AskerOf};
+ghost use Rattle.op_model.specs.Equality.{AreEqual, face_of};
+ghost use Rattle.plain_run.specs.declared.facts.ProgramFacts.{ProgramFacts as FactsOf};
+ghost use Rattle.plain_run.specs.declared.held.Caller.{Caller as CallerOf};
 ghost use Rattle.plain_run.specs.Effects.{IsPerformed, Stays};
 ghost use Rattle.plain_run.specs.Held.{heap_of};
 ghost use Rattle.plain_equality.specs.Pairs.{AreMembersHeld};
@@ -58,7 +58,7 @@ pub fn perform_equal(
     operands: &[Value],
     common: &Common,
 ) -> Result<Performed, Memory>
-    ensures row { IfOk result (λ done. (facts : FactsOf) (asker : AskerOf) → IsPerformed facts operation.Equal operands.now asker common.now common.now ⊥ done) }
+    ensures row { IfOk result (λ done. (facts : FactsOf) (caller : CallerOf) → IsPerformed facts operation.Equal operands.now caller common.now common.now ⊥ done) }
     ensures stays { IfOk result (Stays common.now common.now) }
 {
     match operands {
@@ -66,6 +66,6 @@ pub fn perform_equal(
             let equal = are_equal(alloc, &common.world.heap, a, b)?;
             Ok(told(equal))
         }
-        _ => Ok(Performed::Unfit),
+        _ => Ok(Performed::Stuck),
     }
 }

@@ -4,7 +4,7 @@
 ghost use Rattle.std.specs.Prelude.{◌≡◌, ◌↔◌, IfOk, IsTrue, Contains};
 ghost use Rattle.value_model.specs.declared.value.Value.TheVariants.{Struct};
 ghost use Rattle.value_model.specs.Heap.{AreAlike};
-ghost use Rattle.run_model.specs.Equality.{face_of};
+ghost use Rattle.op_model.specs.Equality.{face_of};
 ghost use Rattle.plain_run.specs.Held.{heap_of, members_of};
 ghost use Rattle.plain_equality.specs.Pairs.{AreHeld, IsHeld};
 

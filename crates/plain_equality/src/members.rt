@@ -4,7 +4,7 @@
 ghost use Rattle.std.specs.Prelude.{◌≡◌, ◌++◌, IfOk, OnOk, option_map};
 ghost use Rattle.value_model.specs.declared.value.Value.TheVariants.{Struct};
 ghost use Rattle.value_model.specs.Heap.{AreAlike, Entries, Items};
-ghost use Rattle.run_model.specs.Equality.{face_of};
+ghost use Rattle.op_model.specs.Equality.{face_of};
 ghost use Rattle.plain_run.specs.Held.{heap_of, members_of};
 ghost use Rattle.plain_equality.specs.Pairs as pairs;
 ghost use Rattle.plain_equality.specs.Pairs.{AreMemberPairs, AreStructurePairs, both_of};

@@ -4,7 +4,7 @@ use Rattle.std.specs.Prelude.{if◌then◌else◌}
 use Rattle.std.specs.List.{position_or_len}
 use Rattle.std.proofs.lemmas.List.{drop_all}
 use Rattle.bal_io.proofs.Lines.{position_none, position_some}
-use Rattle.run_model.specs.Strings.{is_blank, without_front}
+use Rattle.op_model.specs.Strings.{is_blank, without_front}
 
 abbrev is_kept : ℕ → Bool
 is_kept c = not (is_blank c)

@@ -7,17 +7,17 @@ use Rattle.operations.specs.declared.library.LibraryCall.TheVariants.{Println, P
 use Rattle.operations.specs.LibraryNumbers.{number_of}
 use Rattle.operations.specs.declared.operation.Operation.TheVariants as operation
 use Rattle.value_model.specs.declared.value.Value.{Value}
-use Rattle.run_model.specs.Facts.{own_types}
-use Rattle.run_model.specs.Library.{LibraryComes}
-use Rattle.run_model.specs.Performs.{atom_number}
+use Rattle.op_model.specs.ProgramFacts.{own_types}
+use Rattle.op_model.specs.Library.{LibraryComes}
+use Rattle.op_model.specs.Performs.{atom_number}
 use Rattle.plain_run.specs.declared.effect.Performed.{Performed}
-use Rattle.plain_run.specs.declared.facts.Facts.{Facts}
-use Rattle.plain_run.specs.declared.held.Asker.{Asker}
+use Rattle.plain_run.specs.declared.facts.ProgramFacts.{ProgramFacts}
+use Rattle.plain_run.specs.declared.held.Caller.{Caller}
 use Rattle.plain_run.specs.declared.held.Common.{Common}
 use Rattle.plain_run.specs.declared.held.World.{World}
 use Rattle.plain_run.specs.declared.world.Came.{Came}
 use Rattle.plain_run.specs.Effects.{IsPerformed}
-use Rattle.plain_run.specs.Facts.{facts_of}
+use Rattle.plain_run.specs.ProgramFacts.{facts_of}
 use Rattle.plain_run.specs.Held.{with_world, world_of}
 use Rattle.plain_structures.specs.declared.answer.Tried.{Tried}
 use Rattle.plain_structures.specs.Rows.{IsAnswerOf, RowStays, TriedStays}
@@ -40,17 +40,17 @@ one-call a b h = sym (call-of a) ∙ (ap (λ m. get_or all_calls m Println) h �
 
 -- ---- the operation is the call
 
-pub library-done : (facts : Facts) (call : LibraryCall) (atom : Option ℕ) (count : ℕ) (vs : List Value) (asker : Asker) (old : Common) (w : World) (tried : Tried) (done : Performed) → IsLibrary facts call (atom_number atom) vs old.world w tried → IsAnswerOf tried (with_world old w) done → IsPerformed facts (operation.Library call atom count) vs asker old (with_world old w) (IsCallBeyond facts call old.world vs) done
-library-done facts call atom count vs asker old w tried done row answer =
+pub library-done : (facts : ProgramFacts) (call : LibraryCall) (atom : Option ℕ) (count : ℕ) (vs : List Value) (caller : Caller) (old : Common) (w : World) (tried : Tried) (done : Performed) → IsLibrary facts call (atom_number atom) vs old.world w tried → IsAnswerOf tried (with_world old w) done → IsPerformed facts (operation.Library call atom count) vs caller old (with_world old w) (IsCallBeyond facts call old.world vs) done
+library-done facts call atom count vs caller old w tried done row answer =
     let own = own_types (facts_of facts) in
-    tried-done facts asker (operation.Library call atom count) vs old (λ v came. LibraryComes own call (atom_number atom) vs v came) (IsCallBeyond facts call old.world vs)
+    tried-done facts caller (operation.Library call atom count) vs old (λ v came. LibraryComes own call (atom_number atom) vs v came) (IsCallBeyond facts call old.world vs)
     (λ effect (came, row, is). (came, (call, refl, row), is))
     (λ effect (came, (q, number, comes), is). (came, subst (λ x. LibraryComes own x (atom_number atom) vs (world_of old.world) came) (one-call q call number) comes, is))
     w tried done row answer
 
 -- ---- a call by its body
 
-module _ (facts : Facts) (p : LibraryCall) (n : ℕ) (vs : List Value) (old new : World) where
+module _ (facts : ProgramFacts) (p : LibraryCall) (n : ℕ) (vs : List Value) (old new : World) where
   made : (came : Result (Option Came) Memory) → IfOk came (IsMade p n vs old new) → IfOk (all_tried came) (IsLibrary facts p n vs old new)
   made (Ok (Some came)) row = row (own_types (facts_of facts))
   made (Ok None) row = row (own_types (facts_of facts))

@@ -10,8 +10,8 @@ use Rattle.value_model.specs.PanicName.{number_parsing_error}
 use Rattle.value_model.specs.Stands.{OwnTypes}
 use Rattle.value_model.specs.Heap.{ErrorObject as ModelError}
 use Rattle.value_model.specs.World.{Came, World}
-use Rattle.run_model.specs.Library.{ErrorAt, LibraryComes, ParsesInt, Slices}
-use Rattle.run_model.specs.Rows.{GivesList, ListAt, MappingAt, gives_error}
+use Rattle.op_model.specs.Library.{ErrorAt, LibraryComes, ParsesInt, Slices}
+use Rattle.op_model.specs.Rows.{GivesList, ListAt, MappingAt, gives_error}
 use Rattle.plain_library.specs.Ints.{IsIntOf}
 use Rattle.plain_library.specs.Parts.{GivesPart, IsPartAt, IsPartOf, bounded, end_or}
 use Rattle.plain_structures.specs.Lookups.{entries_at, items_at}

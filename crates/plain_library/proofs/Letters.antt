@@ -3,7 +3,7 @@ use Rattle.std.proofs.Common.{◌≡◌, ◌+◌, ◌-◌, ◌&&◌, ℕ, Bool, 
 use Rattle.std.specs.Prelude.{if◌then◌else◌}
 use Rattle.std.specs.Char.{to_ascii_lowercase, to_ascii_uppercase}
 use Rattle.std.proofs.lemmas.Bool.{leb-false, leb-true, ltb-false, ltb-true}
-use Rattle.run_model.specs.Strings.{lower_ascii, upper_ascii}
+use Rattle.op_model.specs.Strings.{lower_ascii, upper_ascii}
 
 -- two ways of telling whether a number is between two others
 by : (low high c new : ℕ) (a b x y : Bool) → nat_lt c low ≡ a → nat_lt c (high + 1) ≡ b → nat_le low c ≡ x → nat_le c high ≡ y → (if a then c else (if b then new else c)) ≡ (if x && y then new else c)

@@ -10,7 +10,7 @@ use Rattle.std.proofs.lemmas.Str.Parse.{digit_at, IsNumeralModel, numerals_by_va
 use Rattle.std.proofs.lemmas.Int.{ints}
 use Rattle.std.proofs.lemmas.Bool.{eqb-false, leb-false, leb-true}
 use Rattle.bal_base.specs.Valid.{IsInt}
-use Rattle.run_model.specs.Strings.{int_in, is_between, number_in, number_on}
+use Rattle.op_model.specs.Strings.{int_in, is_between, number_in, number_on}
 use Rattle.plain_library.specs.Ints.{IsIntOf}
 
 -- ---- digits

@@ -7,9 +7,9 @@ use Rattle.bal_base.specs.declared.text.Text.{Text}
 use Rattle.value_model.specs.declared.value.Value.TheVariants.{Nil}
 use Rattle.value_model.specs.declared.panics.PanicName.TheVariants.{TooLong}
 use Rattle.value_model.specs.World.{Came, World}
-use Rattle.run_model.specs.Library.{Prints, written as written_out}
-use Rattle.run_model.specs.Limits.{most_code_points}
-use Rattle.run_model.specs.Rows.{gives, panics}
+use Rattle.op_model.specs.Library.{Prints, written as written_out}
+use Rattle.op_model.specs.Limits.{most_code_points}
+use Rattle.op_model.specs.Rows.{gives, panics}
 use Rattle.text_forms.specs.Forms.{Adds, written}
 
 -- the characters of what is written are its bytes

@@ -16,10 +16,10 @@ use Rattle.value_model.specs.declared.panics.PanicName.{PanicName}
 use Rattle.value_model.specs.declared.panics.PanicName.TheVariants.{BadInput, TooLong}
 use Rattle.value_model.specs.Stands.{OwnTypes}
 use Rattle.value_model.specs.World.{Came, World, PassesCells}
-use Rattle.run_model.specs.Library.{LibraryComes, Reads, ReadsAfter, ReadsAs, texts_of, written}
-use Rattle.run_model.specs.Limits.{most_line_bytes}
-use Rattle.run_model.specs.Rows.{GivesText, gives, panics}
-use Rattle.run_model.specs.Texts.{text_of}
+use Rattle.op_model.specs.Library.{LibraryComes, Reads, ReadsAfter, ReadsAs, texts_of, written}
+use Rattle.op_model.specs.Limits.{most_line_bytes}
+use Rattle.op_model.specs.Rows.{GivesText, gives, panics}
+use Rattle.op_model.specs.Texts.{text_of}
 use Rattle.plain_run.specs.declared.held.World.{World as PlainWorld}
 use Rattle.plain_run.specs.declared.world.Came.{Came as PlainCame}
 use Rattle.plain_run.specs.Came.{came_of}

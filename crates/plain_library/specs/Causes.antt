@@ -3,13 +3,13 @@ use Rattle.std.specs.Prelude.{List}
 use Rattle.operations.specs.declared.library.LibraryCall.{LibraryCall}
 use Rattle.operations.specs.declared.library.LibraryCall.TheVariants.{Println, Print, Readln, FromString, Abs, ToString, Clone, CloneReadOnly, StringLength, StartsWith, Trim, Substring, ToUpperAscii, ToLowerAscii, ToCodePointInts, ListLength, Push, Pop, RemoveItem, Slice, Reverse, MappingLength, Keys, HasKey, Get, RemoveKey, Message, Cause, Detail}
 use Rattle.value_model.specs.declared.value.Value.{Value}
-use Rattle.plain_run.specs.declared.facts.Facts.{Facts}
+use Rattle.plain_run.specs.declared.facts.ProgramFacts.{ProgramFacts}
 use Rattle.plain_run.specs.declared.held.World.{World}
 use Rattle.plain_removals.specs.Removals.{IsPopBeyond, IsRemoveItemBeyond, IsRemoveKeyBeyond}
 use Rattle.plain_stores.specs.Questions.{PushIsBeyond}
 
 -- of the call with these operands
-abbrev pub IsCallBeyond : Facts → LibraryCall → World → List Value → Type 0
+abbrev pub IsCallBeyond : ProgramFacts → LibraryCall → World → List Value → Type 0
 IsCallBeyond facts Println w vs = ⊥
 IsCallBeyond facts Print w vs = ⊥
 IsCallBeyond facts Readln w vs = ⊥

@@ -4,8 +4,8 @@ use Rattle.value_model.specs.declared.panics.PanicName.TheVariants.{IndexOutOfRa
 use Rattle.value_model.specs.declared.value.Value.{Value}
 use Rattle.value_model.specs.declared.value.Value.TheVariants.{Int}
 use Rattle.value_model.specs.World.{World, Came}
-use Rattle.run_model.specs.Rows.{GivesList, panics}
-use Rattle.run_model.specs.Strings.{AreBounds, part_of}
+use Rattle.op_model.specs.Rows.{GivesList, panics}
+use Rattle.op_model.specs.Strings.{AreBounds, part_of}
 
 -- the end that is given, or the length
 abbrev pub end_or : Option ℤ → ℕ → ℤ

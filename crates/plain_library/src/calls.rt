@@ -1,8 +1,8 @@
 //! The library's table.
 ghost use Rattle.std.specs.Prelude.{◌≡◌, IfOk};
 ghost use Rattle.operations.specs.declared.operation.Operation.TheVariants as operation;
-ghost use Rattle.run_model.specs.Performs.{atom_number as atom_number_of};
-ghost use Rattle.plain_run.specs.declared.held.Asker.{Asker as AskerOf};
+ghost use Rattle.op_model.specs.Performs.{atom_number as atom_number_of};
+ghost use Rattle.plain_run.specs.declared.held.Caller.{Caller as CallerOf};
 ghost use Rattle.plain_run.specs.Effects.{IsPerformed, Stays};
 ghost use Rattle.plain_structures.specs.Rows.{TriedStays};
 ghost use Rattle.plain_library.specs.Calls.{IsLibrary, all_tried};
@@ -21,7 +21,7 @@ use crate::values::{abs, from_string, to_string};
 use bal_base::Memory;
 use operations::LibraryCall;
 use plain_removals::{pop, remove_item, remove_key};
-use plain_run::{Came, Common, Facts, Performed, World};
+use plain_run::{Came, Common, Performed, ProgramFacts, World};
 use plain_stores::push;
 use plain_structures::{Tried, answered};
 use std::alloc::Global;
@@ -43,7 +43,7 @@ fn told(came: Result<Option<Came>, Memory>) -> Result<Tried, Memory>
 {
     match came {
         Ok(Some(came)) => Ok(Tried::Came(came)),
-        Ok(None) => Ok(Tried::Unfit),
+        Ok(None) => Ok(Tried::Stuck),
         Err(Memory) => Err(Memory),
     }
 }
@@ -52,7 +52,7 @@ fn told(came: Result<Option<Came>, Memory>) -> Result<Tried, Memory>
 #[tactic(auto, using(crate::proofs::Calling::staying))]
 fn called(
     alloc: Global,
-    facts: &Facts,
+    facts: &ProgramFacts,
     call: LibraryCall,
     atom: u32,
     operands: &[Value],
@@ -94,17 +94,17 @@ fn called(
     }
 }
 
-/// What a call of the library comes to. `Untold` comes only where a question of types that the call asks isn't decided.
+/// What a call of the library comes to. `Undecided` comes only where a question of types that the call asks isn't decided.
 pub fn perform_library(
     alloc: Global,
-    facts: &Facts,
+    facts: &ProgramFacts,
     call: LibraryCall,
     atom: Option<u32>,
     count: u64,
     operands: &[Value],
     common: &mut Common,
 ) -> Result<Performed, Memory>
-    ensures row { IfOk result (λ done. (asker : AskerOf) → IsPerformed facts.now (operation.Library call atom count) operands.now asker common.old common.new (IsCallBeyond facts.now call common.old.world operands.now) done) }
+    ensures row { IfOk result (λ done. (caller : CallerOf) → IsPerformed facts.now (operation.Library call atom count) operands.now caller common.old common.new (IsCallBeyond facts.now call common.old.world operands.now) done) }
     ensures stays { IfOk result (Stays common.old common.new) }
 {
     let number = atom_number(atom);

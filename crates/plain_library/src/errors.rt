@@ -3,7 +3,7 @@ ghost use Rattle.std.specs.Prelude.{◌≡◌, ◌∷◌, [], IfOk, option_copie
 ghost use Rattle.plain_run.specs.Held.{error_of, heap_of};
 ghost use Rattle.operations.specs.declared.library.LibraryCall.TheVariants as call;
 ghost use Rattle.value_model.specs.declared.value.Value.TheVariants.{Error};
-ghost use Rattle.run_model.specs.Library.{cause_value as cause_value_of};
+ghost use Rattle.op_model.specs.Library.{cause_value as cause_value_of};
 ghost use Rattle.plain_library.specs.Calls.{IsCalled};
 
 use bal_base::Memory;

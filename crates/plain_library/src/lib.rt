@@ -1,6 +1,6 @@
 //! What calls of the library come to, as plain programs over what a run holds.
 //!
-//! - [`perform_library`] of a call: the library's table. It is `Untold` only where a question of types isn't decided;
+//! - [`perform_library`] of a call: the library's table. It is `Undecided` only where a question of types isn't decided;
 //!   `specs/Causes.antt` has a line for each call.
 #![tactic(auto)]
 

@@ -2,7 +2,7 @@
 ghost use Rattle.std.specs.Prelude.{◌≡◌, ◌<◌, ◌^◌, ◌∷◌, [], ℕ, IfOk, IfSome, length, option_map, reverse};
 ghost use Rattle.operations.specs.declared.library.LibraryCall.TheVariants as call;
 ghost use Rattle.value_model.specs.declared.value.Value.TheVariants.{Struct};
-ghost use Rattle.run_model.specs.Rows.{GivesList};
+ghost use Rattle.op_model.specs.Rows.{GivesList};
 ghost use Rattle.plain_run.specs.Came.{WorldStays, came_of};
 ghost use Rattle.plain_run.specs.Held.{heap_of, world_of};
 ghost use Rattle.plain_structures.specs.Lookups as lookups;

@@ -1,6 +1,6 @@
 //! Parts of lists and texts.
 ghost use Rattle.std.specs.Prelude.{◌≡◌, ◌↔◌, ◌<◌, ◌^◌, IsTrue, option_map};
-ghost use Rattle.run_model.specs.Strings.{AreBounds};
+ghost use Rattle.op_model.specs.Strings.{AreBounds};
 ghost use Rattle.plain_library.specs.Parts as parts;
 
 /// The end that is given, or the length.

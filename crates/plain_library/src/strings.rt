@@ -3,8 +3,8 @@ ghost use Rattle.std.specs.Prelude.{◌≡◌, ◌∷◌, [], IfOk, length, map,
 ghost use Rattle.type_model.specs.Places.{is_same_text};
 ghost use Rattle.operations.specs.declared.library.LibraryCall.TheVariants as call;
 ghost use Rattle.value_model.specs.declared.value.Value.TheVariants.{Int, Str};
-ghost use Rattle.run_model.specs.Library.{TakesPart};
-ghost use Rattle.run_model.specs.Strings as strings;
+ghost use Rattle.op_model.specs.Library.{TakesPart};
+ghost use Rattle.op_model.specs.Strings as strings;
 ghost use Rattle.plain_run.specs.Came.{WorldStays, came_of};
 ghost use Rattle.plain_run.specs.Held.{world_of};
 ghost use Rattle.plain_structures.specs.Rows.{RowStays};
@@ -48,13 +48,7 @@ pub fn string_length(
 fn begins(characters: &[char], front: &[char]) -> bool
     ensures { result ≡ is_same_text (take (length front.now) characters.now) front.now }
 {
-    match front {
-        [] => true,
-        [c, rest @ ..] => match characters {
-            [] => false,
-            [d, behind @ ..] => *d == *c && begins(behind, rest),
-        },
-    }
+    characters.starts_with(front)
 }
 
 /// `s.startsWith(t)`

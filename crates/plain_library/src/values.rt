@@ -1,9 +1,9 @@
 //! Ints, and values of any kind.
 ghost use Rattle.std.specs.Prelude.{IfOk, pos, unsigned_abs};
 ghost use Rattle.operations.specs.declared.library.LibraryCall.TheVariants as call;
-ghost use Rattle.run_model.specs.Library.{ParsesInt};
-ghost use Rattle.run_model.specs.Rows.{GivesInt};
-ghost use Rattle.run_model.specs.Strings as strings;
+ghost use Rattle.op_model.specs.Library.{ParsesInt};
+ghost use Rattle.op_model.specs.Rows.{GivesInt};
+ghost use Rattle.op_model.specs.Strings as strings;
 ghost use Rattle.plain_run.specs.Came.{WorldStays, came_of};
 ghost use Rattle.plain_run.specs.Held.{world_of};
 ghost use Rattle.plain_structures.specs.Rows.{RowStays};

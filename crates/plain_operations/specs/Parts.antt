@@ -2,7 +2,7 @@
 use Rattle.std.specs.Prelude.{⊤, List}
 use Rattle.typed_tree.specs.SharedTypes.{sem_of}
 use Rattle.value_model.specs.declared.value.Value.{Value}
-use Rattle.plain_run.specs.declared.facts.Facts.{Facts}
+use Rattle.plain_run.specs.declared.facts.ProgramFacts.{ProgramFacts}
 use Rattle.plain_run.specs.declared.held.Common.{Common}
 use Rattle.held_operations.specs.Operation.{type_of}
 use Rattle.held_operations.specs.declared.op.Op.{Op}
@@ -110,57 +110,57 @@ IsBeforeStrands OfTypes = ⊤
 -- ---- what is not told
 
 -- a question of types that the operation asks is not decided
-module _ (facts : Facts) (vs : List Value) (old : Common) where
-  abbrev pub IsUntold : Op → Type 0
-  IsUntold (op.Const c) = ⊥
-  IsUntold op.Nil = ⊥
-  IsUntold (op.Truth b) = ⊥
-  IsUntold (op.Int i) = ⊥
-  IsUntold (op.Load slot) = ⊥
-  IsUntold (op.Store slot) = ⊥
-  IsUntold op.Pop = ⊥
-  IsUntold (op.LoadModule m) = ⊥
-  IsUntold (op.StoreModule m) = ⊥
-  IsUntold op.Tick = ⊥
-  IsUntold op.Add = ⊥
-  IsUntold op.Subtract = ⊥
-  IsUntold op.Multiply = ⊥
-  IsUntold op.Divide = ⊥
-  IsUntold op.Remainder = ⊥
-  IsUntold op.Negate = ⊥
-  IsUntold op.Concat = ⊥
-  IsUntold op.Less = ⊥
-  IsUntold op.LessEqual = ⊥
-  IsUntold op.Not = ⊥
-  IsUntold op.Equal = ⊥
-  IsUntold op.Same = ⊥
-  IsUntold (op.MakeList atom immutable count) = ⊥
-  IsUntold (op.MakeMapping atom immutable count) = ⊥
-  IsUntold (op.MakeError count) = ⊥
-  IsUntold (op.MakeFunction unit count) = ⊥
-  IsUntold op.GetItem = ⊥
-  IsUntold op.GetKey = ⊥
-  IsUntold op.GetChar = ⊥
-  IsUntold (op.GetField name) = ⊥
-  IsUntold (op.GetOptional name) = ⊥
-  IsUntold op.SetItem = SetItemIsBeyond facts vs old.world
-  IsUntold op.SetKey = SetKeyIsBeyond facts vs old.world
-  IsUntold (op.Test t) = AreBeyond facts old.world.heap vs (type_of t)
-  IsUntold (op.Cast t) = AreBeyond facts old.world.heap vs (sem_of t.now)
-  IsUntold (op.Call unit count) = ⊥
-  IsUntold (op.CallValue count) = ⊥
-  IsUntold (op.Library call atom count) = IsCallBeyond facts call old.world vs
-  IsUntold op.Return = ⊥
-  IsUntold op.Panic = ⊥
-  IsUntold (op.Start unit count) = ⊥
-  IsUntold (op.StartValue count) = ⊥
-  IsUntold op.Workers = ⊥
-  IsUntold (op.Send w) = ⊥
-  IsUntold (op.Post w) = ⊥
-  IsUntold (op.Done w) = ⊥
-  IsUntold (op.Receive w) = ⊥
-  IsUntold (op.Flush w) = ⊥
-  IsUntold (op.WaitWorker w) = ⊥
-  IsUntold op.WaitFuture = ⊥
-  IsUntold (op.WaitAny names) = ⊥
-  IsUntold (op.WaitAll atom names) = ⊥
+module _ (facts : ProgramFacts) (vs : List Value) (old : Common) where
+  abbrev pub IsUndecided : Op → Type 0
+  IsUndecided (op.Const c) = ⊥
+  IsUndecided op.Nil = ⊥
+  IsUndecided (op.Truth b) = ⊥
+  IsUndecided (op.Int i) = ⊥
+  IsUndecided (op.Load slot) = ⊥
+  IsUndecided (op.Store slot) = ⊥
+  IsUndecided op.Pop = ⊥
+  IsUndecided (op.LoadModule m) = ⊥
+  IsUndecided (op.StoreModule m) = ⊥
+  IsUndecided op.Tick = ⊥
+  IsUndecided op.Add = ⊥
+  IsUndecided op.Subtract = ⊥
+  IsUndecided op.Multiply = ⊥
+  IsUndecided op.Divide = ⊥
+  IsUndecided op.Remainder = ⊥
+  IsUndecided op.Negate = ⊥
+  IsUndecided op.Concat = ⊥
+  IsUndecided op.Less = ⊥
+  IsUndecided op.LessEqual = ⊥
+  IsUndecided op.Not = ⊥
+  IsUndecided op.Equal = ⊥
+  IsUndecided op.Same = ⊥
+  IsUndecided (op.MakeList atom immutable count) = ⊥
+  IsUndecided (op.MakeMapping atom immutable count) = ⊥
+  IsUndecided (op.MakeError count) = ⊥
+  IsUndecided (op.MakeFunction unit count) = ⊥
+  IsUndecided op.GetItem = ⊥
+  IsUndecided op.GetKey = ⊥
+  IsUndecided op.GetChar = ⊥
+  IsUndecided (op.GetField name) = ⊥
+  IsUndecided (op.GetOptional name) = ⊥
+  IsUndecided op.SetItem = SetItemIsBeyond facts vs old.world
+  IsUndecided op.SetKey = SetKeyIsBeyond facts vs old.world
+  IsUndecided (op.Test t) = AreBeyond facts old.world.heap vs (type_of t)
+  IsUndecided (op.Cast t) = AreBeyond facts old.world.heap vs (sem_of t.now)
+  IsUndecided (op.Call unit count) = ⊥
+  IsUndecided (op.CallValue count) = ⊥
+  IsUndecided (op.Library call atom count) = IsCallBeyond facts call old.world vs
+  IsUndecided op.Return = ⊥
+  IsUndecided op.Panic = ⊥
+  IsUndecided (op.Start unit count) = ⊥
+  IsUndecided (op.StartValue count) = ⊥
+  IsUndecided op.Workers = ⊥
+  IsUndecided (op.Send w) = ⊥
+  IsUndecided (op.Post w) = ⊥
+  IsUndecided (op.Done w) = ⊥
+  IsUndecided (op.Receive w) = ⊥
+  IsUndecided (op.Flush w) = ⊥
+  IsUndecided (op.WaitWorker w) = ⊥
+  IsUndecided op.WaitFuture = ⊥
+  IsUndecided (op.WaitAny names) = ⊥
+  IsUndecided (op.WaitAll atom names) = ⊥

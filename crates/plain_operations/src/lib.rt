@@ -3,7 +3,7 @@
 //!
 //! - [`perform`]: what an operation comes to on its operands.
 //!
-//! `specs/Parts.antt` has a line for each operation: in which part of the table it stands, and why it may not be told.
+//! `specs/Parts.antt` has a line for each operation: in which part of the table it stands, and why it may be undecided.
 #![tactic(auto)]
 
 mod on_frames;

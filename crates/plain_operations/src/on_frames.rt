@@ -7,7 +7,7 @@ ghost use Rattle.plain_operations.specs.Parts.{IsBeforeFrames, part_of};
 use bal_base::Memory;
 use held_operations::Op;
 use plain_run::{
-    Asker, Common, Facts, Performed, perform_call, perform_load, perform_load_module,
+    Caller, Common, Performed, ProgramFacts, perform_call, perform_load, perform_load_module,
     perform_panic, perform_return, perform_store_module, perform_tick,
 };
 use std::alloc::Global;
@@ -16,28 +16,32 @@ use value_model::Value;
 /// What an operation on frames comes to. This is the last part: an operation of an earlier one is not told.
 pub fn on_frames(
     alloc: Global,
-    facts: &Facts,
+    facts: &ProgramFacts,
     op: Op,
     operands: &[Value],
-    asker: &Asker,
+    caller: &Caller,
     common: &mut Common,
 ) -> Result<Performed, Memory>
-    ensures row { IfOk result (IsPerformed facts.now (operation_of op.entry) operands.now asker.now common.old common.new (IsBeforeFrames (part_of op.entry))) }
+    ensures row { IfOk result (IsPerformed facts.now (operation_of op.entry) operands.now caller.now common.old common.new (IsBeforeFrames (part_of op.entry))) }
     ensures stays { IfOk result (Stays common.old common.new) }
 {
     match op {
         // these a frame does by itself
-        Op::Const(_) | Op::Nil | Op::Truth(_) | Op::Int(_) => Ok(Performed::Unfit),
-        Op::Store(_) | Op::Pop => Ok(Performed::Unfit),
+        Op::Const(_) | Op::Nil | Op::Truth(_) | Op::Int(_) => Ok(Performed::Stuck),
+        Op::Store(_) | Op::Pop => Ok(Performed::Stuck),
         Op::Load(slot) => perform_load(alloc, slot, operands, common),
         Op::LoadModule(variable) => perform_load_module(alloc, variable, operands, common),
         Op::StoreModule(variable) => Ok(perform_store_module(
-            facts, asker.unit, variable, operands, common,
+            facts,
+            caller.unit,
+            variable,
+            operands,
+            common,
         )),
-        Op::Tick => perform_tick(alloc, asker.depth, operands, common),
+        Op::Tick => perform_tick(alloc, caller.depth, operands, common),
         Op::Call { unit, count } => perform_call(alloc, unit, count, operands, common),
         Op::Return => Ok(perform_return(operands, common)),
         Op::Panic => Ok(perform_panic(operands, common)),
-        _ => Ok(Performed::Untold),
+        _ => Ok(Performed::Undecided),
     }
 }

@@ -8,7 +8,7 @@ use crate::on_structures::on_structures;
 use bal_base::Memory;
 use held_operations::Op;
 use plain_calls::{perform_call_value, perform_start, perform_start_value, perform_workers};
-use plain_run::{Asker, Common, Facts, Performed};
+use plain_run::{Caller, Common, Performed, ProgramFacts};
 use plain_strands::{
     perform_done, perform_flush, perform_post, perform_receive, perform_send, perform_wait_all,
     perform_wait_any, perform_wait_future, perform_wait_worker,
@@ -19,33 +19,33 @@ use value_model::Value;
 /// What an operation on strands comes to, or an operation of a later part.
 pub fn on_strands(
     alloc: Global,
-    facts: &Facts,
+    facts: &ProgramFacts,
     op: Op,
     operands: &[Value],
-    asker: &Asker,
+    caller: &Caller,
     common: &mut Common,
 ) -> Result<Performed, Memory>
-    ensures row { IfOk result (IsPerformed facts.now (operation_of op.entry) operands.now asker.now common.old common.new (IsBeforeStrands (part_of op.entry))) }
+    ensures row { IfOk result (IsPerformed facts.now (operation_of op.entry) operands.now caller.now common.old common.new (IsBeforeStrands (part_of op.entry))) }
     ensures stays { IfOk result (Stays common.old common.new) }
 {
     match op {
         Op::CallValue { count } => perform_call_value(alloc, facts, count, operands, common),
-        Op::Start { unit, count } => perform_start(alloc, unit, count, operands, asker, common),
+        Op::Start { unit, count } => perform_start(alloc, unit, count, operands, caller, common),
         Op::StartValue { count } => {
-            perform_start_value(alloc, facts, count, operands, asker, common)
+            perform_start_value(alloc, facts, count, operands, caller, common)
         }
-        Op::Workers => perform_workers(alloc, facts, operands, asker, common),
-        Op::Send(worker) => perform_send(alloc, worker, operands, asker, common),
-        Op::Post(worker) => perform_post(alloc, worker, operands, asker, common),
-        Op::Done(worker) => Ok(perform_done(worker, operands, asker, common)),
-        Op::Receive(worker) => perform_receive(alloc, worker, operands, asker, common),
-        Op::Flush(worker) => Ok(perform_flush(worker, operands, asker, common)),
-        Op::WaitWorker(worker) => perform_wait_worker(alloc, worker, operands, asker, common),
+        Op::Workers => perform_workers(alloc, facts, operands, caller, common),
+        Op::Send(worker) => perform_send(alloc, worker, operands, caller, common),
+        Op::Post(worker) => perform_post(alloc, worker, operands, caller, common),
+        Op::Done(worker) => Ok(perform_done(worker, operands, caller, common)),
+        Op::Receive(worker) => perform_receive(alloc, worker, operands, caller, common),
+        Op::Flush(worker) => Ok(perform_flush(worker, operands, caller, common)),
+        Op::WaitWorker(worker) => perform_wait_worker(alloc, worker, operands, caller, common),
         Op::WaitFuture => perform_wait_future(alloc, operands, common),
-        Op::WaitAny(names) => perform_wait_any(alloc, names, operands, asker, common),
+        Op::WaitAny(names) => perform_wait_any(alloc, names, operands, caller, common),
         Op::WaitAll { atom, awaited } => {
-            perform_wait_all(alloc, facts, atom, awaited, operands, asker, common)
+            perform_wait_all(alloc, facts, atom, awaited, operands, caller, common)
         }
-        _ => on_structures(alloc, facts, op, operands, asker, common),
+        _ => on_structures(alloc, facts, op, operands, caller, common),
     }
 }

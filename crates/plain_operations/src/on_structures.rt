@@ -7,7 +7,9 @@ ghost use Rattle.plain_operations.specs.Parts.{IsBeforeStructures, part_of};
 use crate::on_values::on_values;
 use bal_base::Memory;
 use held_operations::Op;
-use plain_run::{Asker, Common, Facts, Performed, perform_make_function, perform_make_list};
+use plain_run::{
+    Caller, Common, Performed, ProgramFacts, perform_make_function, perform_make_list,
+};
 use plain_structures::{
     perform_get_char, perform_get_field, perform_get_item, perform_get_key, perform_get_optional,
     perform_make_error, perform_make_mapping,
@@ -18,13 +20,13 @@ use value_model::Value;
 /// What an operation on structures comes to, or an operation of a later part.
 pub fn on_structures(
     alloc: Global,
-    facts: &Facts,
+    facts: &ProgramFacts,
     op: Op,
     operands: &[Value],
-    asker: &Asker,
+    caller: &Caller,
     common: &mut Common,
 ) -> Result<Performed, Memory>
-    ensures row { IfOk result (IsPerformed facts.now (operation_of op.entry) operands.now asker.now common.old common.new (IsBeforeStructures (part_of op.entry))) }
+    ensures row { IfOk result (IsPerformed facts.now (operation_of op.entry) operands.now caller.now common.old common.new (IsBeforeStructures (part_of op.entry))) }
     ensures stays { IfOk result (Stays common.old common.new) }
 {
     match op {
@@ -47,6 +49,6 @@ pub fn on_structures(
         Op::GetChar => perform_get_char(alloc, operands, common),
         Op::GetField(name) => Ok(perform_get_field(name, operands, common)),
         Op::GetOptional(name) => Ok(perform_get_optional(name, operands, common)),
-        _ => on_values(alloc, facts, op, operands, asker, common),
+        _ => on_values(alloc, facts, op, operands, caller, common),
     }
 }

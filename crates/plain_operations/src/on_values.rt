@@ -8,7 +8,7 @@ use crate::on_frames::on_frames;
 use bal_base::Memory;
 use held_operations::Op;
 use plain_run::{
-    Asker, Common, Comparison, Facts, Ints, Performed, perform_compare, perform_concat,
+    Caller, Common, Comparison, Ints, Performed, ProgramFacts, perform_compare, perform_concat,
     perform_ints, perform_negate, perform_not, perform_same,
 };
 use std::alloc::Global;
@@ -17,13 +17,13 @@ use value_model::Value;
 /// What an operation on simple values comes to, or an operation of a later part.
 pub fn on_values(
     alloc: Global,
-    facts: &Facts,
+    facts: &ProgramFacts,
     op: Op,
     operands: &[Value],
-    asker: &Asker,
+    caller: &Caller,
     common: &mut Common,
 ) -> Result<Performed, Memory>
-    ensures row { IfOk result (IsPerformed facts.now (operation_of op.entry) operands.now asker.now common.old common.new (IsBeforeValues (part_of op.entry))) }
+    ensures row { IfOk result (IsPerformed facts.now (operation_of op.entry) operands.now caller.now common.old common.new (IsBeforeValues (part_of op.entry))) }
     ensures stays { IfOk result (Stays common.old common.new) }
 {
     match op {
@@ -38,6 +38,6 @@ pub fn on_values(
         Op::LessEqual => Ok(perform_compare(Comparison::LessEqual, operands, common)),
         Op::Not => Ok(perform_not(operands, common)),
         Op::Same => Ok(perform_same(operands, common)),
-        _ => on_frames(alloc, facts, op, operands, asker, common),
+        _ => on_frames(alloc, facts, op, operands, caller, common),
     }
 }

@@ -11,15 +11,15 @@ use Rattle.type_model.specs.Places.{item_type, key_type}
 use Rattle.value_model.specs.declared.value.Value.{Value}
 use Rattle.value_model.specs.Heap.{Entries}
 use Rattle.value_model.specs.Stands.{BelongsIf}
-use Rattle.run_model.specs.Facts.{own_types}
-use Rattle.plain_run.specs.declared.facts.Facts.{Facts}
+use Rattle.op_model.specs.ProgramFacts.{own_types}
+use Rattle.plain_run.specs.declared.facts.ProgramFacts.{ProgramFacts}
 use Rattle.plain_run.specs.declared.held.Heap.{Heap}
-use Rattle.plain_run.specs.Facts.{facts_of}
+use Rattle.plain_run.specs.ProgramFacts.{facts_of}
 use Rattle.plain_run.specs.Held.{heap_of}
 use Rattle.plain_tests.specs.Tells.{TellsIf}
 use Rattle.plain_removals.specs.Members.{HasRequired, TellsMembers}
 
-module _ (facts : Facts) (h : Heap) where
+module _ (facts : ProgramFacts) (h : Heap) where
   abbrev Belongs : Value → Option Ty → Type 0
   Belongs v t = BelongsIf (own_types (facts_of facts)) (heap_of h) v t
 

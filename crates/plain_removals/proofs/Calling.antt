@@ -10,17 +10,17 @@ use Rattle.value_model.specs.declared.value.Value.TheVariants.{Int, Str, Struct}
 use Rattle.value_model.specs.Heap.{Structure as ModelStructure, Members, Items, Entries, entry_at}
 use Rattle.value_model.specs.Stands.{OwnTypes}
 use Rattle.value_model.specs.World as model
-use Rattle.run_model.specs.Facts.{own_types}
-use Rattle.run_model.specs.Library.{LibraryComes, RemovesAt, RemovesKey}
-use Rattle.run_model.specs.Rows.{HasEntries, HasItems, ListAt, MappingAt}
-use Rattle.plain_run.specs.declared.facts.Facts.{Facts}
+use Rattle.op_model.specs.ProgramFacts.{own_types}
+use Rattle.op_model.specs.Library.{LibraryComes, RemovesAt, RemovesKey}
+use Rattle.op_model.specs.Rows.{HasEntries, HasItems, ListAt, MappingAt}
+use Rattle.plain_run.specs.declared.facts.ProgramFacts.{ProgramFacts}
 use Rattle.plain_run.specs.declared.held.Structure.{Structure}
 use Rattle.plain_run.specs.declared.held.World.{World}
 use Rattle.plain_run.specs.Came.{came_of}
-use Rattle.plain_run.specs.Facts.{facts_of}
+use Rattle.plain_run.specs.ProgramFacts.{facts_of}
 use Rattle.plain_run.specs.Held.{structure_of, world_of}
 use Rattle.plain_structures.specs.declared.answer.Tried.{Tried}
-use Rattle.plain_structures.specs.declared.answer.Tried.TheVariants.{Came, Unfit, Untold}
+use Rattle.plain_structures.specs.declared.answer.Tried.TheVariants.{Came, Stuck, Undecided}
 use Rattle.plain_structures.specs.Rows.{IsCalledBy, IsTried}
 use Rattle.plain_structures.specs.Lookups.{entries_at, entries_in, items_at, items_in}
 use Rattle.plain_removals.specs.declared.place.Place.{Place}
@@ -35,22 +35,22 @@ pub stands-within : (xs : List Structure) (n : ℕ) (s : ModelStructure) → sli
 stands-within xs n s e = subst (λ l. n < l) (length-map xs structure_of) (slice_get_within (map structure_of xs) n s e)
 
 -- what was done says what the row says
-module _ (facts : Facts) (old new : World) (n : ℕ) (s : ModelStructure) (row : model.World → ℕ → model.Came → Type 0) (cause : Type 0) where
+module _ (facts : ProgramFacts) (old new : World) (n : ℕ) (s : ModelStructure) (row : model.World → ℕ → model.Came → Type 0) (cause : Type 0) where
   pub row-done : (removal : Removal) (tried : Tried) → IsRemoval facts old.heap s row cause removal → IsDone (world_of old) n s removal new tried → IsTried (row (world_of old) n) cause new tried
   row-done (removals.Panics name) (Came came) is e = subst (row (world_of old) n) (sym e) (is (world_of old) n refl)
-  row-done (removals.Panics name) Unfit is e = absurd e
-  row-done (removals.Panics name) Untold is e = absurd e
+  row-done (removals.Panics name) Stuck is e = absurd e
+  row-done (removals.Panics name) Undecided is e = absurd e
   row-done (removals.Leaves left given) (Came came) is e = subst (row (world_of old) n) (sym e) (is (world_of old) n refl)
-  row-done (removals.Leaves left given) Unfit is e = absurd e
-  row-done (removals.Leaves left given) Untold is e = absurd e
-  row-done removals.Untold tried is e = subst (IsTried (row (world_of old) n) cause new) (sym e) is
+  row-done (removals.Leaves left given) Stuck is e = absurd e
+  row-done (removals.Leaves left given) Undecided is e = absurd e
+  row-done removals.Undecided tried is e = subst (IsTried (row (world_of old) n) cause new) (sym e) is
 
 -- a row of all items or of all entries
 module _ (new : World) where
   tried-more : (P Q : model.Came → Type 0) (c d : Type 0) → ((came : model.Came) → P came → Q came) → ((came : model.Came) → Q came → P came) → (c → d) → (tried : Tried) → IsTried P c new tried → IsTried Q d new tried
   tried-more P Q c d to from more (Came came) h = to (came_of came new) h
-  tried-more P Q c d to from more Unfit h = λ came q. h came (from came q)
-  tried-more P Q c d to from more Untold h = more h
+  tried-more P Q c d to from more Stuck h = λ came q. h came (from came q)
+  tried-more P Q c d to from more Undecided h = more h
 
 -- ---- rows on lists
 
@@ -92,7 +92,7 @@ module _ (w : model.World) (n : ℕ) (P : ModelStructure → List (Text × Value
 
 -- ---- removals from the structure with a number
 
-module _ (facts : Facts) (old new : World) (n : ℕ) where
+module _ (facts : ProgramFacts) (old new : World) (n : ℕ) where
   abbrev own : OwnTypes
   own = own_types (facts_of facts)
 
@@ -138,7 +138,7 @@ module _ (facts : Facts) (old new : World) (n : ℕ) where
 
 -- ---- the calls on their operands
 
-module _ (facts : Facts) (vs : List Value) (old new : World) (n : ℕ) (tried : Tried) where
+module _ (facts : ProgramFacts) (vs : List Value) (old new : World) (n : ℕ) (tried : Tried) where
   same-row : (P : model.Came → Type 0) (c d : Type 0) → (c → d) → IsTried P c new tried → IsTried P d new tried
   same-row P c d more h = tried-more new P P c d (λ came p. p) (λ came p. p) more tried h
 
@@ -171,12 +171,12 @@ module _ (own : OwnTypes) (w : model.World) (atom : ℕ) (came : model.Came) whe
   no-remove-key (Struct n ∷ Str key ∷ []) none row = none n key refl
   no-remove-key _ none row = row
 
-module _ (facts : Facts) (vs : List Value) (old new : World) where
-  pub pop-unfit : ((n : ℕ) → ¬ (vs ≡ Struct n ∷ [])) → IsCalledBy facts call.Pop vs (IsPopBeyond facts old vs) old new Unfit
-  pop-unfit none = λ atom came. no-pop (own_types (facts_of facts)) (world_of old) atom came vs none
+module _ (facts : ProgramFacts) (vs : List Value) (old new : World) where
+  pub pop-stuck : ((n : ℕ) → ¬ (vs ≡ Struct n ∷ [])) → IsCalledBy facts call.Pop vs (IsPopBeyond facts old vs) old new Stuck
+  pop-stuck none = λ atom came. no-pop (own_types (facts_of facts)) (world_of old) atom came vs none
 
-  pub remove-item-unfit : ((n : ℕ) (i : ℤ) → ¬ (vs ≡ Struct n ∷ Int i ∷ [])) → IsCalledBy facts call.RemoveItem vs (IsRemoveItemBeyond facts old vs) old new Unfit
-  remove-item-unfit none = λ atom came. no-remove-item (own_types (facts_of facts)) (world_of old) atom came vs none
+  pub remove-item-stuck : ((n : ℕ) (i : ℤ) → ¬ (vs ≡ Struct n ∷ Int i ∷ [])) → IsCalledBy facts call.RemoveItem vs (IsRemoveItemBeyond facts old vs) old new Stuck
+  remove-item-stuck none = λ atom came. no-remove-item (own_types (facts_of facts)) (world_of old) atom came vs none
 
-  pub remove-key-unfit : ((n : ℕ) (key : Text) → ¬ (vs ≡ Struct n ∷ Str key ∷ [])) → IsCalledBy facts call.RemoveKey vs (IsRemoveKeyBeyond facts old vs) old new Unfit
-  remove-key-unfit none = λ atom came. no-remove-key (own_types (facts_of facts)) (world_of old) atom came vs none
+  pub remove-key-stuck : ((n : ℕ) (key : Text) → ¬ (vs ≡ Struct n ∷ Str key ∷ [])) → IsCalledBy facts call.RemoveKey vs (IsRemoveKeyBeyond facts old vs) old new Stuck
+  remove-key-stuck none = λ atom came. no-remove-key (own_types (facts_of facts)) (world_of old) atom came vs none

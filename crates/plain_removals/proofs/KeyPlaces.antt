@@ -11,7 +11,7 @@ use Rattle.bal_io.proofs.Lines.{position_none}
 use Rattle.type_model.specs.Places.{is_same_text}
 use Rattle.value_model.specs.declared.value.Value.{Value}
 use Rattle.value_model.specs.Heap.{entry_at}
-use Rattle.run_model.specs.Stores.{remove_entry}
+use Rattle.op_model.specs.Stores.{remove_entry}
 
 module _ (key : Text) where
   abbrev has_key : Text × Value → Bool

@@ -9,27 +9,27 @@ use Rattle.value_model.specs.declared.value.Value.{Value}
 use Rattle.value_model.specs.Heap.{Structure as ModelStructure, Members, Items, Entries, entry_at}
 use Rattle.value_model.specs.Stands.{MembersBelong}
 use Rattle.value_model.specs.World as model
-use Rattle.run_model.specs.Facts.{own_types}
-use Rattle.run_model.specs.Library.{RemovesKey}
-use Rattle.run_model.specs.Rows.{found, gives, panics}
-use Rattle.run_model.specs.Stores.{StillFits, remove_entry, stored}
-use Rattle.plain_run.specs.declared.facts.Facts.{Facts}
+use Rattle.op_model.specs.ProgramFacts.{own_types}
+use Rattle.op_model.specs.Library.{RemovesKey}
+use Rattle.op_model.specs.Rows.{found, gives, panics}
+use Rattle.op_model.specs.Stores.{StillFits, remove_entry, stored}
+use Rattle.plain_run.specs.declared.facts.ProgramFacts.{ProgramFacts}
 use Rattle.plain_run.specs.declared.held.Heap.{Heap}
 use Rattle.plain_run.specs.declared.held.Structure.{Structure}
-use Rattle.plain_run.specs.Facts.{facts_of}
+use Rattle.plain_run.specs.ProgramFacts.{facts_of}
 use Rattle.plain_run.specs.Held.{heap_of, structure_of}
 use Rattle.plain_structures.proofs.Standing.{entries-there, items-there}
 use Rattle.plain_tests.specs.Own.{def_of}
 use Rattle.plain_removals.specs.declared.place.Place.{Place}
 use Rattle.plain_removals.specs.declared.removal.Removal.{Removal}
-use Rattle.plain_removals.specs.declared.removal.Removal.TheVariants.{Panics, Leaves, Untold}
+use Rattle.plain_removals.specs.declared.removal.Removal.TheVariants.{Panics, Leaves, Undecided}
 use Rattle.plain_removals.specs.Members.{AllBelongIf}
 use Rattle.plain_removals.specs.Removals.{IsAllowed, IsItemRemoval, IsKeyBeyond, IsKeyRemoval, IsKeyRemovalFrom, IsListRemoval, IsMappingRemoval, IsRemoval, IsRemovalFrom}
 
 frozen : (b : Bool) → b ≡ false → ¬ (IsTrue b)
 frozen b e t = false≢true (sym e ∙ t)
 
-module _ (facts : Facts) (h : Heap) (s : ModelStructure) where
+module _ (facts : ProgramFacts) (h : Heap) (s : ModelStructure) where
   -- what may be left in the heap may be left in each world with it
   fits-in : (w : model.World) (m : Members) → w.heap ≡ heap_of h → AllBelongIf facts h m s.atom → StillFits (own_types (facts_of facts)) w s m
   fits-in w m e fits =
@@ -58,7 +58,7 @@ module _ (facts : Facts) (h : Heap) (s : ModelStructure) where
       item-allowed v (Leaves left given) l t at (is, same, fits) = λ w n e.
           let out : gives (stored w n s (Items (remove vs k)) []) v ≡ found (stored w n s (Items (remove vs k)) []) IndexOutOfRange (slice_get vs k) = sym (ap (found (stored w n s (Items (remove vs k)) []) IndexOutOfRange) at) in
           inl (l, inl (t, inl (fits-in w (Items (remove vs k)) e fits, (λ i. gives (stored w n s (is i) []) (same i)) ∙ out)))
-      item-allowed v Untold l t at beyond = (l, t, beyond)
+      item-allowed v Undecided l t at beyond = (l, t, beyond)
 
   -- ---- entries
 
@@ -79,7 +79,7 @@ module _ (facts : Facts) (h : Heap) (s : ModelStructure) where
         inl (t, inr ((λ fits. not (fits-from w (Entries (remove_entry es key)) e fits)), ap (panics w) is))
     entry-left v (Leaves left given) t (is, same, fits) = λ w n e.
         inl (t, inl (fits-in w (Entries (remove_entry es key)) e fits, λ i. gives (stored w n s (is i) []) (same i)))
-    entry-left v Untold t beyond = (t, beyond)
+    entry-left v Undecided t beyond = (t, beyond)
 
     pub entry-allowed : (left : List (Text × Value)) (v : Value) (removal : Removal) → entry_at es key ≡ Some v → left ≡ remove_entry es key → s.mutable ≡ true → IsAllowed facts h s.atom (Entries left) v removal → IsKeyRemoval facts h s es key removal
     entry-allowed left v removal some is t all =
@@ -87,9 +87,9 @@ module _ (facts : Facts) (h : Heap) (s : ModelStructure) where
 
 -- ---- the structure with a number
 
-module _ (facts : Facts) (h : Heap) (n : ℕ) (s : Structure) (there : slice_get h.structures.items n ≡ Some s) where
+module _ (facts : ProgramFacts) (h : Heap) (n : ℕ) (s : Structure) (there : slice_get h.structures n ≡ Some s) where
   stands : slice_get (heap_of h).structures n ≡ Some (structure_of s)
-  stands = slice_get-map structure_of h.structures.items n ∙ ap (option_map structure_of) there
+  stands = slice_get-map structure_of h.structures n ∙ ap (option_map structure_of) there
 
   pub list-there : (place : Place) (removal : Option Removal) → IsRemovalFrom facts h (structure_of s) place removal → IsListRemoval facts h n place removal
   list-there place (Some removal) is = (structure_of s, stands, is)

@@ -4,7 +4,7 @@ use Rattle.std.specs.Prelude.{option_map, slice_get, slice_set}
 use Rattle.std.proofs.lemmas.List.{append-nil}
 use Rattle.std.proofs.lemmas.Option.{same_Some, slice_get-map}
 use Rattle.value_model.specs.Heap.{Structure as ModelStructure, Members}
-use Rattle.run_model.specs.Stores.{with_members}
+use Rattle.op_model.specs.Stores.{with_members}
 use Rattle.plain_run.specs.declared.held.Structure.{Structure}
 use Rattle.plain_run.specs.Held.{structure_of}
 use Rattle.plain_run.proofs.Settling.{set-there}

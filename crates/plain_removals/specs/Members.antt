@@ -9,10 +9,10 @@ use Rattle.type_model.specs.Places.{item_type, key_type}
 use Rattle.value_model.specs.declared.value.Value.{Value}
 use Rattle.value_model.specs.Heap.{Members, Items, Entries, entry_at}
 use Rattle.value_model.specs.Stands.{MembersBelong}
-use Rattle.run_model.specs.Facts.{own_types}
-use Rattle.plain_run.specs.declared.facts.Facts.{Facts}
+use Rattle.op_model.specs.ProgramFacts.{own_types}
+use Rattle.plain_run.specs.declared.facts.ProgramFacts.{ProgramFacts}
 use Rattle.plain_run.specs.declared.held.Heap.{Heap}
-use Rattle.plain_run.specs.Facts.{facts_of}
+use Rattle.plain_run.specs.ProgramFacts.{facts_of}
 use Rattle.plain_run.specs.Held.{heap_of}
 use Rattle.plain_tests.specs.Own.{def_of}
 use Rattle.plain_tests.specs.Tells.{IsBeyondIf}
@@ -25,7 +25,7 @@ IsMet es f = IsTrue f.optional ⊎ IsSomeAnd (entry_at es f.name) (λ _. ⊤)
 abbrev pub HasRequired : List FieldDef → List (Text × Value) → Type 0
 HasRequired fields es = All (IsMet es) fields
 
-module _ (facts : Facts) (h : Heap) where
+module _ (facts : ProgramFacts) (h : Heap) where
   -- of some item it is not told whether it belongs to its place
   abbrev pub HasItemBeyond : List Ty → Option Ty → List Value → Type 0
   HasItemBeyond fixed rest vs = (i : ℕ) × (v : Value) × (slice_get vs i ≡ Some v) × IsBeyondIf facts h v (item_type fixed rest i)

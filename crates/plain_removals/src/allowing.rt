@@ -6,14 +6,14 @@ ghost use Rattle.plain_removals.specs.Removals.{IsAllowed};
 use crate::members::members_belong_if;
 use crate::removal::Removal;
 use bal_base::Memory;
-use plain_run::{Facts, Heap, Members};
+use plain_run::{Heap, Members, ProgramFacts};
 use std::alloc::Global;
 use value_model::{PanicName, Value};
 
 /// These members are left in a structure of the atom, and the value is given, where they may be.
 pub fn allowed(
     alloc: Global,
-    facts: &Facts,
+    facts: &ProgramFacts,
     heap: &Heap,
     atom: Option<u32>,
     left: Members,
@@ -22,7 +22,7 @@ pub fn allowed(
     ensures { IfOk result (IsAllowed facts.now heap.now atom (members_of left) given) }
 {
     match members_belong_if(alloc, facts, heap, &left, atom)? {
-        None => Ok(Removal::Untold),
+        None => Ok(Removal::Undecided),
         Some(false) => Ok(Removal::Panics(PanicName::InherentTypeViolation)),
         Some(true) => Ok(Removal::Leaves(left, given)),
     }

@@ -10,7 +10,7 @@ use crate::place::Place;
 use crate::places::list_removal;
 use crate::storing::done;
 use bal_base::{Memory, Text};
-use plain_run::{Facts, World};
+use plain_run::{ProgramFacts, World};
 use plain_structures::{Tried, structure, structure_and_int, structure_and_text};
 use std::alloc::Global;
 use value_model::Value;
@@ -18,7 +18,7 @@ use value_model::Value;
 /// The item at a place of the list with this number is taken out.
 fn removes_item(
     alloc: Global,
-    facts: &Facts,
+    facts: &ProgramFacts,
     n: u32,
     place: Place,
     world: &mut World,
@@ -27,7 +27,7 @@ fn removes_item(
     ensures stays { IfOk result (TriedStays world.old world.new) }
 {
     match list_removal(alloc, facts, &world.heap, n, place)? {
-        None => Ok(Tried::Unfit),
+        None => Ok(Tried::Stuck),
         Some(removal) => done(alloc, world, n, removal),
     }
 }
@@ -35,7 +35,7 @@ fn removes_item(
 /// The entry with a key of the mapping with this number is taken out.
 fn removes_entry(
     alloc: Global,
-    facts: &Facts,
+    facts: &ProgramFacts,
     n: u32,
     key: &Text,
     world: &mut World,
@@ -44,7 +44,7 @@ fn removes_entry(
     ensures stays { IfOk result (TriedStays world.old world.new) }
 {
     match mapping_removal(alloc, facts, &world.heap, n, key)? {
-        None => Ok(Tried::Unfit),
+        None => Ok(Tried::Stuck),
         Some(removal) => done(alloc, world, n, removal),
     }
 }
@@ -53,7 +53,7 @@ fn removes_entry(
 /// inherent type doesn't allow what is left; and that may not be told.
 pub fn pop(
     alloc: Global,
-    facts: &Facts,
+    facts: &ProgramFacts,
     operands: &[Value],
     world: &mut World,
 ) -> Result<Tried, Memory>
@@ -61,7 +61,7 @@ pub fn pop(
     ensures stays { IfOk result (TriedStays world.old world.new) }
 {
     match structure(operands) {
-        None => Ok(Tried::Unfit),
+        None => Ok(Tried::Stuck),
         Some(n) => removes_item(alloc, facts, n, Place::Last, world),
     }
 }
@@ -70,7 +70,7 @@ pub fn pop(
 /// immutable, and where its inherent type doesn't allow what is left; and that may not be told.
 pub fn remove_item(
     alloc: Global,
-    facts: &Facts,
+    facts: &ProgramFacts,
     operands: &[Value],
     world: &mut World,
 ) -> Result<Tried, Memory>
@@ -78,7 +78,7 @@ pub fn remove_item(
     ensures stays { IfOk result (TriedStays world.old world.new) }
 {
     match structure_and_int(operands) {
-        None => Ok(Tried::Unfit),
+        None => Ok(Tried::Stuck),
         Some((n, i)) => removes_item(alloc, facts, n, Place::At(i), world),
     }
 }
@@ -87,7 +87,7 @@ pub fn remove_item(
 /// the mapping is immutable, and where its inherent type doesn't allow what is left; and that may not be told.
 pub fn remove_key(
     alloc: Global,
-    facts: &Facts,
+    facts: &ProgramFacts,
     operands: &[Value],
     world: &mut World,
 ) -> Result<Tried, Memory>
@@ -95,7 +95,7 @@ pub fn remove_key(
     ensures stays { IfOk result (TriedStays world.old world.new) }
 {
     match structure_and_text(operands) {
-        None => Ok(Tried::Unfit),
+        None => Ok(Tried::Stuck),
         Some((n, key)) => removes_entry(alloc, facts, n, &key, world),
     }
 }

@@ -6,7 +6,7 @@ ghost use Rattle.value_model.specs.Heap.{Entries, entry_at};
 ghost use Rattle.plain_removals.specs.Members.{HasRequired, IsMet, TellsMembers};
 
 use bal_base::{Memory, Text};
-use plain_run::{Facts, Heap};
+use plain_run::{Heap, ProgramFacts};
 use plain_tests::{belongs_if, key_type};
 use std::alloc::Global;
 use type_model::{FieldDef, Ty};
@@ -45,7 +45,7 @@ fn has_required(fields: &[FieldDef], entries: &[(Text, Value)]) -> bool
 /// is the last one that is looked at.
 pub fn entries_belong(
     alloc: Global,
-    facts: &Facts,
+    facts: &ProgramFacts,
     heap: &Heap,
     fields: &[FieldDef],
     rest: &Option<Ty>,

@@ -5,7 +5,7 @@ ghost use Rattle.value_model.specs.Heap.{Items};
 ghost use Rattle.plain_removals.specs.Members.{TellsMembers};
 
 use bal_base::Memory;
-use plain_run::{Facts, Heap};
+use plain_run::{Heap, ProgramFacts};
 use plain_tests::{belongs_if, item_type};
 use std::alloc::Global;
 use type_model::Ty;
@@ -15,7 +15,7 @@ use value_model::Value;
 /// is the last one that is looked at.
 pub fn items_belong(
     alloc: Global,
-    facts: &Facts,
+    facts: &ProgramFacts,
     heap: &Heap,
     fixed: &[Ty],
     rest: &Option<Ty>,

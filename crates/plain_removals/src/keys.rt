@@ -7,7 +7,7 @@ use crate::allowing::allowed;
 use crate::entries::place_of;
 use crate::removal::Removal;
 use bal_base::{Memory, Text};
-use plain_run::{Facts, Heap, Members, Structure};
+use plain_run::{Heap, Members, ProgramFacts, Structure};
 use std::alloc::Global;
 use value_model::{PanicName, Value};
 
@@ -39,7 +39,7 @@ fn entries_without(
 /// What the removal of the entry with a key from the structure with these entries comes to.
 fn key_removal(
     alloc: Global,
-    facts: &Facts,
+    facts: &ProgramFacts,
     heap: &Heap,
     s: &Structure,
     entries: &[(Text, Value)],
@@ -63,7 +63,7 @@ fn key_removal(
 /// What the removal of the entry with a key from a structure comes to, where it is a mapping.
 fn removal_from(
     alloc: Global,
-    facts: &Facts,
+    facts: &ProgramFacts,
     heap: &Heap,
     s: &Structure,
     key: &Text,
@@ -82,7 +82,7 @@ fn removal_from(
 /// What the removal of the entry with a key from the structure with this number comes to, where it is a mapping.
 pub fn mapping_removal(
     alloc: Global,
-    facts: &Facts,
+    facts: &ProgramFacts,
     heap: &Heap,
     n: u32,
     key: &Text,

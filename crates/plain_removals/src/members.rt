@@ -7,7 +7,7 @@ ghost use Rattle.plain_removals.specs.Members.{TellsMembers, TellsMembersIf};
 use crate::entries::entries_belong;
 use crate::items::items_belong;
 use bal_base::{Memory, Text};
-use plain_run::{Facts, Heap, Members};
+use plain_run::{Heap, Members, ProgramFacts};
 use plain_tests::definition;
 use std::alloc::Global;
 use type_model::AtomDef;
@@ -16,7 +16,7 @@ use value_model::Value;
 /// Whether the items are those of a list of the atom.
 fn are_of_list(
     alloc: Global,
-    facts: &Facts,
+    facts: &ProgramFacts,
     heap: &Heap,
     items: &[Value],
     atom: &AtomDef,
@@ -35,7 +35,7 @@ fn are_of_list(
 /// Whether the entries are those of a mapping of the atom.
 fn are_of_mapping(
     alloc: Global,
-    facts: &Facts,
+    facts: &ProgramFacts,
     heap: &Heap,
     entries: &[(Text, Value)],
     atom: &AtomDef,
@@ -55,7 +55,7 @@ fn are_of_mapping(
 /// place. `None` where that is not told of a member, which is the last one that is looked at.
 pub fn members_belong(
     alloc: Global,
-    facts: &Facts,
+    facts: &ProgramFacts,
     heap: &Heap,
     members: &Members,
     atom: &AtomDef,
@@ -73,7 +73,7 @@ pub fn members_belong(
 /// The same of the atom with a number, where one is named and defined.
 pub fn members_belong_if(
     alloc: Global,
-    facts: &Facts,
+    facts: &ProgramFacts,
     heap: &Heap,
     members: &Members,
     atom: Option<u32>,

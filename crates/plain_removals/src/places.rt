@@ -8,7 +8,7 @@ use crate::allowing::allowed;
 use crate::place::{Place, place_in};
 use crate::removal::Removal;
 use bal_base::Memory;
-use plain_run::{Facts, Heap, Members, Structure, share_all};
+use plain_run::{Heap, Members, ProgramFacts, Structure, share_all};
 use std::alloc::Global;
 use value_model::{PanicName, Value};
 
@@ -25,7 +25,7 @@ fn items_without(alloc: Global, items: &[Value], place: usize) -> Result<Vec<Val
 /// What the removal of the item at a place comes to.
 fn removed_at(
     alloc: Global,
-    facts: &Facts,
+    facts: &ProgramFacts,
     heap: &Heap,
     s: &Structure,
     items: &[Value],
@@ -53,7 +53,7 @@ fn removed_at(
 /// What the removal of an item from the structure with these items comes to.
 fn item_removal(
     alloc: Global,
-    facts: &Facts,
+    facts: &ProgramFacts,
     heap: &Heap,
     s: &Structure,
     items: &[Value],
@@ -70,7 +70,7 @@ fn item_removal(
 /// What the removal of an item from a structure comes to, where it is a list.
 fn removal_from(
     alloc: Global,
-    facts: &Facts,
+    facts: &ProgramFacts,
     heap: &Heap,
     s: &Structure,
     place: Place,
@@ -89,7 +89,7 @@ fn removal_from(
 /// What the removal of an item from the structure with this number comes to, where it is a list.
 pub fn list_removal(
     alloc: Global,
-    facts: &Facts,
+    facts: &ProgramFacts,
     heap: &Heap,
     n: u32,
     place: Place,

@@ -11,5 +11,5 @@ pub enum Removal {
     /// These members are left, and this one is given.
     Leaves(Members, Value),
     /// It is not told whether what would be left is allowed.
-    Untold,
+    Undecided,
 }

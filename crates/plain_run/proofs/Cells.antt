@@ -1,14 +1,12 @@
 -- The cells of what is held.
-use Rattle.std.proofs.Common.{◌≡◌, ◌+◌, ◌<◌, ◌≤◌, ℕ, Bool, true, false, nat_le, List, [], ◌∷◌, ◌++◌, length, map, refl, sym, subst, ap, ◌∙◌, arith}
+use Rattle.std.proofs.Common.{◌≡◌, ◌+◌, ◌<◌, ◌≤◌, ℕ, Bool, true, false, nat_le, List, [], ◌∷◌, ◌++◌, length, map, refl, sym, ap, ◌∙◌, arith}
 use Rattle.std.specs.List.{sum_by}
 use Rattle.std.proofs.lemmas.Bool.{leb-true}
 use Rattle.std.proofs.lemmas.List.{length-map, length-append}
 use Rattle.std.proofs.lemmas.List.Sums.{sum_by-cons, sum_by_push}
 use Rattle.value_model.specs.Heap.{cells, Heap as ModelHeap, Structure as ModelStructure, ErrorObject as ModelError, FunctionObject as ModelFunction}
-use Rattle.run_model.specs.Limits.{most_cells}
+use Rattle.op_model.specs.Limits.{most_cells}
 use Rattle.plain_run.specs.declared.held.Heap.{Heap}
-use Rattle.plain_run.specs.declared.held.Structure.{Structure}
-use Rattle.plain_run.specs.declared.held.FunctionObject.{FunctionObject}
 use Rattle.plain_run.specs.Held.{heap_of, error_of, function_of, structure_of}
 
 sum-of-map : {X Y : Type 0} (f : Y → ℕ) (g : X → Y) (xs : List X) → sum_by f (map g xs) ≡ sum_by (λ x. f (g x)) xs
@@ -20,16 +18,13 @@ pub map-push : {X Y : Type 0} (f : X → Y) (xs : List X) (x : X) → map f (xs 
 map-push f [] x = refl
 map-push f (y ∷ xs) x = ap (λ l. f y ∷ l) (map-push f xs x)
 
-cells-held : (h : Heap) → cells (heap_of h) ≡ sum_by (λ s. s.greatest + 1) h.structures.items + length h.errors.items + sum_by (λ f. length f.captured.items + 1) h.functions.items
+cells-held : (h : Heap) → cells (heap_of h) ≡ sum_by (λ s. s.greatest + 1) h.structures + length h.errors.items + sum_by (λ f. length f.captured.items + 1) h.functions
 cells-held h =
-    λ i. sum-of-map (λ s. s.greatest + 1) structure_of h.structures.items i + length-map h.errors.items error_of i + sum-of-map (λ f. length f.captured + 1) function_of h.functions.items i
+    λ i. sum-of-map (λ s. s.greatest + 1) structure_of h.structures i + length-map h.errors.items error_of i + sum-of-map (λ f. length f.captured + 1) function_of h.functions i
 
-pub room-held : (h : Heap) (ss : List Structure) (fs : List FunctionObject) (errors more : ℕ) (result : Bool) → ss ≡ h.structures.items → fs ≡ h.functions.items → errors ≡ length h.errors.items → result ≡ nat_le (0 + sum_by (λ s. s.greatest + 1) ss + sum_by (λ f. length f.captured.items + 1) fs + errors + more) most_cells → result ≡ nat_le (cells (heap_of h) + more) most_cells
-room-held h ss fs errors more result s f e h' =
-    let same : 0 + sum_by (λ s. s.greatest + 1) ss + sum_by (λ f. length f.captured.items + 1) fs + errors + more ≡ cells (heap_of h) + more =
-    subst (λ l. 0 + sum_by (λ s. s.greatest + 1) l + sum_by (λ f. length f.captured.items + 1) fs + errors + more ≡ cells (heap_of h) + more) (sym s)
-    (subst (λ l. 0 + sum_by (λ s. s.greatest + 1) h.structures.items + sum_by (λ f. length f.captured.items + 1) l + errors + more ≡ cells (heap_of h) + more) (sym f)
-    (let all = cells-held h in omega (arith, all, e))) in
+pub room-held : (h : Heap) (structures functions errors more : ℕ) (result : Bool) → structures ≡ sum_by (λ s. s.greatest + 1) h.structures → functions ≡ sum_by (λ f. length f.captured.items + 1) h.functions → errors ≡ length h.errors.items → result ≡ nat_le (0 + structures + functions + errors + more) most_cells → result ≡ nat_le (cells (heap_of h) + more) most_cells
+room-held h structures functions errors more result s f e h' =
+    let same : 0 + structures + functions + errors + more ≡ cells (heap_of h) + more = (let all = cells-held h in omega (arith, all, s, f, e)) in
     h' ∙ ap (λ n. nat_le n most_cells) same
 
 -- ---- how many there are

@@ -1,5 +1,6 @@
 pub mod Cells
 pub mod Comparing
+pub mod Counted
 pub mod Doing
 pub mod Given
 pub mod Lists
@@ -11,3 +12,4 @@ pub mod Room
 pub mod Settling
 pub mod Standing
 pub mod Texts
+pub mod Walking

@@ -8,9 +8,9 @@ use Rattle.value_model.specs.declared.value.Value.TheVariants.{Error, Function, 
 use Rattle.value_model.specs.PanicName.{panic_message}
 use Rattle.value_model.specs.Heap.{cells, Structure as ModelStructure, ErrorObject as ModelError, FunctionObject as ModelFunction, Entries}
 use Rattle.value_model.specs.World.{World as ModelWorld, Gave, Threw, PassesCells}
-use Rattle.run_model.specs.Limits.{most_cells}
-use Rattle.run_model.specs.Rows.{gives, gives_structure, makes, makes_error, new_structure, next_error, next_structure, panics, with_heap, within}
-use Rattle.run_model.specs.StructureRows.{makes_function}
+use Rattle.op_model.specs.Limits.{most_cells}
+use Rattle.op_model.specs.Rows.{gives, gives_structure, makes, makes_error, new_structure, next_error, next_structure, panics, with_heap, within}
+use Rattle.op_model.specs.StructureRows.{makes_function}
 use Rattle.plain_run.specs.Came.{IsErrorMade}
 use Rattle.plain_run.proofs.Cells.{error-cells, function-cells, map-push, structure-cells}
 

@@ -3,8 +3,8 @@ use Rattle.std.proofs.Common.{◌≡◌, ◌+◌, ℕ, zero, suc, Bool, true, fa
 use Rattle.std.specs.Prelude.{slice_get, slice_set, if◌then◌else◌}
 use Rattle.std.proofs.lemmas.List.{append_assoc, length-append, map-set}
 use Rattle.std.proofs.Math.Seq.{get_or-append_seam, set-append_seam}
-use Rattle.run_model.specs.Common.{Common, Strand, IsActive}
-use Rattle.run_model.specs.Strands.{no_strand, wakes, with_status, woken, woken_from}
+use Rattle.op_model.specs.Common.{Common, Strand, IsActive}
+use Rattle.op_model.specs.Strands.{no_strand, wakes, with_status, woken, woken_from}
 use Rattle.plain_run.specs.Strands.{all_woken, listed_if, stands_so}
 
 by : {A : Type 0} → Bool → A → A → A
@@ -30,7 +30,7 @@ woken-at c front s ss = cases (wakes c s.status)
         ∙ set-append_seam front s ss (with_status s IsActive)
     cases false = refl
 
-woken-then : (ns ms : List ℕ) (ss : List Strand) → all_woken (ns ++ ms) ss ≡ all_woken ms (all_woken ns ss)
+pub woken-then : (ns ms : List ℕ) (ss : List Strand) → all_woken (ns ++ ms) ss ≡ all_woken ms (all_woken ns ss)
 woken-then [] ms ss = refl
 woken-then (n ∷ ns) ms ss = woken-then ns ms (stands_so ss n IsActive)
 

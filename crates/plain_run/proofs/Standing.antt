@@ -1,8 +1,8 @@
 -- A strand or a worker that stands otherwise from now on.
 use Rattle.std.proofs.Common.{◌≡◌, ℕ, List, Some, map, sym, ap, ◌∙◌}
 use Rattle.std.specs.Prelude.{option_map, slice_get, slice_set}
-use Rattle.run_model.specs.Common as model
-use Rattle.run_model.specs.Strands.{no_activation, no_strand, with_status}
+use Rattle.op_model.specs.Common as model
+use Rattle.op_model.specs.Strands.{no_activation, no_strand, with_status}
 use Rattle.plain_run.specs.declared.held.Activation.{Activation}
 use Rattle.plain_run.specs.declared.held.Strand.{Strand}
 use Rattle.plain_run.specs.Held.{activation_of, channel_of, end_of, strand_of}

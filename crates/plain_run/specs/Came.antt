@@ -5,8 +5,8 @@ use Rattle.bal_base.specs.declared.text.Text.{Text}
 use Rattle.value_model.specs.declared.value.Value.{Value}
 use Rattle.value_model.specs.Heap.{cells}
 use Rattle.value_model.specs.World as model
-use Rattle.run_model.specs.Limits.{most_cells}
-use Rattle.run_model.specs.Rows.{makes_error, next_error}
+use Rattle.op_model.specs.Limits.{most_cells}
+use Rattle.op_model.specs.Rows.{makes_error, next_error}
 use Rattle.plain_run.specs.declared.world.Came.{Came}
 use Rattle.plain_run.specs.declared.world.Came.TheVariants.{Gave, Threw, PassesCells}
 use Rattle.plain_run.specs.declared.held.World.{World}

@@ -2,11 +2,11 @@
 use Rattle.std.specs.Prelude.{⊤, ◌≡◌, ◌+ℤ◌, ◌-ℤ◌, ◌*ℤ◌, ℤ, List, [], ◌∷◌, Option, Some, None, map, option_map, option_to_list}
 use Rattle.value_model.specs.declared.value.Value.{Value}
 use Rattle.value_model.specs.declared.value.Value.TheVariants.{Int}
-use Rattle.run_model.specs.Library.{LibraryAnswers}
-use Rattle.run_model.specs.Performs.{Performs}
-use Rattle.run_model.specs.Effects as model
-use Rattle.run_model.specs.Rows.{GivesInt}
-use Rattle.run_model.specs.ValueRows.{Divides, Remains}
+use Rattle.op_model.specs.Library.{LibraryAnswers}
+use Rattle.op_model.specs.Performs.{Performs}
+use Rattle.op_model.specs.Effects as model
+use Rattle.op_model.specs.Rows.{GivesInt}
+use Rattle.op_model.specs.ValueRows.{Divides, Remains}
 use Rattle.value_model.specs.World.{World, Came}
 use Rattle.operations.specs.declared.operation.Operation.{Operation}
 use Rattle.operations.specs.declared.operation.Operation.TheVariants as operation
@@ -15,13 +15,13 @@ use Rattle.plain_run.specs.declared.effect.Ints.TheVariants as ints
 use Rattle.plain_run.specs.declared.effect.Effect.{Effect}
 use Rattle.plain_run.specs.declared.effect.Effect.TheVariants.{Gives, Fails, Waits, Enters, Leaves, Spawns, NoTick, Beyond}
 use Rattle.plain_run.specs.declared.effect.Performed.{Performed}
-use Rattle.plain_run.specs.declared.effect.Performed.TheVariants.{Done, Unfit, Untold}
+use Rattle.plain_run.specs.declared.effect.Performed.TheVariants.{Done, Stuck, Undecided}
 use Rattle.plain_run.specs.declared.effect.Spawned.{Spawned}
-use Rattle.plain_run.specs.declared.facts.Facts.{Facts}
+use Rattle.plain_run.specs.declared.facts.ProgramFacts.{ProgramFacts}
 use Rattle.plain_run.specs.declared.held.Common.{Common}
-use Rattle.plain_run.specs.declared.held.Asker.{Asker}
-use Rattle.plain_run.specs.Facts.{facts_of}
-use Rattle.plain_run.specs.Held.{asker_of, common_of, need_of, role_of}
+use Rattle.plain_run.specs.declared.held.Caller.{Caller}
+use Rattle.plain_run.specs.ProgramFacts.{facts_of}
+use Rattle.plain_run.specs.Held.{caller_of, common_of, need_of, role_of}
 
 abbrev pub spawned_of : Spawned → model.Spawned
 spawned_of s = record { unit = s.unit; args = s.args.items; role = option_map role_of s.role }
@@ -39,12 +39,12 @@ effect_of (Beyond limit) c = model.Beyond limit
 
 -- what was answered for an operation on these operands: an effect that it has, or that it has none, or that it is not
 -- told, which has such a cause
-abbrev pub IsPerformed : Facts → Operation → List Value → Asker → Common → Common → Type 0 → Performed → Type 0
-IsPerformed facts operation vs asker old new cause (Done effect) =
-    Performs (facts_of facts) LibraryAnswers operation vs (asker_of asker) (common_of old) (effect_of effect new)
-IsPerformed facts operation vs asker old new cause Unfit =
-    (effect : model.Effect) → ¬ (Performs (facts_of facts) LibraryAnswers operation vs (asker_of asker) (common_of old) effect)
-IsPerformed facts operation vs asker old new cause Untold = cause
+abbrev pub IsPerformed : ProgramFacts → Operation → List Value → Caller → Common → Common → Type 0 → Performed → Type 0
+IsPerformed facts operation vs caller old new cause (Done effect) =
+    Performs (facts_of facts) LibraryAnswers operation vs (caller_of caller) (common_of old) (effect_of effect new)
+IsPerformed facts operation vs caller old new cause Stuck =
+    (effect : model.Effect) → ¬ (Performs (facts_of facts) LibraryAnswers operation vs (caller_of caller) (common_of old) effect)
+IsPerformed facts operation vs caller old new cause Undecided = cause
 
 -- what an effect that keeps the run as it was leaves
 abbrev pub EffectStays : Common → Common → Effect → Type 0
@@ -60,8 +60,8 @@ EffectStays old new (Beyond limit) = common_of new ≡ common_of old
 -- what was not done changed nothing
 abbrev pub Stays : Common → Common → Performed → Type 0
 Stays old new (Done effect) = EffectStays old new effect
-Stays old new Unfit = common_of new ≡ common_of old
-Stays old new Untold = common_of new ≡ common_of old
+Stays old new Stuck = common_of new ≡ common_of old
+Stays old new Undecided = common_of new ≡ common_of old
 
 -- two ints, where the operands are such
 abbrev pub AreTwoInts : List Value → Option (ℤ × ℤ) → Type 0

@@ -3,7 +3,7 @@ use Rattle.std.specs.Prelude.{map, option_map}
 use Rattle.value_model.specs.Heap as model_heap
 use Rattle.value_model.specs.Heap.{Heap as ModelHeap, Structure as ModelStructure, ErrorObject as ModelError, FunctionObject as ModelFunction, Members as ModelMembers}
 use Rattle.value_model.specs.World.{World as ModelWorld}
-use Rattle.run_model.specs.Common as model
+use Rattle.op_model.specs.Common as model
 use Rattle.plain_run.specs.declared.held.Members.{Members}
 use Rattle.plain_run.specs.declared.held.Members.TheVariants.{Items, Entries}
 use Rattle.plain_run.specs.declared.held.Structure.{Structure}
@@ -22,7 +22,7 @@ use Rattle.plain_run.specs.declared.held.Strand.{Strand}
 use Rattle.plain_run.specs.declared.held.Channel.{Channel}
 use Rattle.plain_run.specs.declared.held.Activation.{Activation}
 use Rattle.plain_run.specs.declared.held.Common.{Common}
-use Rattle.plain_run.specs.declared.held.Asker.{Asker}
+use Rattle.plain_run.specs.declared.held.Caller.{Caller}
 
 -- ---- the world
 
@@ -40,7 +40,7 @@ abbrev pub function_of : FunctionObject → ModelFunction
 function_of f = record { unit = f.unit; captured = f.captured.items }
 
 abbrev pub heap_of : Heap → ModelHeap
-heap_of h = record { structures = map structure_of h.structures.items; errors = map error_of h.errors.items; functions = map function_of h.functions.items }
+heap_of h = record { structures = map structure_of h.structures; errors = map error_of h.errors.items; functions = map function_of h.functions }
 
 abbrev pub world_of : World → ModelWorld
 world_of w = record { heap = heap_of w.heap; input = w.input.items; output = w.output.items }
@@ -103,5 +103,5 @@ with_world c w =
       picks = c.picks;
     }
 
-abbrev pub asker_of : Asker → model.Asker
-asker_of a = record { unit = a.unit; role = option_map role_of a.role; depth = a.depth }
+abbrev pub caller_of : Caller → model.Caller
+caller_of a = record { unit = a.unit; role = option_map role_of a.role; depth = a.depth }

@@ -1,6 +1,6 @@
 pub mod Came
 pub mod Effects
-pub mod Facts
+pub mod ProgramFacts
 pub mod Held
 pub mod Strands
 pub mod Values

@@ -1,7 +1,7 @@
 -- Strands and channels that are looked up.
 use Rattle.std.specs.Prelude.{Bool, true, false, List, [], ◌∷◌, Option, Some, None, ℕ, get_or, is_some, slice_set, if◌then◌else◌}
-use Rattle.run_model.specs.Common as model
-use Rattle.run_model.specs.Strands.{end_in, no_activation, no_channel, no_strand, with_status}
+use Rattle.op_model.specs.Common as model
+use Rattle.op_model.specs.Strands.{end_in, no_activation, no_channel, no_strand, with_status}
 use Rattle.plain_run.specs.declared.held.Channel.{Channel}
 use Rattle.plain_run.specs.Held.{channel_of}
 

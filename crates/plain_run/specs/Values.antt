@@ -6,8 +6,8 @@ use Rattle.operations.specs.declared.operation.Operation.TheVariants as operatio
 use Rattle.value_model.specs.declared.value.Value.{Value}
 use Rattle.value_model.specs.declared.value.Value.TheVariants.{Bool as Truth, Str}
 use Rattle.value_model.specs.World.{World, Came}
-use Rattle.run_model.specs.Rows.{gives}
-use Rattle.run_model.specs.ValueRows.{Compare, IsBefore, IsNotBehind}
+use Rattle.op_model.specs.Rows.{gives}
+use Rattle.op_model.specs.ValueRows.{Compare, IsBefore, IsNotBehind}
 use Rattle.plain_run.specs.declared.values.Comparison.{Comparison}
 use Rattle.plain_run.specs.declared.values.Comparison.TheVariants.{Less, LessEqual}
 

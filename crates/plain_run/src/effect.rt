@@ -1,9 +1,9 @@
 //! What an operation comes to.
 ghost use Rattle.std.specs.Prelude.{◌≡◌, ◌∷◌, IfOk, true};
 ghost use Rattle.value_model.specs.declared.value.Value.TheVariants as values;
-ghost use Rattle.run_model.specs.Effects.{lifted as lifted_of};
-ghost use Rattle.plain_run.specs.declared.facts.Facts.{Facts as FactsOf};
-ghost use Rattle.plain_run.specs.declared.held.Asker.{Asker as AskerOf};
+ghost use Rattle.op_model.specs.Effects.{lifted as lifted_of};
+ghost use Rattle.plain_run.specs.declared.facts.ProgramFacts.{ProgramFacts as FactsOf};
+ghost use Rattle.plain_run.specs.declared.held.Caller.{Caller as CallerOf};
 ghost use Rattle.plain_run.specs.declared.held.Common.{Common as CommonOf};
 ghost use Rattle.plain_run.specs.declared.held.World.{World as WorldOf};
 ghost use Rattle.plain_run.specs.declared.effect.Performed.TheVariants.{Done};
@@ -60,9 +60,9 @@ pub enum Performed {
     /// It had this effect.
     Done(Effect),
     /// It has none on these operands.
-    Unfit,
+    Stuck,
     /// That is not told, since a question of types isn't decided.
-    Untold,
+    Undecided,
 }
 
 /// An operation on two ints.
@@ -118,11 +118,11 @@ pub fn perform_ints(
     operands: &[Value],
     common: &mut Common,
 ) -> Result<Performed, Memory>
-    ensures row { IfOk result (λ done. (facts : FactsOf) (asker : AskerOf) → IsPerformed facts (operation_on op) operands.now asker common.old common.new ⊥ done) }
+    ensures row { IfOk result (λ done. (facts : FactsOf) (caller : CallerOf) → IsPerformed facts (operation_on op) operands.now caller common.old common.new ⊥ done) }
     ensures stays { IfOk result (Stays common.old common.new) }
 {
     match two_ints(operands) {
-        None => Ok(Performed::Unfit),
+        None => Ok(Performed::Stuck),
         Some((a, b)) => {
             let came = on_ints(alloc, op, a, b, &mut common.world)?;
             Ok(Performed::Done(lifted(came)))

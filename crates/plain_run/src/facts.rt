@@ -27,7 +27,7 @@ pub struct UnitFacts {
 
 /// What operations know of the program.
 #[derive(Drop)]
-pub struct Facts<'a> {
+pub struct ProgramFacts<'a> {
     /// The definitions of the atoms, by number.
     pub atoms: &'a TypeEnv,
     pub units: Vec<UnitFacts>,

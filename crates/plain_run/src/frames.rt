@@ -1,8 +1,8 @@
 //! Slots, ticks, calls, and the ends of frames.
 ghost use Rattle.std.specs.Prelude.{◌≡◌, IfOk, true};
 ghost use Rattle.operations.specs.declared.operation.Operation.TheVariants as operation;
-ghost use Rattle.plain_run.specs.declared.facts.Facts.{Facts as FactsOf};
-ghost use Rattle.plain_run.specs.declared.held.Asker.{Asker as AskerOf};
+ghost use Rattle.plain_run.specs.declared.facts.ProgramFacts.{ProgramFacts as FactsOf};
+ghost use Rattle.plain_run.specs.declared.held.Caller.{Caller as CallerOf};
 ghost use Rattle.plain_run.specs.declared.held.Common.{Common as CommonOf};
 ghost use Rattle.plain_run.specs.Effects.{IsPerformed, Stays};
 
@@ -20,7 +20,7 @@ pub fn perform_load(
     operands: &[Value],
     common: &mut Common,
 ) -> Result<Performed, Memory>
-    ensures row { IfOk result (λ done. (facts : FactsOf) (asker : AskerOf) → IsPerformed facts (operation.Load slot) operands.now asker common.old common.new ⊥ done) }
+    ensures row { IfOk result (λ done. (facts : FactsOf) (caller : CallerOf) → IsPerformed facts (operation.Load slot) operands.now caller common.old common.new ⊥ done) }
     ensures stays { IfOk result (Stays common.old common.new) }
 {
     match operands {
@@ -28,29 +28,29 @@ pub fn perform_load(
             let came = panics(alloc, &mut common.world, PanicName::NotInitialised)?;
             Ok(Performed::Done(lifted(came)))
         }
-        _ => Ok(Performed::Unfit),
+        _ => Ok(Performed::Stuck),
     }
 }
 
 /// The frame ends.
 pub fn perform_return(operands: &[Value], common: &Common) -> Performed
-    ensures row { (facts : FactsOf) (asker : AskerOf) → IsPerformed facts operation.Return operands.now asker common.now common.now ⊥ result }
+    ensures row { (facts : FactsOf) (caller : CallerOf) → IsPerformed facts operation.Return operands.now caller common.now common.now ⊥ result }
     ensures stays { Stays common.now common.now result }
 {
     match operands {
         [v] => Performed::Done(Effect::Leaves(v.share())),
-        _ => Performed::Unfit,
+        _ => Performed::Stuck,
     }
 }
 
 /// A panic with an error.
 pub fn perform_panic(operands: &[Value], common: &Common) -> Performed
-    ensures row { (facts : FactsOf) (asker : AskerOf) → IsPerformed facts operation.Panic operands.now asker common.now common.now ⊥ result }
+    ensures row { (facts : FactsOf) (caller : CallerOf) → IsPerformed facts operation.Panic operands.now caller common.now common.now ⊥ result }
     ensures stays { Stays common.now common.now result }
 {
     match operands {
         [Value::Error(n)] => Performed::Done(Effect::Fails(Value::Error(*n))),
-        _ => Performed::Unfit,
+        _ => Performed::Stuck,
     }
 }
 
@@ -73,7 +73,7 @@ pub fn perform_call(
     operands: &[Value],
     common: &Common,
 ) -> Result<Performed, Memory>
-    ensures row { IfOk result (λ done. (facts : FactsOf) (asker : AskerOf) → IsPerformed facts (operation.Call unit count) operands.now asker common.now common.now ⊥ done) }
+    ensures row { IfOk result (λ done. (facts : FactsOf) (caller : CallerOf) → IsPerformed facts (operation.Call unit count) operands.now caller common.now common.now ⊥ done) }
     ensures stays { IfOk result (Stays common.now common.now) }
 {
     Ok(Performed::Done(Effect::Enters {
@@ -89,11 +89,11 @@ pub fn perform_tick(
     operands: &[Value],
     common: &mut Common,
 ) -> Result<Performed, Memory>
-    ensures row { IfOk result (λ done. (facts : FactsOf) (asker : AskerOf) → asker.depth ≡ depth → IsPerformed facts operation.Tick operands.now asker common.old common.new ⊥ done) }
+    ensures row { IfOk result (λ done. (facts : FactsOf) (caller : CallerOf) → caller.depth ≡ depth → IsPerformed facts operation.Tick operands.now caller common.old common.new ⊥ done) }
     ensures stays { IfOk result (Stays common.old common.new) }
 {
     if !operands.is_empty() {
-        return Ok(Performed::Unfit);
+        return Ok(Performed::Stuck);
     }
     if common.ticks == 0 {
         return Ok(Performed::Done(Effect::NoTick));

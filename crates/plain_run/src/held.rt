@@ -1,5 +1,7 @@
 //! What a run holds.
 
+use crate::functions::Functions;
+use crate::structures::Structures;
 use bal_base::Text;
 use value_model::Value;
 
@@ -43,9 +45,9 @@ pub struct FunctionObject {
 /// Structures, errors and function values, each of the three by their own numbers.
 #[derive(Drop)]
 pub struct Heap {
-    pub structures: Vec<Structure>,
+    pub structures: Structures,
     pub errors: Vec<ErrorObject>,
-    pub functions: Vec<FunctionObject>,
+    pub functions: Functions,
 }
 
 /// What operations on values see and change.
@@ -161,7 +163,7 @@ pub struct Common {
 
 /// What an operation knows of the frame that asks.
 #[derive(Clone, Copy)]
-pub struct Asker {
+pub struct Caller {
     pub unit: u32,
     pub role: Option<Role>,
     pub depth: u64,

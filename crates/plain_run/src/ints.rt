@@ -1,7 +1,7 @@
 //! Operations on ints.
 ghost use Rattle.std.specs.Prelude.{◌≡◌, ◌+ℤ◌, ◌-ℤ◌, ◌*ℤ◌, neg_ℤ, IfOk, ℤ};
-ghost use Rattle.run_model.specs.Rows.{GivesInt};
-ghost use Rattle.run_model.specs.ValueRows.{Divides, Remains};
+ghost use Rattle.op_model.specs.Rows.{GivesInt};
+ghost use Rattle.op_model.specs.ValueRows.{Divides, Remains};
 ghost use Rattle.plain_run.specs.Held.{world_of};
 ghost use Rattle.plain_run.specs.Came.{IsGiven, WorldStays, came_of};
 

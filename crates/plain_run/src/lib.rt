@@ -1,8 +1,9 @@
 //! What operations come to, as plain programs: what a run holds is held in vectors, and each operation is a function whose
-//! contract is its row of the table of operations. They are there for the plain evaluator of typed trees, and not for speed.
+//! contract is its row of the table of operations. Code runs by them, but for what `fast_code` does at once.
 //!
-//! - [`Common`] and its parts: what a run holds. `specs/Held.antt` says what it stands for.
-//! - [`Facts`] and its parts: what is known of the program; `specs/Facts.antt`.
+//! - [`Common`] and its parts: what a run holds. `specs/Held.antt` says what it stands for. [`Structures`] and [`Functions`] count
+//!   their cells as they come and change, so that the heap's room is known at once.
+//! - [`ProgramFacts`] and its parts: what is known of the program; `specs/ProgramFacts.antt`.
 //! - [`Performed`] and [`Effect`]: what is answered for an operation; `specs/Effects.antt`, `IsPerformed`.
 //! - [`perform_ints`], [`perform_negate`] and [`perform_not`]: ints and booleans.
 //! - [`perform_compare`] and [`perform_same`]: comparisons; [`perform_concat`]: strings.
@@ -22,30 +23,34 @@ mod constructors;
 mod effect;
 mod facts;
 mod frames;
+mod functions;
 mod held;
 mod ints;
 mod making;
 mod needs;
 mod strands;
 mod strings;
+mod structures;
 mod values;
 mod variables;
 mod world;
 
 pub use constructors::{perform_make_function, perform_make_list};
 pub use effect::{Effect, Ints, Performed, Spawned, lifted, perform_ints};
-pub use facts::{Facts, UnitFacts, WorkerFacts};
+pub use facts::{ProgramFacts, UnitFacts, WorkerFacts};
 pub use frames::{
     perform_call, perform_load, perform_panic, perform_return, perform_tick, share_all,
 };
+pub use functions::Functions;
 pub use held::{
-    Activation, Asker, Channel, Common, End, ErrorObject, FunctionObject, Heap, Members, Need,
+    Activation, Caller, Channel, Common, End, ErrorObject, FunctionObject, Heap, Members, Need,
     Role, Status, Strand, Structure, ToRun, World,
 };
 pub use making::{MOST_ITEMS, gives_function, gives_structure, new_structure, size_of};
 pub use needs::{channel, has_ended, has_success, is_met, is_success, strand_end, worker_end};
 pub use strands::{block, end_strand, end_worker, settle};
 pub use strings::{MOST_CODE_POINTS, gives_text, perform_concat};
+pub use structures::Structures;
 pub use values::{
     Comparison, is_same, perform_compare, perform_negate, perform_not, perform_same, told,
 };

@@ -1,7 +1,7 @@
 //! Structures and function values that are made.
 ghost use Rattle.std.specs.Prelude.{◌≡◌, IfOk};
-ghost use Rattle.run_model.specs.Rows as rows;
-ghost use Rattle.run_model.specs.StructureRows.{makes_function};
+ghost use Rattle.op_model.specs.Rows as rows;
+ghost use Rattle.op_model.specs.StructureRows.{makes_function};
 ghost use Rattle.plain_run.specs.Came.{WorldStays, came_of};
 ghost use Rattle.plain_run.specs.Held.{members_of, structure_of, world_of};
 
@@ -45,7 +45,7 @@ pub fn gives_structure(world: &mut World, made: Structure) -> Result<Came, Memor
     if !has_room_for(&world.heap, made.greatest, 1) {
         return Ok(Came::PassesCells);
     }
-    let number = world.heap.structures.as_slice().len() as u32;
+    let number = world.heap.structures.len() as u32;
     world.heap.structures.push(made)?;
     Ok(Came::Gave(Some(Value::Struct(number))))
 }
@@ -59,7 +59,7 @@ pub fn gives_function(world: &mut World, unit: u32, captured: Vec<Value>) -> Res
     if !has_room_for(&world.heap, captured.len() as u64, 1) {
         return Ok(Came::PassesCells);
     }
-    let number = world.heap.functions.as_slice().len() as u32;
+    let number = world.heap.functions.len() as u32;
     world
         .heap
         .functions

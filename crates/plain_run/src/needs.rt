@@ -3,7 +3,7 @@
 
 ghost use Rattle.std.specs.Prelude.{◌≡◌, [], None, Some, get_or, is_some, map, option_copied, option_map};
 ghost use Rattle.std.specs.List.{list_all, list_any};
-ghost use Rattle.run_model.specs.Strands as model;
+ghost use Rattle.op_model.specs.Strands as model;
 ghost use Rattle.plain_run.specs.Held.{channel_of, common_of, end_of as end_held, need_of, status_of};
 ghost use Rattle.plain_run.specs.Strands.{channel_there};
 
@@ -145,19 +145,23 @@ fn received(x: Option<&Channel>) -> u64
 fn all_ended(common: &Common, strands: &[u64]) -> bool
     ensures { result ≡ list_all (model.has_ended (common_of common.now)) strands.now }
 {
-    match strands {
-        [] => true,
-        [n, rest @ ..] => has_ended(common, *n) && all_ended(common, rest),
+    for n in strands {
+        if !has_ended(common, *n) {
+            return false;
+        }
     }
+    true
 }
 
 fn any_success(common: &Common, strands: &[u64]) -> bool
     ensures { result ≡ list_any (model.has_success (common_of common.now)) strands.now }
 {
-    match strands {
-        [] => false,
-        [n, rest @ ..] => has_success(common, *n) || any_success(common, rest),
+    for n in strands {
+        if has_success(common, *n) {
+            return true;
+        }
     }
+    false
 }
 
 /// Whether the need is met.

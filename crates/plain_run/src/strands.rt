@@ -2,7 +2,7 @@
 #![tactic(auto, using(crate::proofs::Settling::settling))]
 
 ghost use Rattle.std.specs.Prelude.{◌≡◌, ◌≤◌, ◌<◌, ◌+◌, ◌++◌, ◌^◌, OnOk, Some, get_or, length, map, option_map, slice_set};
-ghost use Rattle.run_model.specs.Strands as model;
+ghost use Rattle.op_model.specs.Strands as model;
 ghost use Rattle.plain_run.specs.Held.{activation_of, common_of, end_of as end_held, need_of, role_of, strand_of, status_of};
 ghost use Rattle.plain_run.specs.Strands.{all_woken, ended_once, ends_so, listed_if, stands_so};
 
@@ -41,13 +41,12 @@ fn list_woken(
     requires { n + length strands.now < 2 ^ 64 }
     ensures { OnOk result (woken.new.items ≡ woken.old.items ++ model.woken_from (common_of common.now) n (map strand_of strands.now)) }
 {
-    match strands {
-        [] => Ok(()),
-        [strand, rest @ ..] => {
-            push_if(woken, wakes(common, strand), n)?;
-            list_woken(woken, common, n + 1, rest)
-        }
+    let mut at = n;
+    for strand in strands {
+        push_if(woken, wakes(common, strand), at)?;
+        at += 1;
     }
+    Ok(())
 }
 
 /// The strand with this number stands so from now on.
@@ -63,12 +62,8 @@ fn set_status(strands: &mut Vec<Strand>, n: u64, status: Status)
 fn wake(strands: &mut Vec<Strand>, numbers: &[u64])
     ensures { map strand_of strands.new.items ≡ all_woken numbers.now (map strand_of strands.old.items) }
 {
-    match numbers {
-        [] => (),
-        [n, rest @ ..] => {
-            set_status(strands, *n, Status::Active);
-            wake(strands, rest);
-        }
+    for n in numbers {
+        set_status(strands, *n, Status::Active);
     }
 }
 
@@ -76,13 +71,10 @@ fn wake(strands: &mut Vec<Strand>, numbers: &[u64])
 fn add_all(numbers: &mut Vec<u64>, more: &[u64]) -> Result<(), Memory>
     ensures { OnOk result (numbers.new.items ≡ numbers.old.items ++ more.now) }
 {
-    match more {
-        [] => Ok(()),
-        [n, rest @ ..] => {
-            numbers.push(*n)?;
-            add_all(numbers, rest)
-        }
+    for n in more {
+        numbers.push(*n)?;
     }
+    Ok(())
 }
 
 /// The blocked strands whose needs are met by now are ready, by rising number.
@@ -117,10 +109,11 @@ fn ended_count(strands: &[Strand]) -> u64
     ensures count { result ≡ model.ended_count (map strand_of strands.now) }
     ensures most { result ≤ length strands.now }
 {
-    match strands {
-        [] => 0,
-        [strand, rest @ ..] => counted(strand) + ended_count(rest),
+    let mut count = 0;
+    for strand in strands {
+        count += counted(strand);
     }
+    count
 }
 
 /// The running strand has ended.

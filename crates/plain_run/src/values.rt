@@ -2,8 +2,8 @@
 ghost use Rattle.std.specs.Prelude.{◌≡◌, ◌↔◌, IfOk, IsTrue, Some, true};
 ghost use Rattle.operations.specs.declared.operation.Operation.TheVariants as operation;
 ghost use Rattle.value_model.specs.declared.value.Value.TheVariants.{Bool as Truth};
-ghost use Rattle.plain_run.specs.declared.facts.Facts.{Facts as FactsOf};
-ghost use Rattle.plain_run.specs.declared.held.Asker.{Asker as AskerOf};
+ghost use Rattle.plain_run.specs.declared.facts.ProgramFacts.{ProgramFacts as FactsOf};
+ghost use Rattle.plain_run.specs.declared.held.Caller.{Caller as CallerOf};
 ghost use Rattle.plain_run.specs.declared.effect.Effect.TheVariants.{Gives};
 ghost use Rattle.plain_run.specs.declared.effect.Performed.TheVariants.{Done};
 ghost use Rattle.plain_run.specs.Effects.{IsOneInt, IsPerformed, Stays};
@@ -33,11 +33,11 @@ pub fn perform_negate(
     operands: &[Value],
     common: &mut Common,
 ) -> Result<Performed, Memory>
-    ensures row { IfOk result (λ done. (facts : FactsOf) (asker : AskerOf) → IsPerformed facts operation.Negate operands.now asker common.old common.new ⊥ done) }
+    ensures row { IfOk result (λ done. (facts : FactsOf) (caller : CallerOf) → IsPerformed facts operation.Negate operands.now caller common.old common.new ⊥ done) }
     ensures stays { IfOk result (Stays common.old common.new) }
 {
     match one_int(operands) {
-        None => Ok(Performed::Unfit),
+        None => Ok(Performed::Stuck),
         Some(a) => {
             let came = negate(alloc, &mut common.world, a)?;
             Ok(Performed::Done(lifted(came)))
@@ -47,12 +47,12 @@ pub fn perform_negate(
 
 /// `!a`
 pub fn perform_not(operands: &[Value], common: &Common) -> Performed
-    ensures row { (facts : FactsOf) (asker : AskerOf) → IsPerformed facts operation.Not operands.now asker common.now common.now ⊥ result }
+    ensures row { (facts : FactsOf) (caller : CallerOf) → IsPerformed facts operation.Not operands.now caller common.now common.now ⊥ result }
     ensures stays { Stays common.now common.now result }
 {
     match operands {
         [Value::Bool(b)] => told(!*b),
-        _ => Performed::Unfit,
+        _ => Performed::Stuck,
     }
 }
 
@@ -108,15 +108,15 @@ fn compared(how: Comparison, a: &Value, b: &Value) -> Option<bool>
 
 /// `a < b` and `a <= b`
 pub fn perform_compare(how: Comparison, operands: &[Value], common: &Common) -> Performed
-    ensures row { (facts : FactsOf) (asker : AskerOf) → IsPerformed facts (comparison_of how) operands.now asker common.now common.now ⊥ result }
+    ensures row { (facts : FactsOf) (caller : CallerOf) → IsPerformed facts (comparison_of how) operands.now caller common.now common.now ⊥ result }
     ensures stays { Stays common.now common.now result }
 {
     match operands {
         [a, b] => match compared(how, a, b) {
             Some(holds) => told(holds),
-            None => Performed::Unfit,
+            None => Performed::Stuck,
         },
-        _ => Performed::Unfit,
+        _ => Performed::Stuck,
     }
 }
 
@@ -140,11 +140,11 @@ pub fn is_same(a: &Value, b: &Value) -> bool
 
 /// `a === b`
 pub fn perform_same(operands: &[Value], common: &Common) -> Performed
-    ensures row { (facts : FactsOf) (asker : AskerOf) → IsPerformed facts operation.Same operands.now asker common.now common.now ⊥ result }
+    ensures row { (facts : FactsOf) (caller : CallerOf) → IsPerformed facts operation.Same operands.now caller common.now common.now ⊥ result }
     ensures stays { Stays common.now common.now result }
 {
     match operands {
         [a, b] => told(is_same(a, b)),
-        _ => Performed::Unfit,
+        _ => Performed::Stuck,
     }
 }

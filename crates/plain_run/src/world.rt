@@ -1,13 +1,12 @@
 //! The heap's room, and panics.
-ghost use Rattle.std.specs.Prelude.{◌≡◌, ◌+◌, ◌≤◌, ℕ, IfOk, Some, length, nat_le};
-ghost use Rattle.std.specs.List.{sum_by};
+ghost use Rattle.std.specs.Prelude.{◌≡◌, ◌+◌, ◌≤◌, ℕ, IfOk, nat_le};
 ghost use Rattle.value_model.specs.Heap.{cells};
-ghost use Rattle.run_model.specs.Limits.{most_cells};
-ghost use Rattle.run_model.specs.Rows as rows;
+ghost use Rattle.op_model.specs.Limits.{most_cells};
+ghost use Rattle.op_model.specs.Rows as rows;
 ghost use Rattle.plain_run.specs.Held.{heap_of, world_of};
 ghost use Rattle.plain_run.specs.Came.{IsErrorMade, IsLeft, WorldStays, came_of};
 
-use crate::held::{ErrorObject, FunctionObject, Heap, Members, Structure, World};
+use crate::held::{ErrorObject, Heap, Members, Structure, World};
 use bal_base::{Memory, Text};
 use std::alloc::Global;
 use value_model::{PanicName, Value};
@@ -39,26 +38,14 @@ pub fn left_beside(left: Option<u64>, most: u64) -> Option<u64>
     }
 }
 
-/// What structures leave of a room of which so much is left.
-fn beside_structures(structures: &[Structure], start: Option<u64>) -> Option<u64>
-    ensures { (room taken : ℕ) → IsLeft room taken start → IsLeft room (taken + sum_by (λ s. s.greatest + 1) structures.now) result }
+/// What so many cells leave of a room of which so much is left.
+fn left_after(left: Option<u64>, cells: u64) -> Option<u64>
+    ensures { (room taken : ℕ) → IsLeft room taken left → IsLeft room (taken + cells) result }
 {
-    let mut left = start;
-    for s in structures {
-        left = left_beside(left, s.greatest);
+    match left {
+        None => None,
+        Some(some) => some.checked_sub(cells),
     }
-    left
-}
-
-/// What functions leave of a room of which so much is left.
-fn beside_functions(functions: &[FunctionObject], start: Option<u64>) -> Option<u64>
-    ensures { (room taken : ℕ) → IsLeft room taken start → IsLeft room (taken + sum_by (λ f. length f.captured.items + 1) functions.now) result }
-{
-    let mut left = start;
-    for f in functions {
-        left = left_beside(left, f.captured.as_slice().len() as u64);
-    }
-    left
 }
 
 /// The most cells of a heap.
@@ -74,12 +61,12 @@ fn fits(left: Option<u64>, errors: u64, more: u64) -> bool
     }
 }
 
-/// Whether the heap may have so many cells more.
+/// Whether the heap may have so many cells more. Looks at none of what it has.
 fn has_room(heap: &Heap, more: u64) -> bool
     ensures { result ≡ nat_le (cells (heap_of heap.now) + more) most_cells }
 {
-    let left = beside_structures(heap.structures.as_slice(), Some(MOST_CELLS));
-    let left = beside_functions(heap.functions.as_slice(), left);
+    let left = left_after(Some(MOST_CELLS), heap.structures.cells());
+    let left = left_after(left, heap.functions.cells());
     fits(left, heap.errors.as_slice().len() as u64, more)
 }
 
@@ -108,7 +95,7 @@ pub fn make_error(
     if !has_room_for(&world.heap, greatest, 2) {
         return Ok(None);
     }
-    let detail = world.heap.structures.as_slice().len() as u32;
+    let detail = world.heap.structures.len() as u32;
     let number = world.heap.errors.as_slice().len() as u32;
     world.heap.structures.push(Structure {
         atom: None,

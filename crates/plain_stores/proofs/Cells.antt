@@ -6,8 +6,8 @@ use Rattle.std.proofs.lemmas.List.Sums.{sum_by-append, sum_by-cons}
 use Rattle.std.proofs.lemmas.Option.{none-some, same_Some}
 use Rattle.value_model.specs.Heap.{Members, Structure, cells}
 use Rattle.value_model.specs.World.{World}
-use Rattle.run_model.specs.Rows.{size_of}
-use Rattle.run_model.specs.Stores.{stored, with_members}
+use Rattle.op_model.specs.Rows.{size_of}
+use Rattle.op_model.specs.Stores.{stored, with_members}
 
 abbrev taken : Structure → ℕ
 taken s = s.greatest + 1

@@ -8,11 +8,11 @@ use Rattle.value_model.specs.declared.filler.Filler.{Filler}
 use Rattle.value_model.specs.declared.value.Value.{Value}
 use Rattle.value_model.specs.Heap.{Items, Structure, cells}
 use Rattle.value_model.specs.World.{World}
-use Rattle.run_model.specs.Fillers.{filler_structures, filler_values, new_ones}
-use Rattle.run_model.specs.Levels.{all_of, levels}
-use Rattle.run_model.specs.Limits.{most_cells}
-use Rattle.run_model.specs.Rows.{HasItems, next_structure}
-use Rattle.plain_run.specs.declared.facts.Facts.{Facts}
+use Rattle.op_model.specs.Fillers.{filler_structures, filler_values, new_ones}
+use Rattle.op_model.specs.Levels.{all_of, levels}
+use Rattle.op_model.specs.Limits.{most_cells}
+use Rattle.op_model.specs.Rows.{HasItems, next_structure}
+use Rattle.plain_run.specs.declared.facts.ProgramFacts.{ProgramFacts}
 use Rattle.plain_run.specs.declared.held.Structure.{Structure as HeldStructure}
 use Rattle.plain_run.specs.Held.{structure_of}
 use Rattle.plain_stores.specs.declared.made.Made.{Made}
@@ -23,7 +23,7 @@ use Rattle.plain_stores.proofs.Levels.{made-cells}
 
 -- ---- they are made for fillers
 
-module _ (facts : Facts) (w : World) (greatest size first : ℕ) (fs roots : List Filler) (depth : ℕ) (r : roots ≡ new_ones fs) (d : levels all_of (kids facts) roots depth ≡ levels all_of (kids facts) roots (length facts.atoms.now)) where
+module _ (facts : ProgramFacts) (w : World) (greatest size first : ℕ) (fs roots : List Filler) (depth : ℕ) (r : roots ≡ new_ones fs) (d : levels all_of (kids facts) roots depth ≡ levels all_of (kids facts) roots (length facts.atoms.now)) where
   abbrev all : List Filler
   all = levels all_of (kids facts) (new_ones fs) (length facts.atoms.now)
 
@@ -58,7 +58,7 @@ module _ (facts : Facts) (w : World) (greatest size first : ℕ) (fs roots : Lis
 
 -- ---- they are made for a gap
 
-module _ (facts : Facts) (w : World) (s : Structure) (size k : ℕ) (gap : List Filler) (values : List Value) (first behind : ℕ) (g : gap ≡ gap_of facts w s size k) (v : values ≡ filler_values (next_structure w) gap) (n : first ≡ next_structure w + length (new_ones gap)) (b : behind ≡ size_behind size k (length values)) where
+module _ (facts : ProgramFacts) (w : World) (s : Structure) (size k : ℕ) (gap : List Filler) (values : List Value) (first behind : ℕ) (g : gap ≡ gap_of facts w s size k) (v : values ≡ filler_values (next_structure w) gap) (n : first ≡ next_structure w + length (new_ones gap)) (b : behind ≡ size_behind size k (length values)) where
   values-are : values ≡ filler_values (next_structure w) (gap_of facts w s size k)
   values-are = v ∙ ap (filler_values (next_structure w)) g
 
@@ -76,7 +76,7 @@ module _ (facts : Facts) (w : World) (s : Structure) (size k : ℕ) (gap : List 
 
 -- ---- where the structure is a list
 
-pub list-prepared : (facts : Facts) (w : World) (s : Structure) (vs : List Value) (size k : ℕ) (p : Prepared) → s.members ≡ Items vs → size ≡ length vs → IsMaking facts w s size k p → ListIsPrepared facts w s k p
+pub list-prepared : (facts : ProgramFacts) (w : World) (s : Structure) (vs : List Value) (size k : ℕ) (p : Prepared) → s.members ≡ Items vs → size ≡ length vs → IsMaking facts w s size k p → ListIsPrepared facts w s k p
 list-prepared facts w s vs size k Absent m z h = absurd h
 list-prepared facts w s vs size k Passes m z h =
     subst (HasItems (λ us. IsMaking facts w s (length us) k Passes)) (sym m) (subst (λ i. IsMaking facts w s i k Passes) z h)

@@ -5,8 +5,8 @@ use Rattle.std.specs.List.{list_all}
 use Rattle.std.proofs.lemmas.List.{map-append}
 use Rattle.std.proofs.lemmas.List.Folds.{list_all-append}
 use Rattle.value_model.specs.declared.filler.Filler.{Filler}
-use Rattle.run_model.specs.Fillers.{filler_at, fillers_from}
-use Rattle.run_model.specs.Levels.{numbers_from}
+use Rattle.op_model.specs.Fillers.{filler_at, fillers_from}
+use Rattle.op_model.specs.Levels.{numbers_from}
 use Rattle.plain_stores.specs.Fillers.{is_there}
 
 -- ---- one place

@@ -8,11 +8,11 @@ use Rattle.std.proofs.lemmas.List.Sums.{sum_by-append, sum_by-cons}
 use Rattle.value_model.specs.declared.filler.Filler.{Filler}
 use Rattle.value_model.specs.declared.filler.Filler.TheVariants.{Nothing, Nil as NilFiller, Bool as BoolFiller, Int as IntFiller, Str as StrFiller, List as NewList, Mapping as NewMapping}
 use Rattle.value_model.specs.Heap.{Entries, Items, Structure}
-use Rattle.run_model.specs.Fillers.{filler_structures, filler_values, new_ones}
-use Rattle.run_model.specs.Levels.{all_of, levels}
-use Rattle.run_model.specs.Rows.{new_structure}
-use Rattle.run_model.specs.Limits.{most_cells}
-use Rattle.plain_run.specs.declared.facts.Facts.{Facts}
+use Rattle.op_model.specs.Fillers.{filler_structures, filler_values, new_ones}
+use Rattle.op_model.specs.Levels.{all_of, levels}
+use Rattle.op_model.specs.Rows.{new_structure}
+use Rattle.op_model.specs.Limits.{most_cells}
+use Rattle.plain_run.specs.declared.facts.ProgramFacts.{ProgramFacts}
 use Rattle.plain_run.specs.Came.{IsLeft}
 use Rattle.plain_stores.specs.Changes.{filler_cells, fixed_of, kids}
 use Rattle.plain_stores.specs.Fillers.{is_there}
@@ -47,7 +47,7 @@ levels-end kids_of made level depth i l =
 
 -- ---- the structures of one filler after another
 
-module _ (facts : Facts) where
+module _ (facts : ProgramFacts) where
   abbrev made : ℕ → List Filler → List Structure
   made n fs = filler_structures (fixed_of facts) n fs
 
@@ -135,7 +135,7 @@ module _ (facts : Facts) where
 
 -- ---- a loop over levels
 
-module _ (facts : Facts) (made level all : List Filler) (depth i : ℕ) (l : i < depth) (h : made ++ levels all_of (kids facts) level (depth - i) ≡ all) where
+module _ (facts : ProgramFacts) (made level all : List Filler) (depth i : ℕ) (l : i < depth) (h : made ++ levels all_of (kids facts) level (depth - i) ≡ all) where
   abbrev rest : List Filler
   rest = levels all_of (kids facts) (flat_map (kids facts) level) (depth - (i + 1))
 

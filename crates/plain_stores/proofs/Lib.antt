@@ -2,6 +2,7 @@ pub mod Cells
 pub mod Changed
 pub mod Fitted
 pub mod Gapped
+pub mod Leaving
 pub mod Levels
 pub mod Performed
 pub mod Pushed

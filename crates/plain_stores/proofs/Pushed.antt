@@ -13,10 +13,10 @@ use Rattle.value_model.specs.PanicName.{panic_message}
 use Rattle.value_model.specs.Heap.{Items, Structure, cells}
 use Rattle.value_model.specs.Stands.{BelongsIf, OwnTypes}
 use Rattle.value_model.specs.World.{World, Came, Gave, Threw, PassesCells}
-use Rattle.run_model.specs.Fillers.{IsThereFiller, filler_structures, filler_values, fillers_from, inner_fillers, new_ones}
-use Rattle.run_model.specs.Limits.{most_cells, most_items}
-use Rattle.run_model.specs.Rows.{Else, Unless, gives_nothing, makes_error, next_error, next_structure, panics, with_structures, within}
-use Rattle.run_model.specs.Stores.{StoresAt, atom_of, fillers_of, fixed_fillers, item_stored, set_item, stored, structures_for, type_at_place, with_members}
+use Rattle.op_model.specs.Fillers.{IsThereFiller, filler_structures, filler_values, fillers_from, inner_fillers, new_ones}
+use Rattle.op_model.specs.Limits.{most_cells, most_items}
+use Rattle.op_model.specs.Rows.{Else, Unless, gives_nothing, makes_error, next_error, next_structure, panics, with_structures, within}
+use Rattle.op_model.specs.Stores.{StoresAt, atom_of, fillers_of, fixed_fillers, item_stored, set_item, stored, structures_for, type_at_place, with_members}
 use Rattle.plain_stores.proofs.Levels.{levels-none}
 use Rattle.plain_stores.specs.Changes.{all_but_last, changed_at, taken_back}
 

@@ -7,17 +7,17 @@ use Rattle.value_model.specs.declared.value.Value.{Value}
 use Rattle.value_model.specs.Heap.{Entries, Items, Members, Structure}
 use Rattle.value_model.specs.Stands.{OwnTypes}
 use Rattle.value_model.specs.World as model
-use Rattle.run_model.specs.Facts.{own_types}
-use Rattle.run_model.specs.Library.{Pushes, Then}
-use Rattle.run_model.specs.Rows.{HasItems, ListAt, StructureAt, with_structures}
-use Rattle.run_model.specs.Stores.{StoresAt}
-use Rattle.run_model.proofs.LibraryOnce.{StoresAt-one}
-use Rattle.run_model.proofs.Once.{ListAt-one}
-use Rattle.plain_run.specs.declared.facts.Facts.{Facts}
+use Rattle.op_model.specs.ProgramFacts.{own_types}
+use Rattle.op_model.specs.Library.{Pushes, Then}
+use Rattle.op_model.specs.Rows.{HasItems, ListAt, StructureAt, with_structures}
+use Rattle.op_model.specs.Stores.{StoresAt}
+use Rattle.op_model.proofs.LibraryOnce.{StoresAt-one}
+use Rattle.op_model.proofs.Once.{ListAt-one}
+use Rattle.plain_run.specs.declared.facts.ProgramFacts.{ProgramFacts}
 use Rattle.plain_run.specs.declared.held.World.{World}
 use Rattle.plain_run.specs.declared.world.Came.TheVariants.{Gave, Threw, PassesCells}
 use Rattle.plain_run.specs.Came.{came_of}
-use Rattle.plain_run.specs.Facts.{facts_of}
+use Rattle.plain_run.specs.ProgramFacts.{facts_of}
 use Rattle.plain_run.specs.Held.{world_of}
 use Rattle.plain_structures.specs.declared.answer.Tried.{Tried}
 use Rattle.plain_structures.specs.declared.answer.Tried.TheVariants as tries
@@ -44,7 +44,7 @@ list-any w n P R f h = by (slice_get w.heap.structures n) refl h
     by (Some s) e h = inside s e s.members refl h
     by None e h = absurd h
 
-module _ (facts : Facts) (n : ℕ) (v : Value) (vs : List Value) (old : World) (end : End) (e : IsEnd (world_of old) n (Some end)) where
+module _ (facts : ProgramFacts) (n : ℕ) (v : Value) (vs : List Value) (old : World) (end : End) (e : IsEnd (world_of old) n (Some end)) where
   abbrev own : OwnTypes
   own = own_types (facts_of facts)
 
@@ -83,8 +83,8 @@ module _ (facts : Facts) (n : ℕ) (v : Value) (vs : List Value) (old : World) (
   push-stops (tries.Came (Gave x)) new g h = absurd (true-false g)
   push-stops (tries.Came (Threw x)) new g h = (came_of (Threw x) new, first-to (came_of (Threw x) new) h, refl)
   push-stops (tries.Came PassesCells) new g h = (model.PassesCells, first-to model.PassesCells h, refl)
-  push-stops tries.Unfit new g h = λ came p. h p.0 (first-from p.0 p.1)
-  push-stops tries.Untold new g h = inl (beyond-to h)
+  push-stops tries.Stuck new g h = λ came p. h p.0 (first-from p.0 p.1)
+  push-stops tries.Undecided new g h = inl (beyond-to h)
 
   -- ---- the first one gave something
 
@@ -92,8 +92,8 @@ module _ (facts : Facts) (n : ℕ) (v : Value) (vs : List Value) (old : World) (
   given-is (tries.Came (Gave x)) mid g h = (option_to_list x, h)
   given-is (tries.Came (Threw x)) mid g h = absurd (true-false (sym g))
   given-is (tries.Came PassesCells) mid g h = absurd (true-false (sym g))
-  given-is tries.Unfit mid g h = absurd (true-false (sym g))
-  given-is tries.Untold mid g h = absurd (true-false (sym g))
+  given-is tries.Stuck mid g h = absurd (true-false (sym g))
+  given-is tries.Undecided mid g h = absurd (true-false (sym g))
 
   abbrev undone : model.World → model.World
   undone w = with_structures w (changed_at (taken_back end.greatest) w.heap.structures n)
@@ -121,15 +121,15 @@ module _ (facts : Facts) (n : ℕ) (v : Value) (vs : List Value) (old : World) (
     goes (tries.Came (Threw x)) mid2 new h u =
         (model.Gave given (world_of mid), first-to _ first, subst (λ w. Pushes own n vs (world_of mid) (model.Threw x w)) (sym u) h)
     goes (tries.Came PassesCells) mid2 new h u = (model.Gave given (world_of mid), first-to _ first, h)
-    goes tries.Unfit mid2 new h u = λ came p. h came (subst (λ x. Then (Pushes own n vs) x came) (is-first p.0 p.1) p.2)
-    goes tries.Untold mid2 new h u = inr (mid, nothing-given, h)
+    goes tries.Stuck mid2 new h u = λ came p. h came (subst (λ x. Then (Pushes own n vs) x came) (is-first p.0 p.1) p.2)
+    goes tries.Undecided mid2 new h u = inr (mid, nothing-given, h)
 
     keeps : (behind : Tried) (mid2 new : World) → TriedStays mid mid2 behind → world_of new ≡ (if is_undone behind then undone (world_of mid2) else world_of mid2) → TriedStays old new behind
     keeps (tries.Came (Gave x)) mid2 new h u = tt
     keeps (tries.Came (Threw x)) mid2 new h u = tt
     keeps (tries.Came PassesCells) mid2 new h u = u ∙ (ap undone h ∙ back)
-    keeps tries.Unfit mid2 new h u = u ∙ (ap undone h ∙ back)
-    keeps tries.Untold mid2 new h u = u ∙ (ap undone h ∙ back)
+    keeps tries.Stuck mid2 new h u = u ∙ (ap undone h ∙ back)
+    keeps tries.Undecided mid2 new h u = u ∙ (ap undone h ∙ back)
 
   pub push-goes : (first behind : Tried) (mid mid2 new : World) → has_given first ≡ true → IsTried (StoresItem facts old n end.size v) (StoreIsBeyond facts old n (Some end.size) v) mid first → IsTried (Pushes own n vs (world_of mid)) (PushesAreBeyond facts n vs mid) mid2 behind → world_of new ≡ (if is_undone behind then undone (world_of mid2) else world_of mid2) → IsTried (Pushes own n (v ∷ vs) (world_of old)) (PushesAreBeyond facts n (v ∷ vs) old) new behind
   push-goes first behind mid mid2 new g f h u = let it = given-is first mid g f in goes mid it.0 it.1 behind mid2 new h u

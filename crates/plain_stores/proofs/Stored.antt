@@ -8,13 +8,13 @@ use Rattle.type_model.specs.Places.{is_same_text}
 use Rattle.value_model.specs.declared.value.Value.{Value}
 use Rattle.value_model.specs.Heap.{Entries, Items, Members, Structure, cells, entry_at}
 use Rattle.value_model.specs.World.{World, Gave, PassesCells}
-use Rattle.run_model.specs.Facts.{own_types}
-use Rattle.run_model.specs.Fillers.{filler_values}
-use Rattle.run_model.specs.Limits.{most_cells}
-use Rattle.run_model.specs.Rows.{HasEntries, HasItems, StructureAt, gives_nothing, next_structure, size_of, with_structures, within}
-use Rattle.run_model.specs.Stores.{item_stored, set_entry, set_item, stored, with_members}
-use Rattle.plain_run.specs.declared.facts.Facts.{Facts}
-use Rattle.plain_run.specs.Facts.{facts_of}
+use Rattle.op_model.specs.ProgramFacts.{own_types}
+use Rattle.op_model.specs.Fillers.{filler_values}
+use Rattle.op_model.specs.Limits.{most_cells}
+use Rattle.op_model.specs.Rows.{HasEntries, HasItems, StructureAt, gives_nothing, next_structure, size_of, with_structures, within}
+use Rattle.op_model.specs.Stores.{item_stored, set_entry, set_item, stored, with_members}
+use Rattle.plain_run.specs.declared.facts.ProgramFacts.{ProgramFacts}
+use Rattle.plain_run.specs.ProgramFacts.{facts_of}
 use Rattle.plain_run.specs.Held.{structure_of}
 use Rattle.plain_stores.specs.declared.making.Making.{Making}
 use Rattle.plain_stores.specs.declared.making.Prepared.TheVariants.{Passes, Makes}
@@ -67,7 +67,7 @@ module _ (w : World) (n : ℕ) (s : Structure) (m : Members) (more : List Struct
 
 -- ---- at a place of a list
 
-module _ (facts : Facts) (w : World) (n : ℕ) (s : Structure) (vs : List Value) (k : ℕ) (v : Value) (e : slice_get w.heap.structures n ≡ Some s) (m : s.members ≡ Items vs) where
+module _ (facts : ProgramFacts) (w : World) (n : ℕ) (s : Structure) (vs : List Value) (k : ℕ) (v : Value) (e : slice_get w.heap.structures n ≡ Some s) (m : s.members ≡ Items vs) where
   abbrev item-world : World
   item-world = item_stored (own_types (facts_of facts)) (facts_of facts).fillers w n s vs k v
 
@@ -131,7 +131,7 @@ module _ (w : World) (n : ℕ) where
 
 -- ---- what was prepared for the list with the number
 
-module _ (facts : Facts) (w : World) (n k : ℕ) where
+module _ (facts : ProgramFacts) (w : World) (n k : ℕ) where
   pub prepared-past : (v : Value) → IsPrepared facts w n k Passes → StructureAt w n (λ s. HasItems (λ vs. PassesCells ≡ within (gives_nothing (item_stored (own_types (facts_of facts)) (facts_of facts).fillers w n s vs k v))) s.members)
   prepared-past v h =
       list-row w n (λ s vs. room_of facts w s (length vs) k ≡ false) (λ s vs. PassesCells ≡ within (gives_nothing (item_stored (own_types (facts_of facts)) (facts_of facts).fillers w n s vs k v))) (λ s vs e m r. item-past facts w n s vs k v e m r) h

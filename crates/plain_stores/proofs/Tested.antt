@@ -14,20 +14,20 @@ use Rattle.value_model.specs.declared.value.Value.{Value}
 use Rattle.value_model.specs.Heap.{Entries, Items, Members, Structure}
 use Rattle.value_model.specs.Stands.{BelongsIf}
 use Rattle.value_model.specs.World as model
-use Rattle.run_model.specs.Facts.{own_types}
-use Rattle.run_model.specs.Fillers.{IsThereFiller, fillers_from}
-use Rattle.run_model.specs.Limits.{most_items}
-use Rattle.run_model.specs.Rows.{Else, HasEntries, HasItems, StructureAt, Unless, gives_nothing, panics, within}
-use Rattle.run_model.specs.Stores.{StoresAt, StoresKey, item_stored, set_entry, stored}
-use Rattle.plain_run.specs.declared.facts.Facts.{Facts}
+use Rattle.op_model.specs.ProgramFacts.{own_types}
+use Rattle.op_model.specs.Fillers.{IsThereFiller, fillers_from}
+use Rattle.op_model.specs.Limits.{most_items}
+use Rattle.op_model.specs.Rows.{Else, HasEntries, HasItems, StructureAt, Unless, gives_nothing, panics, within}
+use Rattle.op_model.specs.Stores.{StoresAt, StoresKey, item_stored, set_entry, stored}
+use Rattle.plain_run.specs.declared.facts.ProgramFacts.{ProgramFacts}
 use Rattle.plain_run.specs.declared.held.Heap.{Heap}
 use Rattle.plain_run.specs.declared.held.Structure.{Structure as HeldStructure}
 use Rattle.plain_run.specs.declared.held.World.{World}
-use Rattle.plain_run.specs.Facts.{facts_of}
+use Rattle.plain_run.specs.ProgramFacts.{facts_of}
 use Rattle.plain_run.specs.Held.{structure_of, world_of}
 use Rattle.plain_tests.specs.Tells.{TellsIf}
 use Rattle.plain_stores.specs.declared.tests.Test.{Test}
-use Rattle.plain_stores.specs.declared.tests.Test.TheVariants.{Absent, Panics, Untold, Passed}
+use Rattle.plain_stores.specs.declared.tests.Test.TheVariants.{Absent, Panics, Undecided, Passed}
 use Rattle.plain_stores.specs.Fillers.{is_there as has_filler}
 use Rattle.plain_stores.specs.Questions.{KeyIsBeyond, PlaceIsBeyond}
 use Rattle.plain_stores.specs.Tests.{GapRow, HoldRow, IsTested, KeyRow, ListComes, ListIsBeyond, ListRow, MappingComes, MappingIsBeyond, MappingRow, MayHold, PlaceRow, TellsHold}
@@ -35,16 +35,16 @@ use Rattle.plain_stores.specs.Tests.{GapRow, HoldRow, IsTested, KeyRow, ListCome
 -- ---- the structure with a number
 
 module _ (w : World) (n : ℕ) where
-  found : (o : Option HeldStructure) → slice_get w.heap.structures.items n ≡ o → slice_get (world_of w).heap.structures n ≡ option_map structure_of o
-  found o e = slice_get-map structure_of w.heap.structures.items n ∙ ap (option_map structure_of) e
+  found : (o : Option HeldStructure) → slice_get w.heap.structures n ≡ o → slice_get (world_of w).heap.structures n ≡ option_map structure_of o
+  found o e = slice_get-map structure_of w.heap.structures n ∙ ap (option_map structure_of) e
 
-  pub tested-there : (P Q : Structure → model.Came → Type 0) (C : Structure → Type 0) (v : model.World) (t : Test) (s : HeldStructure) → slice_get w.heap.structures.items n ≡ Some s → IsTested (P (structure_of s)) (Q (structure_of s)) v (C (structure_of s)) t → IsTested (λ came. StructureAt (world_of w) n (λ x. P x came)) (λ came. StructureAt (world_of w) n (λ x. Q x came)) v (StructureAt (world_of w) n C) t
+  pub tested-there : (P Q : Structure → model.Came → Type 0) (C : Structure → Type 0) (v : model.World) (t : Test) (s : HeldStructure) → slice_get w.heap.structures n ≡ Some s → IsTested (P (structure_of s)) (Q (structure_of s)) v (C (structure_of s)) t → IsTested (λ came. StructureAt (world_of w) n (λ x. P x came)) (λ came. StructureAt (world_of w) n (λ x. Q x came)) v (StructureAt (world_of w) n C) t
   tested-there P Q C v t s e h =
       subst (λ o. IsTested (λ came. IsSomeAnd o (λ x. P x came)) (λ came. IsSomeAnd o (λ x. Q x came)) v (IsSomeAnd o C) t) (sym (found (Some s) e)) h
 
 -- ---- a structure that is a list, or a mapping
 
-module _ (facts : Facts) (w : World) (n : ℕ) (s : Structure) where
+module _ (facts : ProgramFacts) (w : World) (n : ℕ) (s : Structure) where
   abbrev row-of : ℕ → Value → Members → model.Came → Type 0
   row-of k v x came = HasItems (λ vs. StoresAt (own_types (facts_of facts)) (facts_of facts).fillers (world_of w) n s vs (Some k) v came) x
 
@@ -71,7 +71,7 @@ module _ (facts : Facts) (w : World) (n : ℕ) (s : Structure) where
 
 -- ---- what a structure may hold
 
-module _ (facts : Facts) (w : World) (s : Structure) (t : Option Ty) (v : Value) where
+module _ (facts : ProgramFacts) (w : World) (s : Structure) (t : Option Ty) (v : Value) where
   abbrev Violation : model.Came
   Violation = panics (world_of w) InherentTypeViolation
 
@@ -85,7 +85,7 @@ module _ (facts : Facts) (w : World) (s : Structure) (t : Option Ty) (v : Value)
   pub held-tested : (behind passed : model.Came → Type 0) (cause : Type 0) (test : Test) → MayHold facts w.heap s.mutable t v → IsTested behind passed (world_of w) ⊥ test → IsTested (HoldRow facts w s t v behind) passed (world_of w) cause test
   held-tested behind passed cause Absent m h = λ came. ⊎_elim (λ u. ⊎_elim (λ x. h came x.1) (λ x. x.0 m.1) u.1) (λ u. u.0 m.0)
   held-tested behind passed cause (Panics name) m h = inl (m.0, inl (m.1, h))
-  held-tested behind passed cause Untold m h = absurd h
+  held-tested behind passed cause Undecided m h = absurd h
   held-tested behind passed cause Passed m h = λ came p. inl (m.0, inl (m.1, h came p))
 
 -- ---- the tests of a gap
@@ -109,11 +109,11 @@ module _ (w : model.World) (fs : List Filler) (size k : ℕ) (final : model.Came
 
 -- ---- what is told, in other words
 
-pub hold-told : (facts : Facts) (h : Heap) (mutable : Bool) (wanted t : Option Ty) (v : Value) (o : Option Bool) (b told : Bool) → wanted ≡ t → o ≡ Some b → b ≡ told → TellsHold facts h mutable wanted v o → TellsHold facts h mutable t v (Some told)
+pub hold-told : (facts : ProgramFacts) (h : Heap) (mutable : Bool) (wanted t : Option Ty) (v : Value) (o : Option Bool) (b told : Bool) → wanted ≡ t → o ≡ Some b → b ≡ told → TellsHold facts h mutable wanted v o → TellsHold facts h mutable t v (Some told)
 hold-told facts h mutable wanted t v o b told e i j k =
     subst (λ x. TellsHold facts h mutable t v (Some x)) j (subst (TellsHold facts h mutable t v) i (subst (λ x. TellsHold facts h mutable x v o) e k))
 
 -- of a structure that is mutable it is told of the value alone
-pub mutable-told : (facts : Facts) (h : Heap) (mutable : Bool) (t : Option Ty) (v : Value) (told : Option Bool) → mutable ≡ true → TellsIf facts h v t told → TellsHold facts h mutable t v told
+pub mutable-told : (facts : ProgramFacts) (h : Heap) (mutable : Bool) (t : Option Ty) (v : Value) (told : Option Bool) → mutable ≡ true → TellsIf facts h v t told → TellsHold facts h mutable t v told
 mutable-told facts h mutable t v (Some holds) m is = (λ b. (m, is.0 b), λ may. is.1 may.1)
 mutable-told facts h mutable t v None m is = (m, is)

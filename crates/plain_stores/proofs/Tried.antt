@@ -5,14 +5,14 @@ use Rattle.bal_base.specs.declared.text.Text.{Text}
 use Rattle.value_model.specs.declared.value.Value.{Value}
 use Rattle.value_model.specs.Heap.{Entries, Items, Members, Structure}
 use Rattle.value_model.specs.World as model
-use Rattle.run_model.specs.Facts.{own_types}
-use Rattle.run_model.specs.Rows.{HasEntries, HasItems, ListAt, StructureAt}
-use Rattle.run_model.specs.Stores.{StoresAt}
-use Rattle.plain_run.specs.declared.facts.Facts.{Facts}
+use Rattle.op_model.specs.ProgramFacts.{own_types}
+use Rattle.op_model.specs.Rows.{HasEntries, HasItems, ListAt, StructureAt}
+use Rattle.op_model.specs.Stores.{StoresAt}
+use Rattle.plain_run.specs.declared.facts.ProgramFacts.{ProgramFacts}
 use Rattle.plain_run.specs.declared.held.World.{World}
 use Rattle.plain_run.specs.declared.world.Came.{Came}
 use Rattle.plain_run.specs.Came.{came_of}
-use Rattle.plain_run.specs.Facts.{facts_of}
+use Rattle.plain_run.specs.ProgramFacts.{facts_of}
 use Rattle.plain_run.specs.Held.{world_of}
 use Rattle.plain_structures.specs.declared.answer.Tried.{Tried}
 use Rattle.plain_structures.specs.declared.answer.Tried.TheVariants as tries
@@ -51,10 +51,10 @@ module _ (w : model.World) (n : ℕ) where
 -- with another cause
 pub tried-cause : (row : model.Came → Type 0) (C D : Type 0) (w : World) (t : Tried) → (C → D) → IsTried row C w t → IsTried row D w t
 tried-cause row C D w (tries.Came came) f h = h
-tried-cause row C D w tries.Unfit f h = h
-tried-cause row C D w tries.Untold f h = f h
+tried-cause row C D w tries.Stuck f h = h
+tried-cause row C D w tries.Undecided f h = f h
 
 -- at another place that is the same
-pub tried-place : (facts : Facts) (w new : World) (n : ℕ) (v : Value) (p q : Option ℕ) (t : Tried) → p ≡ q → IsTried (λ came. ListAt (world_of w) n (λ s vs. StoresAt (own_types (facts_of facts)) (facts_of facts).fillers (world_of w) n s vs p v came)) (StoreIsBeyond facts w n p v) new t → IsTried (λ came. ListAt (world_of w) n (λ s vs. StoresAt (own_types (facts_of facts)) (facts_of facts).fillers (world_of w) n s vs q v came)) (StoreIsBeyond facts w n q v) new t
+pub tried-place : (facts : ProgramFacts) (w new : World) (n : ℕ) (v : Value) (p q : Option ℕ) (t : Tried) → p ≡ q → IsTried (λ came. ListAt (world_of w) n (λ s vs. StoresAt (own_types (facts_of facts)) (facts_of facts).fillers (world_of w) n s vs p v came)) (StoreIsBeyond facts w n p v) new t → IsTried (λ came. ListAt (world_of w) n (λ s vs. StoresAt (own_types (facts_of facts)) (facts_of facts).fillers (world_of w) n s vs q v came)) (StoreIsBeyond facts w n q v) new t
 tried-place facts w new n v p q t e h =
     subst (λ o. IsTried (λ came. ListAt (world_of w) n (λ s vs. StoresAt (own_types (facts_of facts)) (facts_of facts).fillers (world_of w) n s vs o v came)) (StoreIsBeyond facts w n o v) new t) e h

@@ -6,7 +6,7 @@ use Rattle.value_model.specs.declared.filler.Filler.{Filler}
 use Rattle.value_model.specs.declared.filler.Filler.TheVariants.{Nothing, Nil as NilFiller, Bool as BoolFiller, Int as IntFiller, Str as StrFiller, List as NewList, Mapping as NewMapping}
 use Rattle.value_model.specs.declared.value.Value.{Value}
 use Rattle.value_model.specs.declared.value.Value.TheVariants.{Nil, Bool as Truth, Int, Str, Struct}
-use Rattle.run_model.specs.Fillers.{filler_values, is_new, new_ones}
+use Rattle.op_model.specs.Fillers.{filler_values, is_new, new_ones}
 
 -- ---- how many new ones there are
 

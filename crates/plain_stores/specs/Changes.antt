@@ -8,16 +8,16 @@ use Rattle.value_model.specs.declared.filler.Filler.TheVariants.{Nothing, Nil as
 use Rattle.value_model.specs.declared.value.Value.{Value}
 use Rattle.value_model.specs.Heap.{Entries, Items, Members, Structure, cells, entry_at}
 use Rattle.value_model.specs.World.{World}
-use Rattle.run_model.specs.Facts.{own_types}
-use Rattle.run_model.specs.Fillers.{filler_structures, filler_values, fillers_from, inner_fillers, new_ones}
-use Rattle.run_model.specs.Levels.{all_of, levels}
-use Rattle.run_model.specs.Limits.{most_cells}
-use Rattle.run_model.specs.Rows.{HasEntries, HasItems, StructureAt, next_structure}
-use Rattle.run_model.specs.Stores.{fillers_of, fixed_fillers, set_entry, set_item, structures_for, with_members}
-use Rattle.plain_run.specs.declared.facts.Facts.{Facts}
+use Rattle.op_model.specs.ProgramFacts.{own_types}
+use Rattle.op_model.specs.Fillers.{filler_structures, filler_values, fillers_from, inner_fillers, new_ones}
+use Rattle.op_model.specs.Levels.{all_of, levels}
+use Rattle.op_model.specs.Limits.{most_cells}
+use Rattle.op_model.specs.Rows.{HasEntries, HasItems, StructureAt, next_structure}
+use Rattle.op_model.specs.Stores.{fillers_of, fixed_fillers, set_entry, set_item, structures_for, with_members}
+use Rattle.plain_run.specs.declared.facts.ProgramFacts.{ProgramFacts}
 use Rattle.plain_run.specs.declared.held.Structure.{Structure as HeldStructure}
 use Rattle.plain_run.specs.Came.{IsLeft}
-use Rattle.plain_run.specs.Facts.{facts_of}
+use Rattle.plain_run.specs.ProgramFacts.{facts_of}
 use Rattle.plain_run.specs.Held.{structure_of}
 use Rattle.plain_stores.specs.Fillers.{is_there}
 use Rattle.plain_stores.specs.declared.making.Prepared.{Prepared}
@@ -31,22 +31,22 @@ use Rattle.plain_run.specs.declared.world.Came.TheVariants.{Gave, Threw, PassesC
 
 -- ---- fillers of atoms
 
-abbrev pub atom_fillers : Facts → Option ℕ → List Filler
+abbrev pub atom_fillers : ProgramFacts → Option ℕ → List Filler
 atom_fillers facts (Some a) = (facts_of facts).fillers a
 atom_fillers facts None = []
 
 -- ---- structures that are made for fillers
 
 -- the fillers of the fixed places of an atom of lists
-abbrev pub fixed_of : Facts → ℕ → List Filler
+abbrev pub fixed_of : ProgramFacts → ℕ → List Filler
 fixed_of facts a = fixed_fillers (own_types (facts_of facts)) (facts_of facts).fillers a
 
 -- the structures that the members of a new one ask for
-abbrev pub kids : Facts → Filler → List Filler
+abbrev pub kids : ProgramFacts → Filler → List Filler
 kids facts f = new_ones (inner_fillers (fixed_of facts) f)
 
 -- the cells of the structure that is made for a filler
-abbrev pub filler_cells : Facts → Filler → ℕ
+abbrev pub filler_cells : ProgramFacts → Filler → ℕ
 filler_cells facts Nothing = 0
 filler_cells facts NilFiller = 0
 filler_cells facts (BoolFiller b) = 0
@@ -56,7 +56,7 @@ filler_cells facts (NewList a) = count_by is_there (fixed_of facts a) + 1
 filler_cells facts (NewMapping a) = 1
 
 -- all these are made, level by level, where so much of the room of a heap is left; or it is too small for them
-abbrev pub AreMade : Facts → List Filler → ℕ → Option Made → Type 0
+abbrev pub AreMade : ProgramFacts → List Filler → ℕ → Option Made → Type 0
 AreMade facts roots depth (Some made) =
     (made.fillers.items ≡ levels all_of (kids facts) roots depth)
     × IsLeft most_cells (sum_by (filler_cells facts) (levels all_of (kids facts) roots depth)) (Some made.left)
@@ -78,17 +78,17 @@ has_place w greatest size more = nat_le (cells w.heap + ((size - greatest) + sum
 
 -- the structures that are made for fillers, where those that are made for the members of the first ones are numbered from
 -- one on
-abbrev pub made_from : Facts → ℕ → List Filler → List Structure
+abbrev pub made_from : ProgramFacts → ℕ → List Filler → List Structure
 made_from facts first fs =
     filler_structures (fixed_of facts) first (levels all_of (kids facts) (new_ones fs) (length facts.atoms.now))
 
 -- they are these, and there is room for them and for a structure that grows so; or there is none
-abbrev pub AreFor : Facts → World → ℕ → ℕ → List Filler → ℕ → Option (Vec HeldStructure Global) → Type 0
+abbrev pub AreFor : ProgramFacts → World → ℕ → ℕ → List Filler → ℕ → Option (Vec HeldStructure Global) → Type 0
 AreFor facts w greatest size fs first (Some made) =
     (map structure_of made.items ≡ made_from facts first fs) × (has_place w greatest size (made_from facts first fs) ≡ true)
 AreFor facts w greatest size fs first None = has_place w greatest size (made_from facts first fs) ≡ false
 
-module _ (facts : Facts) (w : World) (s : Structure) (size k : ℕ) where
+module _ (facts : ProgramFacts) (w : World) (s : Structure) (size k : ℕ) where
   abbrev pub gap_of : List Filler
   gap_of = fillers_from (fillers_of (own_types (facts_of facts)) (facts_of facts).fillers s) size (k - size)
 
@@ -106,13 +106,13 @@ module _ (facts : Facts) (w : World) (s : Structure) (size k : ℕ) where
       (making.gap.items ≡ filler_values (next_structure w) gap_of) × (map structure_of making.more.items ≡ made_of) × (room_of ≡ true)
 
 -- the same of a structure that may be a list
-abbrev pub ListIsPrepared : Facts → World → Structure → ℕ → Prepared → Type 0
+abbrev pub ListIsPrepared : ProgramFacts → World → Structure → ℕ → Prepared → Type 0
 ListIsPrepared facts w s k Absent = ¬ (HasItems (λ vs. ⊤) s.members)
 ListIsPrepared facts w s k Passes = HasItems (λ vs. IsMaking facts w s (length vs) k Passes) s.members
 ListIsPrepared facts w s k (Makes making) = HasItems (λ vs. IsMaking facts w s (length vs) k (Makes making)) s.members
 
 -- and of the structure with the number
-abbrev pub IsPrepared : Facts → World → ℕ → ℕ → Prepared → Type 0
+abbrev pub IsPrepared : ProgramFacts → World → ℕ → ℕ → Prepared → Type 0
 IsPrepared facts w n k Absent = ¬ (StructureAt w n (λ s. HasItems (λ vs. ⊤) s.members))
 IsPrepared facts w n k Passes = StructureAt w n (λ s. ListIsPrepared facts w s k Passes)
 IsPrepared facts w n k (Makes making) = StructureAt w n (λ s. ListIsPrepared facts w s k (Makes making))
@@ -182,17 +182,17 @@ abbrev pub has_given : Tried → Bool
 has_given (tries.Came (Gave v)) = true
 has_given (tries.Came (Threw e)) = false
 has_given (tries.Came PassesCells) = false
-has_given tries.Unfit = false
-has_given tries.Untold = false
+has_given tries.Stuck = false
+has_given tries.Undecided = false
 
 abbrev pub is_undone : Tried → Bool
 is_undone (tries.Came (Gave v)) = false
 is_undone (tries.Came (Threw e)) = false
 is_undone (tries.Came PassesCells) = true
-is_undone tries.Unfit = true
-is_undone tries.Untold = true
+is_undone tries.Stuck = true
+is_undone tries.Undecided = true
 
 -- as it is tried, what came of a row
 abbrev pub tried_of : Option Came → Tried
 tried_of (Some came) = tries.Came came
-tried_of None = tries.Unfit
+tried_of None = tries.Stuck

@@ -1,7 +1,7 @@
 //! Values of fillers, where new structures get numbers in turn.
 ghost use Rattle.std.specs.Prelude.{◌≡◌, ◌+◌, ◌++◌, ◌∷◌, [], IfOk, OnOk, length};
 ghost use Rattle.value_model.specs.declared.value.Value.TheVariants.{Struct};
-ghost use Rattle.run_model.specs.Fillers as model;
+ghost use Rattle.op_model.specs.Fillers as model;
 
 use bal_base::Memory;
 use std::alloc::Global;

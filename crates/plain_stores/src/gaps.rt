@@ -3,15 +3,15 @@
 
 ghost use Rattle.std.specs.Prelude.{◌≡◌, ◌-◌, ◌++◌, ◌∷◌, [], ◌↔◌, IfOk, IsTrue, OnOk, get_or, take};
 ghost use Rattle.std.specs.List.{list_all};
-ghost use Rattle.run_model.specs.Fillers as model;
-ghost use Rattle.run_model.specs.Fillers.{is_new};
-ghost use Rattle.run_model.specs.Stores as stores;
-ghost use Rattle.plain_run.specs.Facts.{facts_of};
+ghost use Rattle.op_model.specs.Fillers as model;
+ghost use Rattle.op_model.specs.Fillers.{is_new};
+ghost use Rattle.op_model.specs.Stores as stores;
+ghost use Rattle.plain_run.specs.ProgramFacts.{facts_of};
 ghost use Rattle.plain_stores.specs.Changes as changes;
 ghost use Rattle.plain_stores.specs.Fillers.{is_there};
 
 use bal_base::Memory;
-use plain_run::Facts;
+use plain_run::ProgramFacts;
 use std::alloc::Global;
 use type_model::AtomDef;
 use value_model::Filler;
@@ -19,7 +19,7 @@ use value_model::Filler;
 // ---- fillers of atoms
 
 /// The fillers of the fixed places of an atom of lists, and then that of its rest.
-fn fillers_for<'a>(facts: &'a Facts<'_>, atom: u32) -> &'a [Filler]
+fn fillers_for<'a>(facts: &'a ProgramFacts<'_>, atom: u32) -> &'a [Filler]
     ensures { result.now ≡ get_or facts.now.fillers.now atom [] }
 {
     match facts.fillers.get(atom as usize) {
@@ -29,7 +29,7 @@ fn fillers_for<'a>(facts: &'a Facts<'_>, atom: u32) -> &'a [Filler]
 }
 
 /// The fillers of a structure of this atom.
-pub(crate) fn fillers_of<'a>(facts: &'a Facts<'_>, atom: Option<u32>) -> &'a [Filler]
+pub(crate) fn fillers_of<'a>(facts: &'a ProgramFacts<'_>, atom: Option<u32>) -> &'a [Filler]
     ensures { result.now ≡ changes.atom_fillers facts.now atom }
 {
     match atom {
@@ -61,7 +61,7 @@ fn front(fillers: &[Filler], count: usize) -> &[Filler]
 }
 
 /// The fillers of the fixed places of an atom of lists.
-pub(crate) fn fixed_fillers<'a>(facts: &'a Facts<'_>, atom: u32) -> &'a [Filler]
+pub(crate) fn fixed_fillers<'a>(facts: &'a ProgramFacts<'_>, atom: u32) -> &'a [Filler]
     ensures { result.now ≡ changes.fixed_of facts.now atom }
 {
     match facts.atoms.defs().get(atom as usize) {

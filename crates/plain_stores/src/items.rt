@@ -2,12 +2,12 @@
 ghost use Rattle.std.specs.Prelude.{◌≡◌, ◌++◌, IfOk, OnOk, Some, map};
 ghost use Rattle.operations.specs.declared.operation.Operation.TheVariants as operation;
 ghost use Rattle.value_model.specs.declared.panics.PanicName.TheVariants.{IndexOutOfRange};
-ghost use Rattle.run_model.specs.Facts.{own_types};
-ghost use Rattle.run_model.specs.Rows as rows;
-ghost use Rattle.run_model.specs.StructureRows.{SetsItem};
-ghost use Rattle.plain_run.specs.declared.held.Asker.{Asker as AskerOf};
+ghost use Rattle.op_model.specs.ProgramFacts.{own_types};
+ghost use Rattle.op_model.specs.Rows as rows;
+ghost use Rattle.op_model.specs.StructureRows.{SetsItem};
+ghost use Rattle.plain_run.specs.declared.held.Caller.{Caller as CallerOf};
 ghost use Rattle.plain_run.specs.Effects.{IsPerformed, Stays};
-ghost use Rattle.plain_run.specs.Facts.{facts_of};
+ghost use Rattle.plain_run.specs.ProgramFacts.{facts_of};
 ghost use Rattle.plain_run.specs.Held.{structure_of, world_of};
 ghost use Rattle.plain_structures.specs.Rows.{IsRowOf, IsTried, RowStays, TriedStays};
 ghost use Rattle.plain_stores.specs.Changes as changes;
@@ -19,17 +19,31 @@ use crate::making::{Making, Prepared, prepares};
 use crate::tests::{Test, tests_item};
 use crate::writing::set_at;
 use bal_base::Memory;
-use plain_run::{Came, Common, Facts, Performed, World, panics};
+use plain_run::{Came, Common, Performed, ProgramFacts, World, panics};
 use plain_structures::{Tried, answered, items_at};
 use std::alloc::Global;
 use value_model::{PanicName, Value};
 
 /// Stores the item, behind what fills the gap, and holds the structures that are made.
-fn puts(world: &mut World, n: u32, place: usize, making: Making, v: &Value) -> Result<(), Memory>
-    ensures { OnOk result (world_of world.new ≡ rows.with_structures (world_of world.old) (changes.changed_at (changes.changed_by (changes.with_item place making.gap.items v.now)) (map structure_of world.old.heap.structures.items) n ++ map structure_of making.more.items)) }
+fn puts(
+    alloc: Global,
+    world: &mut World,
+    n: u32,
+    place: usize,
+    making: Making,
+    v: &Value,
+) -> Result<(), Memory>
+    ensures { OnOk result (world_of world.new ≡ rows.with_structures (world_of world.old) (changes.changed_at (changes.changed_by (changes.with_item place making.gap.items v.now)) (map structure_of world.old.heap.structures) n ++ map structure_of making.more.items)) }
 {
     let mut more = making.more;
-    set_at(&mut world.heap.structures, n, place, making.gap, v.share())?;
+    set_at(
+        alloc,
+        &mut world.heap.structures,
+        n,
+        place,
+        making.gap,
+        v.share(),
+    )?;
     world.heap.structures.append(&mut more)?;
     Ok(())
 }
@@ -37,7 +51,7 @@ fn puts(world: &mut World, n: u32, place: usize, making: Making, v: &Value) -> R
 /// A store at a place of the list with this number, where all tests are passed.
 fn stores(
     alloc: Global,
-    facts: &Facts<'_>,
+    facts: &ProgramFacts<'_>,
     world: &mut World,
     n: u32,
     place: usize,
@@ -50,7 +64,7 @@ fn stores(
         Prepared::Absent => Ok(None),
         Prepared::Passes => Ok(Some(Came::PassesCells)),
         Prepared::Makes(making) => {
-            puts(world, n, place, making, v)?;
+            puts(alloc, world, n, place, making, v)?;
             Ok(Some(Came::Gave(None)))
         }
     }
@@ -61,7 +75,7 @@ pub(crate) fn tried_of(came: Option<Came>) -> Tried
     ensures { result ≡ changes.tried_of came }
 {
     match came {
-        None => Tried::Unfit,
+        None => Tried::Stuck,
         Some(came) => Tried::Came(came),
     }
 }
@@ -69,7 +83,7 @@ pub(crate) fn tried_of(came: Option<Came>) -> Tried
 /// A store at a place of the list with this number.
 pub(crate) fn stores_at(
     alloc: Global,
-    facts: &Facts<'_>,
+    facts: &ProgramFacts<'_>,
     world: &mut World,
     n: u32,
     place: usize,
@@ -79,12 +93,12 @@ pub(crate) fn stores_at(
     ensures stays { IfOk result (TriedStays world.old world.new) }
 {
     match tests_item(alloc, facts, world, n, place, v)? {
-        Test::Absent => Ok(Tried::Unfit),
+        Test::Absent => Ok(Tried::Stuck),
         Test::Panics(name) => {
             let came = panics(alloc, world, name)?;
             Ok(Tried::Came(came))
         }
-        Test::Untold => Ok(Tried::Untold),
+        Test::Undecided => Ok(Tried::Undecided),
         Test::Passed => {
             let came = stores(alloc, facts, world, n, place, v)?;
             Ok(tried_of(came))
@@ -114,7 +128,7 @@ fn out_of_range(alloc: Global, world: &mut World, n: u32) -> Result<Tried, Memor
     ensures stays { IfOk result (TriedStays world.old world.new) }
 {
     if !is_list(world, n) {
-        return Ok(Tried::Unfit);
+        return Ok(Tried::Stuck);
     }
     let came = panics(alloc, world, PanicName::IndexOutOfRange)?;
     Ok(Tried::Came(came))
@@ -123,7 +137,7 @@ fn out_of_range(alloc: Global, world: &mut World, n: u32) -> Result<Tried, Memor
 /// `l[i] = v` of the list with this number
 fn sets_item(
     alloc: Global,
-    facts: &Facts<'_>,
+    facts: &ProgramFacts<'_>,
     world: &mut World,
     n: u32,
     i: i64,
@@ -153,15 +167,15 @@ fn item_operands(operands: &[Value]) -> Option<(u32, i64, Value)>
 /// it is not told where `SetItemIsBeyond` says so.
 pub fn perform_set_item(
     alloc: Global,
-    facts: &Facts<'_>,
+    facts: &ProgramFacts<'_>,
     operands: &[Value],
     common: &mut Common,
 ) -> Result<Performed, Memory>
-    ensures row { IfOk result (λ done. (asker : AskerOf) → IsPerformed facts.now operation.SetItem operands.now asker common.old common.new (SetItemIsBeyond facts.now operands.now common.old.world) done) }
+    ensures row { IfOk result (λ done. (caller : CallerOf) → IsPerformed facts.now operation.SetItem operands.now caller common.old common.new (SetItemIsBeyond facts.now operands.now common.old.world) done) }
     ensures stays { IfOk result (Stays common.old common.new) }
 {
     match item_operands(operands) {
-        None => Ok(Performed::Unfit),
+        None => Ok(Performed::Stuck),
         Some((n, i, v)) => {
             let came = sets_item(alloc, facts, &mut common.world, n, i, &v)?;
             Ok(answered(came))

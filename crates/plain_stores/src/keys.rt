@@ -1,12 +1,12 @@
 //! `m[k] = v`.
 ghost use Rattle.std.specs.Prelude.{◌≡◌, IfOk, OnOk, map};
 ghost use Rattle.operations.specs.declared.operation.Operation.TheVariants as operation;
-ghost use Rattle.run_model.specs.Facts.{own_types};
-ghost use Rattle.run_model.specs.Rows as rows;
-ghost use Rattle.run_model.specs.StructureRows.{SetsKey};
-ghost use Rattle.plain_run.specs.declared.held.Asker.{Asker as AskerOf};
+ghost use Rattle.op_model.specs.ProgramFacts.{own_types};
+ghost use Rattle.op_model.specs.Rows as rows;
+ghost use Rattle.op_model.specs.StructureRows.{SetsKey};
+ghost use Rattle.plain_run.specs.declared.held.Caller.{Caller as CallerOf};
 ghost use Rattle.plain_run.specs.Effects.{IsPerformed, Stays};
-ghost use Rattle.plain_run.specs.Facts.{facts_of};
+ghost use Rattle.plain_run.specs.ProgramFacts.{facts_of};
 ghost use Rattle.plain_run.specs.Held.{structure_of, world_of};
 ghost use Rattle.plain_structures.specs.Rows.{IsRowOf, IsTried, RowStays, TriedStays};
 ghost use Rattle.plain_stores.specs.Changes as changes;
@@ -19,7 +19,7 @@ use crate::room::has_room;
 use crate::tests::{Test, tests_entry};
 use crate::writing::set_key_at;
 use bal_base::{Memory, Text};
-use plain_run::{Came, Common, Facts, Members, Performed, Structure, World, panics};
+use plain_run::{Came, Common, Members, Performed, ProgramFacts, Structure, World, panics};
 use plain_structures::{Tried, answered, entry};
 use std::alloc::Global;
 use value_model::Value;
@@ -59,7 +59,13 @@ fn entry_has_room(world: &World, n: u32, key: &Text) -> Option<bool>
 }
 
 /// A store at a key of the mapping with this number, where all tests are passed.
-fn stores(world: &mut World, n: u32, key: &Text, v: &Value) -> Result<Option<Came>, Memory>
+fn stores(
+    alloc: Global,
+    world: &mut World,
+    n: u32,
+    key: &Text,
+    v: &Value,
+) -> Result<Option<Came>, Memory>
     ensures row { IfOk result (IsRowOf (said.EntryComes world.old n key.now v.now) world.new) }
     ensures stays { IfOk result (RowStays world.old world.new) }
 {
@@ -67,7 +73,7 @@ fn stores(world: &mut World, n: u32, key: &Text, v: &Value) -> Result<Option<Cam
         None => Ok(None),
         Some(false) => Ok(Some(Came::PassesCells)),
         Some(true) => {
-            set_key_at(&mut world.heap.structures, n, key, v)?;
+            set_key_at(alloc, &mut world.heap.structures, n, key, v)?;
             Ok(Some(Came::Gave(None)))
         }
     }
@@ -76,7 +82,7 @@ fn stores(world: &mut World, n: u32, key: &Text, v: &Value) -> Result<Option<Cam
 /// `m[k] = v` of the mapping with this number
 fn sets_key(
     alloc: Global,
-    facts: &Facts<'_>,
+    facts: &ProgramFacts<'_>,
     world: &mut World,
     n: u32,
     key: &Text,
@@ -86,14 +92,14 @@ fn sets_key(
     ensures stays { IfOk result (TriedStays world.old world.new) }
 {
     match tests_entry(alloc, facts, world, n, key, v)? {
-        Test::Absent => Ok(Tried::Unfit),
+        Test::Absent => Ok(Tried::Stuck),
         Test::Panics(name) => {
             let came = panics(alloc, world, name)?;
             Ok(Tried::Came(came))
         }
-        Test::Untold => Ok(Tried::Untold),
+        Test::Undecided => Ok(Tried::Undecided),
         Test::Passed => {
-            let came = stores(world, n, key, v)?;
+            let came = stores(alloc, world, n, key, v)?;
             Ok(tried_of(came))
         }
     }
@@ -113,15 +119,15 @@ fn key_operands(operands: &[Value]) -> Option<(u32, Text, Value)>
 /// the key; it is not told where `SetKeyIsBeyond` says so.
 pub fn perform_set_key(
     alloc: Global,
-    facts: &Facts<'_>,
+    facts: &ProgramFacts<'_>,
     operands: &[Value],
     common: &mut Common,
 ) -> Result<Performed, Memory>
-    ensures row { IfOk result (λ done. (asker : AskerOf) → IsPerformed facts.now operation.SetKey operands.now asker common.old common.new (SetKeyIsBeyond facts.now operands.now common.old.world) done) }
+    ensures row { IfOk result (λ done. (caller : CallerOf) → IsPerformed facts.now operation.SetKey operands.now caller common.old common.new (SetKeyIsBeyond facts.now operands.now common.old.world) done) }
     ensures stays { IfOk result (Stays common.old common.new) }
 {
     match key_operands(operands) {
-        None => Ok(Performed::Unfit),
+        None => Ok(Performed::Stuck),
         Some((n, key, v)) => {
             let came = sets_key(alloc, facts, &mut common.world, n, &key, &v)?;
             Ok(answered(came))

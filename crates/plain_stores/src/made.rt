@@ -1,8 +1,8 @@
 //! The structures that are made for fillers, level by level.
 ghost use Rattle.std.specs.Prelude.{◌≡◌, ◌+◌, ◌++◌, ◌∷◌, [], ℕ, IfOk, OnOk, count_by, flat_map, length, map};
 ghost use Rattle.std.specs.List.{sum_by};
-ghost use Rattle.run_model.specs.Fillers as model;
-ghost use Rattle.run_model.specs.Levels.{all_of, levels};
+ghost use Rattle.op_model.specs.Fillers as model;
+ghost use Rattle.op_model.specs.Levels.{all_of, levels};
 ghost use Rattle.plain_run.specs.Came.{IsLeft};
 ghost use Rattle.plain_run.specs.Held.{structure_of};
 ghost use Rattle.plain_stores.specs.Changes as changes;
@@ -11,7 +11,7 @@ ghost use Rattle.plain_stores.specs.Fillers.{is_there};
 use crate::filling::values_of;
 use crate::gaps::{fixed_fillers, is_filler, push_new};
 use bal_base::Memory;
-use plain_run::{Facts, MOST_CELLS, Members, Structure, left_beside, new_structure};
+use plain_run::{MOST_CELLS, Members, ProgramFacts, Structure, left_beside, new_structure};
 use std::alloc::Global;
 use value_model::Filler;
 
@@ -23,7 +23,7 @@ pub(crate) struct Made {
 }
 
 /// The fillers of the members of a new structure.
-fn inner_fillers<'a>(facts: &'a Facts<'_>, f: &Filler) -> &'a [Filler]
+fn inner_fillers<'a>(facts: &'a ProgramFacts<'_>, f: &Filler) -> &'a [Filler]
     ensures { result.now ≡ model.inner_fillers (changes.fixed_of facts.now) f.now }
 {
     match f {
@@ -43,7 +43,7 @@ fn count(fillers: &[Filler]) -> usize
 }
 
 /// What the structure of a filler leaves of a room of which so much is left.
-fn less_one(facts: &Facts<'_>, f: &Filler, left: Option<u64>) -> Option<u64>
+fn less_one(facts: &ProgramFacts<'_>, f: &Filler, left: Option<u64>) -> Option<u64>
     ensures { (room taken : ℕ) → IsLeft room taken left → IsLeft room (taken + changes.filler_cells facts.now f.now) result }
 {
     match f {
@@ -55,7 +55,7 @@ fn less_one(facts: &Facts<'_>, f: &Filler, left: Option<u64>) -> Option<u64>
 }
 
 /// What the structures of fillers leave of a room of which so much is left.
-fn less_all(facts: &Facts<'_>, fillers: &[Filler], start: Option<u64>) -> Option<u64>
+fn less_all(facts: &ProgramFacts<'_>, fillers: &[Filler], start: Option<u64>) -> Option<u64>
     ensures { (room taken : ℕ) → IsLeft room taken start → IsLeft room (taken + sum_by (changes.filler_cells facts.now) fillers.now) result }
 {
     let mut left = start;
@@ -68,7 +68,7 @@ fn less_all(facts: &Facts<'_>, fillers: &[Filler], start: Option<u64>) -> Option
 // ---- which are made
 
 /// Those for which the members of these ask.
-fn kids_of(alloc: Global, facts: &Facts<'_>, level: &[Filler]) -> Result<Vec<Filler>, Memory>
+fn kids_of(alloc: Global, facts: &ProgramFacts<'_>, level: &[Filler]) -> Result<Vec<Filler>, Memory>
     ensures { IfOk result (λ fs. fs.items ≡ flat_map (changes.kids facts.now) level.now) }
 {
     let mut all = Vec::new(alloc);
@@ -79,7 +79,7 @@ fn kids_of(alloc: Global, facts: &Facts<'_>, level: &[Filler]) -> Result<Vec<Fil
 }
 
 /// How many levels there may be: none where nothing is made at all.
-pub(crate) fn depth_for(facts: &Facts<'_>, roots: &[Filler]) -> usize
+pub(crate) fn depth_for(facts: &ProgramFacts<'_>, roots: &[Filler]) -> usize
     ensures { levels all_of (changes.kids facts.now) roots.now result ≡ levels all_of (changes.kids facts.now) roots.now (length facts.now.atoms.now) }
 {
     match roots {
@@ -91,7 +91,7 @@ pub(crate) fn depth_for(facts: &Facts<'_>, roots: &[Filler]) -> usize
 /// All that are made for these, level by level, for so many levels, where they fit in the room of a heap.
 pub(crate) fn made_for(
     alloc: Global,
-    facts: &Facts<'_>,
+    facts: &ProgramFacts<'_>,
     roots: Vec<Filler>,
     depth: usize,
 ) -> Result<Option<Made>, Memory>
@@ -120,7 +120,7 @@ pub(crate) fn made_for(
 /// The structure of a filler behind the others, where one is made for it; and the next number behind its members'.
 fn push_made(
     alloc: Global,
-    facts: &Facts<'_>,
+    facts: &ProgramFacts<'_>,
     next: u32,
     f: &Filler,
     made: &mut Vec<Structure>,
@@ -146,7 +146,7 @@ fn push_made(
 /// The structures of fillers, where those that are made for their members are numbered from one on.
 pub(crate) fn structures(
     alloc: Global,
-    facts: &Facts<'_>,
+    facts: &ProgramFacts<'_>,
     first: u32,
     fillers: &[Filler],
 ) -> Result<Vec<Structure>, Memory>

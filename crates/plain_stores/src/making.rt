@@ -1,7 +1,7 @@
 //! What a store at a place of a list makes, before anything is changed.
 ghost use Rattle.std.specs.Prelude.{◌≡◌, ◌≤◌, ◌<◌, ◌^◌, ◌-◌, IfOk, length};
-ghost use Rattle.run_model.specs.Limits.{most_cells};
-ghost use Rattle.run_model.specs.Rows as rows;
+ghost use Rattle.op_model.specs.Limits.{most_cells};
+ghost use Rattle.op_model.specs.Rows as rows;
 ghost use Rattle.plain_run.specs.Held.{structure_of, world_of};
 ghost use Rattle.plain_stores.specs.Changes as changes;
 
@@ -10,7 +10,7 @@ use crate::gaps::{fillers_from, fillers_of, push_new};
 use crate::made::{depth_for, made_for, structures};
 use crate::room::has_room;
 use bal_base::Memory;
-use plain_run::{Facts, MOST_CELLS, Members, Structure, World};
+use plain_run::{MOST_CELLS, Members, ProgramFacts, Structure, World};
 use std::alloc::Global;
 use value_model::{Filler, Value};
 
@@ -70,7 +70,7 @@ fn taken(left: u64) -> u64
 /// one on, and there is room for them and for a structure that was so great and gets so many members.
 fn structures_for(
     alloc: Global,
-    facts: &Facts<'_>,
+    facts: &ProgramFacts<'_>,
     world: &World,
     greatest: u64,
     size: u64,
@@ -97,7 +97,7 @@ fn structures_for(
 /// What a store at a place of a list of so many items makes.
 fn makes(
     alloc: Global,
-    facts: &Facts<'_>,
+    facts: &ProgramFacts<'_>,
     world: &World,
     s: &Structure,
     size: usize,
@@ -130,7 +130,7 @@ fn makes(
 /// The same where the structure is a list.
 fn prepares_list(
     alloc: Global,
-    facts: &Facts<'_>,
+    facts: &ProgramFacts<'_>,
     world: &World,
     s: &Structure,
     place: usize,
@@ -146,7 +146,7 @@ fn prepares_list(
 /// What a store at a place of the list with this number makes.
 pub(crate) fn prepares(
     alloc: Global,
-    facts: &Facts<'_>,
+    facts: &ProgramFacts<'_>,
     world: &World,
     n: u32,
     place: usize,

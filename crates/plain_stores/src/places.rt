@@ -1,12 +1,12 @@
 //! Types at places and keys of atoms.
 ghost use Rattle.std.specs.Prelude.{◌≡◌, option_and_then, option_copied};
-ghost use Rattle.run_model.specs.Facts.{own_types};
-ghost use Rattle.run_model.specs.Stores as stores;
-ghost use Rattle.plain_run.specs.Facts.{facts_of};
+ghost use Rattle.op_model.specs.ProgramFacts.{own_types};
+ghost use Rattle.op_model.specs.Stores as stores;
+ghost use Rattle.plain_run.specs.ProgramFacts.{facts_of};
 ghost use Rattle.plain_tests.specs.Own.{def_of};
 
 use bal_base::Text;
-use plain_run::Facts;
+use plain_run::ProgramFacts;
 use plain_tests::{definition, item_type, key_type};
 use type_model::{AtomDef, Ty};
 
@@ -34,7 +34,7 @@ fn type_at_key<'a>(d: &'a AtomDef, key: &Text) -> Option<&'a Ty>
 
 /// The type at a place of lists of an atom, where it is there.
 pub(crate) fn place_type<'a>(
-    facts: &'a Facts<'_>,
+    facts: &'a ProgramFacts<'_>,
     atom: Option<u32>,
     place: usize,
 ) -> Option<&'a Ty>
@@ -47,7 +47,11 @@ pub(crate) fn place_type<'a>(
 }
 
 /// The type at a key of mappings of an atom, where it is there.
-pub(crate) fn entry_type<'a>(facts: &'a Facts<'_>, atom: Option<u32>, key: &Text) -> Option<&'a Ty>
+pub(crate) fn entry_type<'a>(
+    facts: &'a ProgramFacts<'_>,
+    atom: Option<u32>,
+    key: &Text,
+) -> Option<&'a Ty>
     ensures { option_copied result ≡ option_and_then (stores.type_at_key key.now) (def_of (own_types (facts_of facts.now)) atom) }
 {
     match definition(facts, atom) {

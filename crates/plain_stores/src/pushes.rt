@@ -1,10 +1,10 @@
 //! `l.push(v, ..)`.
-ghost use Rattle.std.specs.Prelude.{◌≡◌, IfOk, map, if◌then◌else◌};
+ghost use Rattle.std.specs.Prelude.{◌≡◌, IfOk, OnOk, map, if◌then◌else◌};
 ghost use Rattle.operations.specs.declared.library.LibraryCall.TheVariants as call;
-ghost use Rattle.run_model.specs.Facts.{own_types};
-ghost use Rattle.run_model.specs.Library.{Pushes};
-ghost use Rattle.run_model.specs.Rows as rows;
-ghost use Rattle.plain_run.specs.Facts.{facts_of};
+ghost use Rattle.op_model.specs.ProgramFacts.{own_types};
+ghost use Rattle.op_model.specs.Library.{Pushes};
+ghost use Rattle.op_model.specs.Rows as rows;
+ghost use Rattle.plain_run.specs.ProgramFacts.{facts_of};
 ghost use Rattle.plain_run.specs.Held.{structure_of, world_of};
 ghost use Rattle.plain_structures.specs.Rows.{IsCalledBy, IsTried, TriedStays};
 ghost use Rattle.plain_stores.specs.Changes as changes;
@@ -13,7 +13,7 @@ ghost use Rattle.plain_stores.specs.Questions.{PushIsBeyond, PushesAreBeyond};
 use crate::items::stores_at;
 use crate::writing::take_back;
 use bal_base::Memory;
-use plain_run::{Came, Facts, Heap, Members, Structure, World};
+use plain_run::{Came, Heap, Members, ProgramFacts, Structure, World};
 use plain_structures::Tried;
 use std::alloc::Global;
 use value_model::Value;
@@ -55,7 +55,7 @@ fn has_given(tried: &Tried) -> bool
             Came::Gave(_) => true,
             Came::Threw(_) | Came::PassesCells => false,
         },
-        Tried::Unfit | Tried::Untold => false,
+        Tried::Stuck | Tried::Undecided => false,
     }
 }
 
@@ -67,24 +67,31 @@ fn is_undone(tried: &Tried) -> bool
             Came::PassesCells => true,
             Came::Gave(_) | Came::Threw(_) => false,
         },
-        Tried::Unfit | Tried::Untold => true,
+        Tried::Stuck | Tried::Undecided => true,
     }
 }
 
 /// Where what came behind a push left all as it was, the push is taken back.
-fn undo_unless_done(world: &mut World, n: u32, greatest: u64, behind: &Tried)
-    ensures { world_of world.new ≡ (if changes.is_undone behind.now then rows.with_structures (world_of world.old) (changes.changed_at (changes.taken_back greatest) (map structure_of world.old.heap.structures.items) n) else world_of world.old) }
+fn undo_unless_done(
+    alloc: Global,
+    world: &mut World,
+    n: u32,
+    greatest: u64,
+    behind: &Tried,
+) -> Result<(), Memory>
+    ensures { OnOk result (world_of world.new ≡ (if changes.is_undone behind.now then rows.with_structures (world_of world.old) (changes.changed_at (changes.taken_back greatest) (map structure_of world.old.heap.structures) n) else world_of world.old)) }
 {
     if is_undone(behind) {
-        take_back(&mut world.heap.structures, n, greatest);
+        take_back(alloc, &mut world.heap.structures, n, greatest)?;
     }
+    Ok(())
 }
 
 /// Stores these behind the last item of the list with this number, one after the other. Where one of them passes the cells
 /// or isn't told, all are taken back.
 fn pushes(
     alloc: Global,
-    facts: &Facts<'_>,
+    facts: &ProgramFacts<'_>,
     world: &mut World,
     n: u32,
     values: &[Value],
@@ -96,7 +103,7 @@ fn pushes(
         [] => Ok(Tried::Came(Came::Gave(Some(Value::Nil)))),
         [v, rest @ ..] => {
             let end = match end_of(world, n) {
-                None => return Ok(Tried::Unfit),
+                None => return Ok(Tried::Stuck),
                 Some(end) => end,
             };
             let first = stores_at(alloc, facts, world, n, end.size, v)?;
@@ -104,7 +111,7 @@ fn pushes(
                 return Ok(first);
             }
             let behind = pushes(alloc, facts, world, n, rest)?;
-            undo_unless_done(world, n, end.greatest, &behind);
+            undo_unless_done(alloc, world, n, end.greatest, &behind)?;
             Ok(behind)
         }
     }
@@ -114,7 +121,7 @@ fn pushes(
 /// passes the cells, or isn't told (`PushIsBeyond`), nothing is stored.
 pub fn push(
     alloc: Global,
-    facts: &Facts<'_>,
+    facts: &ProgramFacts<'_>,
     operands: &[Value],
     world: &mut World,
 ) -> Result<Tried, Memory>
@@ -123,6 +130,6 @@ pub fn push(
 {
     match operands {
         [Value::Struct(n), values @ ..] => pushes(alloc, facts, world, *n, values),
-        _ => Ok(Tried::Unfit),
+        _ => Ok(Tried::Stuck),
     }
 }

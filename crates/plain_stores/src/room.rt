@@ -1,7 +1,7 @@
 //! The room that a store takes.
 ghost use Rattle.std.specs.Prelude.{◌≡◌, ◌+◌, ◌-◌, ◌≤◌, nat_le};
 ghost use Rattle.value_model.specs.Heap.{cells};
-ghost use Rattle.run_model.specs.Limits.{most_cells};
+ghost use Rattle.op_model.specs.Limits.{most_cells};
 ghost use Rattle.plain_run.specs.Held.{heap_of};
 
 use plain_run::{Heap, MOST_CELLS, has_room_for};

@@ -2,10 +2,10 @@
 ghost use Rattle.std.specs.Prelude.{◌≡◌, IfOk, Some, option_copied};
 ghost use Rattle.value_model.specs.Heap.{Entries, Members};
 ghost use Rattle.value_model.specs.World.{Came as CameOf, World as ModelWorld};
-ghost use Rattle.run_model.specs.Facts.{own_types};
-ghost use Rattle.run_model.specs.Rows.{Else, HasEntries, HasItems, gives_nothing, within};
-ghost use Rattle.run_model.specs.Stores as stores;
-ghost use Rattle.plain_run.specs.Facts.{facts_of};
+ghost use Rattle.op_model.specs.ProgramFacts.{own_types};
+ghost use Rattle.op_model.specs.Rows.{Else, HasEntries, HasItems, gives_nothing, within};
+ghost use Rattle.op_model.specs.Stores as stores;
+ghost use Rattle.plain_run.specs.ProgramFacts.{facts_of};
 ghost use Rattle.plain_run.specs.Held.{members_of, structure_of, world_of};
 ghost use Rattle.plain_stores.specs.Questions.{EntryIsBeyond, KeyIsBeyond, PlaceIsBeyond, StoreIsBeyond};
 ghost use Rattle.plain_stores.specs.Tests as said;
@@ -13,7 +13,7 @@ ghost use Rattle.plain_stores.specs.Tests as said;
 use crate::gaps::{are_there, fillers_of};
 use crate::places::{entry_type, place_type};
 use bal_base::{Memory, Text};
-use plain_run::{Facts, Heap, MOST_ITEMS, Members, Structure, World};
+use plain_run::{Heap, MOST_ITEMS, Members, ProgramFacts, Structure, World};
 use plain_tests::belongs_if;
 use std::alloc::Global;
 use type_model::Ty;
@@ -27,7 +27,7 @@ pub(crate) enum Test {
     /// This panic comes.
     Panics(PanicName),
     /// A question isn't told.
-    Untold,
+    Undecided,
     /// All are passed.
     Passed,
 }
@@ -35,7 +35,7 @@ pub(crate) enum Test {
 /// Whether a structure may hold the value where this type stands: it is mutable, and the value belongs to the type.
 fn may_hold(
     alloc: Global,
-    facts: &Facts<'_>,
+    facts: &ProgramFacts<'_>,
     heap: &Heap,
     mutable: bool,
     wanted: Option<&Ty>,
@@ -67,7 +67,7 @@ fn tests_gap(fillers: &[Filler], size: usize, place: usize) -> Test
 /// The tests of a store at a place of a list of so many items.
 fn tests_place(
     alloc: Global,
-    facts: &Facts<'_>,
+    facts: &ProgramFacts<'_>,
     world: &World,
     s: &Structure,
     size: usize,
@@ -78,7 +78,7 @@ fn tests_place(
 {
     let wanted = place_type(facts, s.atom, place);
     match may_hold(alloc, facts, &world.heap, s.mutable, wanted, v)? {
-        None => Ok(Test::Untold),
+        None => Ok(Test::Undecided),
         Some(false) => Ok(Test::Panics(PanicName::InherentTypeViolation)),
         Some(true) => Ok(tests_gap(fillers_of(facts, s.atom), size, place)),
     }
@@ -87,7 +87,7 @@ fn tests_place(
 /// The same where the structure is a list.
 fn tests_list(
     alloc: Global,
-    facts: &Facts<'_>,
+    facts: &ProgramFacts<'_>,
     world: &World,
     n: u32,
     s: &Structure,
@@ -105,7 +105,7 @@ fn tests_list(
 /// The tests of a store at a place of the list with this number.
 pub(crate) fn tests_item(
     alloc: Global,
-    facts: &Facts<'_>,
+    facts: &ProgramFacts<'_>,
     world: &World,
     n: u32,
     place: usize,
@@ -124,7 +124,7 @@ pub(crate) fn tests_item(
 /// The tests of a store at a key of a mapping.
 fn tests_key(
     alloc: Global,
-    facts: &Facts<'_>,
+    facts: &ProgramFacts<'_>,
     world: &World,
     s: &Structure,
     key: &Text,
@@ -134,7 +134,7 @@ fn tests_key(
 {
     let wanted = entry_type(facts, s.atom, key);
     match may_hold(alloc, facts, &world.heap, s.mutable, wanted, v)? {
-        None => Ok(Test::Untold),
+        None => Ok(Test::Undecided),
         Some(false) => Ok(Test::Panics(PanicName::InherentTypeViolation)),
         Some(true) => Ok(Test::Passed),
     }
@@ -143,7 +143,7 @@ fn tests_key(
 /// The same where the structure is a mapping.
 fn tests_mapping(
     alloc: Global,
-    facts: &Facts<'_>,
+    facts: &ProgramFacts<'_>,
     world: &World,
     n: u32,
     s: &Structure,
@@ -161,7 +161,7 @@ fn tests_mapping(
 /// The tests of a store at a key of the mapping with this number.
 pub(crate) fn tests_entry(
     alloc: Global,
-    facts: &Facts<'_>,
+    facts: &ProgramFacts<'_>,
     world: &World,
     n: u32,
     key: &Text,

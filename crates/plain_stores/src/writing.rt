@@ -1,12 +1,13 @@
 //! What a store changes.
 ghost use Rattle.std.specs.Prelude.{◌≡◌, ◌++◌, OnOk, map, max};
-ghost use Rattle.run_model.specs.Stores as stores;
+ghost use Rattle.op_model.specs.Stores as stores;
 ghost use Rattle.plain_run.specs.Held.{members_of, structure_of};
 ghost use Rattle.plain_stores.specs.Changes as changes;
 
 use bal_base::{Memory, Text};
-use plain_run::{Members, Structure, size_of};
+use plain_run::{Members, Structure, Structures, size_of};
 use plain_structures::set_entry;
+use std::alloc::Global;
 use value_model::Value;
 
 fn greater(a: u64, b: u64) -> u64
@@ -50,18 +51,22 @@ fn set_in(s: &mut Structure, place: usize, gap: Vec<Value>, v: Value) -> Result<
 
 /// The item at the place of the list with this number is this one, behind what fills the gap.
 pub(crate) fn set_at(
-    structures: &mut Vec<Structure>,
+    alloc: Global,
+    structures: &mut Structures,
     n: u32,
     place: usize,
     gap: Vec<Value>,
     v: Value,
 ) -> Result<(), Memory>
-    ensures { OnOk result (map structure_of structures.new.items ≡ changes.changed_at (changes.changed_by (changes.with_item place gap.items v)) (map structure_of structures.old.items) n) }
+    ensures { OnOk result (map structure_of structures.new ≡ changes.changed_at (changes.changed_by (changes.with_item place gap.items v)) (map structure_of structures.old) n) }
 {
-    match structures.get_mut(n as usize) {
-        None => Ok(()),
-        Some(s) => set_in(s, place, gap, v),
+    let at = n as usize;
+    if at >= structures.len() {
+        return Ok(());
     }
+    let mut s = structures.take(alloc, at);
+    set_in(&mut s, place, gap, v)?;
+    structures.put(at, s)
 }
 
 // ---- entries
@@ -85,17 +90,21 @@ fn set_key_in(s: &mut Structure, key: &Text, v: &Value) -> Result<(), Memory>
 
 /// The entry with the key of the mapping with this number gets this value; a new key comes last.
 pub(crate) fn set_key_at(
-    structures: &mut Vec<Structure>,
+    alloc: Global,
+    structures: &mut Structures,
     n: u32,
     key: &Text,
     v: &Value,
 ) -> Result<(), Memory>
-    ensures { OnOk result (map structure_of structures.new.items ≡ changes.changed_at (changes.changed_by (changes.with_entry key.now v.now)) (map structure_of structures.old.items) n) }
+    ensures { OnOk result (map structure_of structures.new ≡ changes.changed_at (changes.changed_by (changes.with_entry key.now v.now)) (map structure_of structures.old) n) }
 {
-    match structures.get_mut(n as usize) {
-        None => Ok(()),
-        Some(s) => set_key_in(s, key, v),
+    let at = n as usize;
+    if at >= structures.len() {
+        return Ok(());
     }
+    let mut s = structures.take(alloc, at);
+    set_key_in(&mut s, key, v)?;
+    structures.put(at, s)
 }
 
 // ---- an item that is taken back
@@ -123,10 +132,19 @@ fn drop_in(s: &mut Structure, greatest: u64)
 }
 
 /// The list with this number loses its last item, and was so great before that came.
-pub(crate) fn take_back(structures: &mut Vec<Structure>, n: u32, greatest: u64)
-    ensures { map structure_of structures.new.items ≡ changes.changed_at (changes.taken_back greatest) (map structure_of structures.old.items) n }
+pub(crate) fn take_back(
+    alloc: Global,
+    structures: &mut Structures,
+    n: u32,
+    greatest: u64,
+) -> Result<(), Memory>
+    ensures { OnOk result (map structure_of structures.new ≡ changes.changed_at (changes.taken_back greatest) (map structure_of structures.old) n) }
 {
-    if let Some(s) = structures.get_mut(n as usize) {
-        drop_in(s, greatest);
+    let at = n as usize;
+    if at >= structures.len() {
+        return Ok(());
     }
+    let mut s = structures.take(alloc, at);
+    drop_in(&mut s, greatest);
+    structures.put(at, s)
 }

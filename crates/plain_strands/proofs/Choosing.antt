@@ -1,7 +1,7 @@
 -- The best of several strands.
 use Rattle.std.proofs.Common.{◌≡◌, List, [], ◌∷◌, Option, Some, None, refl}
-use Rattle.run_model.specs.Common.{Common}
-use Rattle.run_model.specs.Waits.{Target, chosen, earlier, later}
+use Rattle.op_model.specs.Common.{Common}
+use Rattle.op_model.specs.Waits.{Target, chosen, earlier, later}
 use Rattle.plain_run.proofs.Looking.{get-past, get-there}
 use Rattle.plain_strands.specs.Choices.{best_of, better_of}
 

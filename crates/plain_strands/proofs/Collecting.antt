@@ -5,10 +5,10 @@ use Rattle.std.proofs.lemmas.List.{append-nil}
 use Rattle.bal_base.specs.declared.text.Text.{Text}
 use Rattle.value_model.specs.declared.value.Value.{Value}
 use Rattle.value_model.specs.World.{World, Came as ModelCame, Gave as ModelGave, Threw as ModelThrew, PassesCells as ModelPasses}
-use Rattle.run_model.specs.Common.{Common, End, Returned, Panicked, Strand}
-use Rattle.run_model.specs.Effects.{Effect, Fails, lifted, with_world}
-use Rattle.run_model.specs.Strands.{end_of, no_strand, strand_at}
-use Rattle.run_model.specs.Waits.{Collected, FirstPanic, Results, Target, behind, collects, collects_end, gives_results, is_taken, took}
+use Rattle.op_model.specs.Common.{Common, End, Returned, Panicked, Strand}
+use Rattle.op_model.specs.Effects.{Effect, Fails, lifted, with_world}
+use Rattle.op_model.specs.Strands.{end_of, no_strand, strand_at}
+use Rattle.op_model.specs.Waits.{Collected, FirstPanic, Results, Target, behind, collects, collects_end, gives_results, is_taken, took}
 use Rattle.plain_run.specs.declared.held.Common.{Common as Held}
 use Rattle.plain_run.specs.declared.world.Came.{Came}
 use Rattle.plain_run.specs.declared.world.Came.TheVariants.{Gave, Threw, PassesCells}

@@ -7,7 +7,7 @@ use Rattle.value_model.specs.declared.value.Value.{Value}
 use Rattle.value_model.specs.declared.value.Value.TheVariants.{Error}
 use Rattle.value_model.specs.PanicName.{future_taken}
 use Rattle.value_model.specs.World.{World, Gave, PassesCells}
-use Rattle.run_model.specs.Rows.{gives_error, makes_error, next_error, within, gives}
+use Rattle.op_model.specs.Rows.{gives_error, makes_error, next_error, within, gives}
 use Rattle.plain_run.specs.Came.{IsErrorMade}
 
 -- it is ASCII

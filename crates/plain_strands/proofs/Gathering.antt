@@ -4,10 +4,10 @@ use Rattle.std.specs.Prelude.{IfOk}
 use Rattle.std.proofs.lemmas.List.{take_all}
 use Rattle.bal_base.specs.declared.text.Text.{Text}
 use Rattle.value_model.specs.declared.value.Value.{Value}
-use Rattle.run_model.specs.Common.{Common, Returned}
-use Rattle.run_model.specs.Effects.{Effect}
-use Rattle.run_model.specs.Strands.{end_of}
-use Rattle.run_model.specs.Waits.{collects, gives_results, is_taken, took}
+use Rattle.op_model.specs.Common.{Common, Returned}
+use Rattle.op_model.specs.Effects.{Effect}
+use Rattle.op_model.specs.Strands.{end_of}
+use Rattle.op_model.specs.Waits.{collects, gives_results, is_taken, took}
 use Rattle.plain_strands.specs.declared.waits.Target.{Target}
 use Rattle.plain_strands.specs.Results.{collects_untaken, free_end, prefixed}
 use Rattle.plain_strands.specs.Targets.{target_of}

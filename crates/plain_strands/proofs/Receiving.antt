@@ -1,11 +1,11 @@
 -- What is received, by the first message that waits, and what a flush gives.
 use Rattle.std.proofs.Common.{◌≡◌, ℕ, List, [], ◌∷◌, Some, None, drop, refl, sym, ap}
 use Rattle.value_model.specs.declared.value.Value.{Value}
-use Rattle.run_model.specs.Common.{Common, End, Role, Returned, Panicked}
-use Rattle.run_model.specs.Effects.{Gives}
-use Rattle.run_model.specs.Messages.{flushes_end, receives, receives_end, receives_from, with_received}
-use Rattle.run_model.specs.Strands.{channel_at, settled, worker_end}
-use Rattle.run_model.specs.Waits.{ends_with}
+use Rattle.op_model.specs.Common.{Common, End, Role, Returned, Panicked}
+use Rattle.op_model.specs.Effects.{Gives}
+use Rattle.op_model.specs.Messages.{flushes_end, receives, receives_end, receives_from, with_received}
+use Rattle.op_model.specs.Strands.{channel_at, settled, worker_end}
+use Rattle.op_model.specs.Waits.{ends_with}
 use Rattle.plain_strands.specs.declared.passing.Passing.TheVariants.{Received}
 use Rattle.plain_strands.specs.Channels.{first_of, passed_on}
 

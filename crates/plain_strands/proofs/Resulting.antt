@@ -10,10 +10,10 @@ use Rattle.value_model.specs.declared.value.Value.TheVariants.{Struct}
 use Rattle.value_model.specs.PanicName.{future_taken}
 use Rattle.value_model.specs.Heap.{Entries, ErrorObject, Structure as ModelStructure, cells}
 use Rattle.value_model.specs.World.{World, Gave, PassesCells}
-use Rattle.run_model.specs.Levels.{numbers_from}
-use Rattle.run_model.specs.Limits.{most_cells}
-use Rattle.run_model.specs.Rows.{makes, new_structure, next_error, next_structure, with_heap}
-use Rattle.run_model.specs.Waits.{missing, with_results}
+use Rattle.op_model.specs.Levels.{numbers_from}
+use Rattle.op_model.specs.Limits.{most_cells}
+use Rattle.op_model.specs.Rows.{makes, new_structure, next_error, next_structure, with_heap}
+use Rattle.op_model.specs.Waits.{missing, with_results}
 use Rattle.plain_run.specs.declared.held.Structure.{Structure}
 use Rattle.plain_run.specs.Held.{structure_of}
 use Rattle.plain_run.proofs.Made.{gave-past, gave-there}

@@ -1,9 +1,9 @@
 -- What changes in a list, and what passes through a channel.
 use Rattle.std.specs.Prelude.{ℕ, List, [], ◌∷◌, Option, Some, None, drop, get_or, map, slice_set}
 use Rattle.value_model.specs.declared.value.Value.{Value}
-use Rattle.run_model.specs.Common as model
-use Rattle.run_model.specs.Messages.{one_received, one_sent}
-use Rattle.run_model.specs.Strands.{channel_at, no_channel, with_channel}
+use Rattle.op_model.specs.Common as model
+use Rattle.op_model.specs.Messages.{one_received, one_sent}
+use Rattle.op_model.specs.Strands.{channel_at, no_channel, with_channel}
 use Rattle.plain_run.specs.declared.held.Channel.{Channel}
 use Rattle.plain_run.specs.Held.{channel_of}
 use Rattle.plain_strands.specs.declared.passing.Passing.{Passing}

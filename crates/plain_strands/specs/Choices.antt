@@ -1,8 +1,8 @@
 -- Which of several strands is chosen, and what comes of all of them.
 use Rattle.std.specs.Prelude.{ℕ, Bool, true, false, List, [], ◌∷◌, Option, Some, None, fold}
-use Rattle.run_model.specs.Common.{Common, Role}
-use Rattle.run_model.specs.Strands.{has_success}
-use Rattle.run_model.specs.Waits.{Target, worker_target}
+use Rattle.op_model.specs.Common.{Common, Role}
+use Rattle.op_model.specs.Strands.{has_success}
+use Rattle.op_model.specs.Waits.{Target, worker_target}
 
 -- the list, where all are there
 abbrev pub if_all : {A : Type 0} → Bool → A → Option A

@@ -6,12 +6,12 @@ use Rattle.value_model.specs.declared.value.Value.TheVariants.{Struct}
 use Rattle.value_model.specs.Heap.{Entries, ErrorObject, Structure}
 use Rattle.value_model.specs.PanicName.{future_taken}
 use Rattle.value_model.specs.World as model
-use Rattle.run_model.specs.Common as model_common
-use Rattle.run_model.specs.Effects.{Effect, lifted}
-use Rattle.run_model.specs.Levels.{numbers_from}
-use Rattle.run_model.specs.Rows.{gives, new_structure, next_structure, within}
-use Rattle.run_model.specs.Waits.{Collected, FirstPanic, Results, behind, missing, numbered, took, with_results}
-use Rattle.run_model.specs.Waits as waits
+use Rattle.op_model.specs.Common as model_common
+use Rattle.op_model.specs.Effects.{Effect, lifted}
+use Rattle.op_model.specs.Levels.{numbers_from}
+use Rattle.op_model.specs.Rows.{gives, new_structure, next_structure, within}
+use Rattle.op_model.specs.Waits.{Collected, FirstPanic, Results, behind, missing, numbered, took, with_results}
+use Rattle.op_model.specs.Waits as waits
 use Rattle.plain_run.specs.declared.held.Common.{Common}
 use Rattle.plain_run.specs.declared.world.Came.{Came}
 use Rattle.plain_run.specs.declared.world.Came.TheVariants.{Gave, Threw, PassesCells}

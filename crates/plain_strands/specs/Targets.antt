@@ -1,10 +1,10 @@
 -- Strands that are waited for, as they are held.
 use Rattle.std.specs.Prelude.{Bool}
 use Rattle.value_model.specs.PanicName.{future_taken}
-use Rattle.run_model.specs.Common as model
-use Rattle.run_model.specs.Effects.{Effect, lifted}
-use Rattle.run_model.specs.Rows.{gives_error}
-use Rattle.run_model.specs.Waits as waits
+use Rattle.op_model.specs.Common as model
+use Rattle.op_model.specs.Effects.{Effect, lifted}
+use Rattle.op_model.specs.Rows.{gives_error}
+use Rattle.op_model.specs.Waits as waits
 use Rattle.plain_strands.specs.declared.waits.Target.{Target}
 
 abbrev pub target_of : Target → waits.Target

@@ -3,8 +3,8 @@
 
 ghost use Rattle.std.specs.Prelude.{◌≡◌, false, IfOk, IfSome, map, option_map, true};
 ghost use Rattle.operations.specs.declared.operation.Operation.TheVariants as operation;
-ghost use Rattle.run_model.specs.Strands.{end_of as end_of_strand};
-ghost use Rattle.run_model.specs.Waits as model;
+ghost use Rattle.op_model.specs.Strands.{end_of as end_of_strand};
+ghost use Rattle.op_model.specs.Waits as model;
 ghost use Rattle.plain_run.specs.declared.held.Common.{Common as CommonOf};
 ghost use Rattle.plain_run.specs.Effects.{EffectStays, IsPerformed, Stays, effect_of};
 ghost use Rattle.plain_run.specs.Held.{common_of, end_of};
@@ -17,7 +17,9 @@ use crate::targets::{push_strands, targets};
 use crate::waits::{Target, is_taken, set_taken, take_result};
 use bal_base::{LimitKind, Memory, Text};
 use operations::Awaited;
-use plain_run::{Asker, Came, Common, Effect, End, Facts, Need, Performed, is_met, strand_end};
+use plain_run::{
+    Caller, Came, Common, Effect, End, Need, Performed, ProgramFacts, is_met, strand_end,
+};
 use std::alloc::Global;
 use value_model::Value;
 
@@ -124,22 +126,22 @@ fn waits_all(
 /// A wait for all of what is named, which gives a mapping with this atom.
 pub fn perform_wait_all(
     alloc: Global,
-    facts: &Facts,
+    facts: &ProgramFacts,
     atom: u32,
     names: &Awaited,
     operands: &[Value],
-    asker: &Asker,
+    caller: &Caller,
     common: &mut Common,
 ) -> Result<Performed, Memory>
-    ensures row { IfOk result (λ done. IsPerformed facts.now (operation.WaitAll atom names.now) operands.now asker.now common.old common.new ⊥ done) }
+    ensures row { IfOk result (λ done. IsPerformed facts.now (operation.WaitAll atom names.now) operands.now caller.now common.old common.new ⊥ done) }
     ensures stays { IfOk result (Stays common.old common.new) }
 {
     let mut found = Vec::new(alloc);
-    if !targets(common, asker.role, names.as_slice(), operands, &mut found)? {
-        return Ok(Performed::Unfit);
+    if !targets(common, caller.role, names.as_slice(), operands, &mut found)? {
+        return Ok(Performed::Stuck);
     }
     match facts.atoms.defs().get(atom as usize) {
-        None => Ok(Performed::Unfit),
+        None => Ok(Performed::Stuck),
         Some(def) => {
             let fields = field_names(alloc, def)?;
             let effect = waits_all(alloc, common, atom, fields.as_slice(), found.as_slice())?;

@@ -3,8 +3,8 @@
 
 ghost use Rattle.std.specs.Prelude.{◌≡◌, IfOk, filter, map, option_map, true};
 ghost use Rattle.operations.specs.declared.operation.Operation.TheVariants as operation;
-ghost use Rattle.run_model.specs.Waits as model;
-ghost use Rattle.plain_run.specs.declared.facts.Facts.{Facts as FactsOf};
+ghost use Rattle.op_model.specs.Waits as model;
+ghost use Rattle.plain_run.specs.declared.facts.ProgramFacts.{ProgramFacts as FactsOf};
 ghost use Rattle.plain_run.specs.Effects.{EffectStays, IsPerformed, Stays, effect_of};
 ghost use Rattle.plain_run.specs.Held.{common_of, status_of};
 ghost use Rattle.plain_strands.specs.Choices.{best_of, better_of, succeeded};
@@ -14,7 +14,7 @@ use crate::targets::{push_strands, targets};
 use crate::waits::{Target, waits};
 use bal_base::Memory;
 use operations::Awaited;
-use plain_run::{Asker, Common, Effect, Need, Performed, Status, has_success, is_met};
+use plain_run::{Caller, Common, Effect, Need, Performed, Status, has_success, is_met};
 use std::alloc::Global;
 use value_model::Value;
 
@@ -142,15 +142,15 @@ pub fn perform_wait_any(
     alloc: Global,
     names: &Awaited,
     operands: &[Value],
-    asker: &Asker,
+    caller: &Caller,
     common: &mut Common,
 ) -> Result<Performed, Memory>
-    ensures row { IfOk result (λ done. (facts : FactsOf) → IsPerformed facts (operation.WaitAny names.now) operands.now asker.now common.old common.new ⊥ done) }
+    ensures row { IfOk result (λ done. (facts : FactsOf) → IsPerformed facts (operation.WaitAny names.now) operands.now caller.now common.old common.new ⊥ done) }
     ensures stays { IfOk result (Stays common.old common.new) }
 {
     let mut found = Vec::new(alloc);
-    if !targets(common, asker.role, names.as_slice(), operands, &mut found)? {
-        return Ok(Performed::Unfit);
+    if !targets(common, caller.role, names.as_slice(), operands, &mut found)? {
+        return Ok(Performed::Stuck);
     }
     let effect = waits_any(alloc, common, found.as_slice())?;
     Ok(Performed::Done(effect))

@@ -2,7 +2,7 @@
 #![tactic(auto)]
 
 ghost use Rattle.std.specs.Prelude.{◌≡◌, option_copied, option_map};
-ghost use Rattle.run_model.specs.Waits.{ends_with};
+ghost use Rattle.op_model.specs.Waits.{ends_with};
 ghost use Rattle.plain_run.specs.declared.held.Common.{Common as CommonOf};
 ghost use Rattle.plain_run.specs.Effects.{EffectStays, effect_of};
 ghost use Rattle.plain_run.specs.Held.{common_of, end_of};

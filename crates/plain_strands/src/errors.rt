@@ -3,7 +3,7 @@
 
 ghost use Rattle.std.specs.Prelude.{◌≡◌, IfOk};
 ghost use Rattle.value_model.specs.PanicName.{future_taken as future_taken_chars};
-ghost use Rattle.run_model.specs.Rows.{gives_error};
+ghost use Rattle.op_model.specs.Rows.{gives_error};
 ghost use Rattle.plain_run.specs.Came.{WorldStays, came_of};
 ghost use Rattle.plain_run.specs.Held.{world_of};
 

@@ -3,9 +3,9 @@
 
 ghost use Rattle.std.specs.Prelude.{◌≡◌, IfOk, None, Some, true};
 ghost use Rattle.operations.specs.declared.operation.Operation.TheVariants as operation;
-ghost use Rattle.run_model.specs.Messages as model;
-ghost use Rattle.run_model.specs.Strands.{channel_at, worker_end as worker_end_of};
-ghost use Rattle.plain_run.specs.declared.facts.Facts.{Facts as FactsOf};
+ghost use Rattle.op_model.specs.Messages as model;
+ghost use Rattle.op_model.specs.Strands.{channel_at, worker_end as worker_end_of};
+ghost use Rattle.plain_run.specs.declared.facts.ProgramFacts.{ProgramFacts as FactsOf};
 ghost use Rattle.plain_run.specs.Effects.{EffectStays, IsPerformed, Stays, effect_of};
 ghost use Rattle.plain_run.specs.Held.{common_of, end_of, role_of};
 ghost use Rattle.plain_strands.specs.Channels.{first_of};
@@ -13,7 +13,7 @@ ghost use Rattle.plain_strands.specs.Channels.{first_of};
 use crate::ends::{ended, share_end};
 use crate::passing::{Passing, first_message, pass_on, received, sent};
 use bal_base::Memory;
-use plain_run::{Asker, Common, Effect, End, Need, Performed, Role, channel, settle, worker_end};
+use plain_run::{Caller, Common, Effect, End, Need, Performed, Role, channel, settle, worker_end};
 use std::alloc::Global;
 use value_model::Value;
 
@@ -47,30 +47,30 @@ fn flushes(common: &Common, role: Role, to: u64) -> Effect
 }
 
 /// A flush of what was sent to a worker.
-pub fn perform_flush(worker: u32, operands: &[Value], asker: &Asker, common: &Common) -> Performed
-    ensures row { (facts : FactsOf) → IsPerformed facts (operation.Flush worker) operands.now asker.now common.now common.now ⊥ result }
+pub fn perform_flush(worker: u32, operands: &[Value], caller: &Caller, common: &Common) -> Performed
+    ensures row { (facts : FactsOf) → IsPerformed facts (operation.Flush worker) operands.now caller.now common.now common.now ⊥ result }
     ensures stays { Stays common.now common.now result }
 {
     match operands {
-        [] => match asker.role {
-            None => Performed::Unfit,
+        [] => match caller.role {
+            None => Performed::Stuck,
             Some(role) => Performed::Done(flushes(common, role, worker as u64)),
         },
-        _ => Performed::Unfit,
+        _ => Performed::Stuck,
     }
 }
 
 /// The second half of a send: what was sent is received.
-pub fn perform_done(worker: u32, operands: &[Value], asker: &Asker, common: &Common) -> Performed
-    ensures row { (facts : FactsOf) → IsPerformed facts (operation.Done worker) operands.now asker.now common.now common.now ⊥ result }
+pub fn perform_done(worker: u32, operands: &[Value], caller: &Caller, common: &Common) -> Performed
+    ensures row { (facts : FactsOf) → IsPerformed facts (operation.Done worker) operands.now caller.now common.now common.now ⊥ result }
     ensures stays { Stays common.now common.now result }
 {
     match operands {
-        [] => match asker.role {
-            None => Performed::Unfit,
+        [] => match caller.role {
+            None => Performed::Stuck,
             Some(role) => Performed::Done(flushes(common, role, worker as u64)),
         },
-        _ => Performed::Unfit,
+        _ => Performed::Stuck,
     }
 }
 
@@ -162,17 +162,17 @@ pub fn perform_receive(
     alloc: Global,
     worker: u32,
     operands: &[Value],
-    asker: &Asker,
+    caller: &Caller,
     common: &mut Common,
 ) -> Result<Performed, Memory>
-    ensures row { IfOk result (λ done. (facts : FactsOf) → IsPerformed facts (operation.Receive worker) operands.now asker.now common.old common.new ⊥ done) }
+    ensures row { IfOk result (λ done. (facts : FactsOf) → IsPerformed facts (operation.Receive worker) operands.now caller.now common.old common.new ⊥ done) }
     ensures stays { IfOk result (Stays common.old common.new) }
 {
     match operands {
-        [] => match asker.role {
-            None => Ok(Performed::Unfit),
+        [] => match caller.role {
+            None => Ok(Performed::Stuck),
             Some(role) => Ok(Performed::Done(receives(alloc, common, role, worker as u64)?)),
         },
-        _ => Ok(Performed::Unfit),
+        _ => Ok(Performed::Stuck),
     }
 }

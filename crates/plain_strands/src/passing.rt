@@ -2,7 +2,7 @@
 #![tactic(auto, using(crate::proofs::Changing::changing))]
 
 ghost use Rattle.std.specs.Prelude.{◌≡◌, ◌+◌, IfOk, OnOk, drop, map, option_copied};
-ghost use Rattle.run_model.specs.Strands.{no_activation};
+ghost use Rattle.op_model.specs.Strands.{no_activation};
 ghost use Rattle.plain_run.specs.Held.{activation_of, channel_of, common_of};
 ghost use Rattle.plain_run.specs.Strands.{channel_there};
 ghost use Rattle.plain_strands.specs.Channels.{changed, first_of as first_of_list, passed, passed_from, passed_in, passed_on, passed_to};

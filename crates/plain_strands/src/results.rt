@@ -4,8 +4,8 @@
 ghost use Rattle.std.specs.Prelude.{◌≡◌, ◌++◌, ◌+◌, ◌∷◌, ◌≤◌, IfOk, OnOk, length, map, nat_le, zip};
 ghost use Rattle.std.specs.List.{sum_by};
 ghost use Rattle.value_model.specs.Heap.{cells};
-ghost use Rattle.run_model.specs.Limits.{most_cells};
-ghost use Rattle.run_model.specs.Waits as model;
+ghost use Rattle.op_model.specs.Limits.{most_cells};
+ghost use Rattle.op_model.specs.Waits as model;
 ghost use Rattle.plain_run.specs.Came.{WorldStays, came_of};
 ghost use Rattle.plain_run.specs.Held.{error_of, heap_of, structure_of, world_of};
 ghost use Rattle.plain_copies.specs.Copied.{IsSum};

@@ -3,15 +3,15 @@
 
 ghost use Rattle.std.specs.Prelude.{◌≡◌, IfOk, option_to_list, true};
 ghost use Rattle.operations.specs.declared.operation.Operation.TheVariants as operation;
-ghost use Rattle.run_model.specs.Messages as model;
-ghost use Rattle.plain_run.specs.declared.facts.Facts.{Facts as FactsOf};
+ghost use Rattle.op_model.specs.Messages as model;
+ghost use Rattle.plain_run.specs.declared.facts.ProgramFacts.{ProgramFacts as FactsOf};
 ghost use Rattle.plain_run.specs.Effects.{EffectStays, IsPerformed, Stays, effect_of};
 ghost use Rattle.plain_run.specs.Held.{common_of, role_of};
 
 use crate::passing::{Passing, pass_on};
 use bal_base::{LimitKind, Memory};
 use plain_copies::copied;
-use plain_run::{Asker, Common, Effect, Performed, Role, settle};
+use plain_run::{Caller, Common, Effect, Performed, Role, settle};
 use std::alloc::Global;
 use value_model::Value;
 
@@ -43,22 +43,22 @@ pub fn perform_send(
     alloc: Global,
     worker: u32,
     operands: &[Value],
-    asker: &Asker,
+    caller: &Caller,
     common: &mut Common,
 ) -> Result<Performed, Memory>
-    ensures row { IfOk result (λ done. (facts : FactsOf) → IsPerformed facts (operation.Send worker) operands.now asker.now common.old common.new ⊥ done) }
+    ensures row { IfOk result (λ done. (facts : FactsOf) → IsPerformed facts (operation.Send worker) operands.now caller.now common.old common.new ⊥ done) }
     ensures stays { IfOk result (Stays common.old common.new) }
 {
     match operands {
-        [v] => match asker.role {
-            None => Ok(Performed::Unfit),
+        [v] => match caller.role {
+            None => Ok(Performed::Stuck),
             Some(role) => {
                 let given = Some(Value::Nil);
                 let effect = sends(alloc, common, role, worker as u64, v, given)?;
                 Ok(Performed::Done(effect))
             }
         },
-        _ => Ok(Performed::Unfit),
+        _ => Ok(Performed::Stuck),
     }
 }
 
@@ -67,20 +67,20 @@ pub fn perform_post(
     alloc: Global,
     worker: u32,
     operands: &[Value],
-    asker: &Asker,
+    caller: &Caller,
     common: &mut Common,
 ) -> Result<Performed, Memory>
-    ensures row { IfOk result (λ done. (facts : FactsOf) → IsPerformed facts (operation.Post worker) operands.now asker.now common.old common.new ⊥ done) }
+    ensures row { IfOk result (λ done. (facts : FactsOf) → IsPerformed facts (operation.Post worker) operands.now caller.now common.old common.new ⊥ done) }
     ensures stays { IfOk result (Stays common.old common.new) }
 {
     match operands {
-        [v] => match asker.role {
-            None => Ok(Performed::Unfit),
+        [v] => match caller.role {
+            None => Ok(Performed::Stuck),
             Some(role) => {
                 let effect = sends(alloc, common, role, worker as u64, v, None)?;
                 Ok(Performed::Done(effect))
             }
         },
-        _ => Ok(Performed::Unfit),
+        _ => Ok(Performed::Stuck),
     }
 }

@@ -2,7 +2,7 @@
 #![tactic(auto, using(crate::proofs::Naming::naming))]
 
 ghost use Rattle.std.specs.Prelude.{◌≡◌, ◌++◌, IfOk, OnOk, map, option_map};
-ghost use Rattle.run_model.specs.Waits as model;
+ghost use Rattle.op_model.specs.Waits as model;
 ghost use Rattle.plain_run.specs.Held.{common_of, role_of};
 ghost use Rattle.plain_strands.specs.Choices.{if_all, worker_named};
 ghost use Rattle.plain_strands.specs.Targets.{target_of};

@@ -3,10 +3,10 @@
 
 ghost use Rattle.std.specs.Prelude.{◌≡◌, [], IfOk, Some, map, option_map, true};
 ghost use Rattle.operations.specs.declared.operation.Operation.TheVariants as operation;
-ghost use Rattle.run_model.specs.Strands.{no_strand, strand_at};
-ghost use Rattle.run_model.specs.Waits as model;
-ghost use Rattle.plain_run.specs.declared.facts.Facts.{Facts as FactsOf};
-ghost use Rattle.plain_run.specs.declared.held.Asker.{Asker as AskerOf};
+ghost use Rattle.op_model.specs.Strands.{no_strand, strand_at};
+ghost use Rattle.op_model.specs.Waits as model;
+ghost use Rattle.plain_run.specs.declared.facts.ProgramFacts.{ProgramFacts as FactsOf};
+ghost use Rattle.plain_run.specs.declared.held.Caller.{Caller as CallerOf};
 ghost use Rattle.plain_run.specs.Effects.{EffectStays, IsPerformed, Stays, effect_of};
 ghost use Rattle.plain_run.specs.Held.{common_of, end_of, role_of, strand_of};
 ghost use Rattle.plain_strands.specs.Channels.{changed};
@@ -15,7 +15,7 @@ ghost use Rattle.plain_strands.specs.Targets.{taken_given, target_of, with_taken
 use crate::ends::{ended, share_end};
 use crate::errors::{error_given, future_taken};
 use bal_base::Memory;
-use plain_run::{Asker, Common, Effect, End, Need, Performed, Role, Strand, lifted, strand_end};
+use plain_run::{Caller, Common, Effect, End, Need, Performed, Role, Strand, lifted, strand_end};
 use std::alloc::Global;
 use value_model::Value;
 
@@ -127,11 +127,11 @@ fn waits_worker(
     role: Role,
     worker: u32,
 ) -> Result<Performed, Memory>
-    ensures row { IfOk result (λ done. (facts : FactsOf) (asker : AskerOf) → asker.role ≡ Some role → IsPerformed facts (operation.WaitWorker worker) [] asker common.old common.new ⊥ done) }
+    ensures row { IfOk result (λ done. (facts : FactsOf) (caller : CallerOf) → caller.role ≡ Some role → IsPerformed facts (operation.WaitWorker worker) [] caller common.old common.new ⊥ done) }
     ensures stays { IfOk result (Stays common.old common.new) }
 {
     match worker_target(common, role, worker as u64) {
-        None => Ok(Performed::Unfit),
+        None => Ok(Performed::Stuck),
         Some(t) => Ok(Performed::Done(waits(alloc, common, t)?)),
     }
 }
@@ -141,18 +141,18 @@ pub fn perform_wait_worker(
     alloc: Global,
     worker: u32,
     operands: &[Value],
-    asker: &Asker,
+    caller: &Caller,
     common: &mut Common,
 ) -> Result<Performed, Memory>
-    ensures row { IfOk result (λ done. (facts : FactsOf) → IsPerformed facts (operation.WaitWorker worker) operands.now asker.now common.old common.new ⊥ done) }
+    ensures row { IfOk result (λ done. (facts : FactsOf) → IsPerformed facts (operation.WaitWorker worker) operands.now caller.now common.old common.new ⊥ done) }
     ensures stays { IfOk result (Stays common.old common.new) }
 {
     match operands {
-        [] => match asker.role {
-            None => Ok(Performed::Unfit),
+        [] => match caller.role {
+            None => Ok(Performed::Stuck),
             Some(role) => waits_worker(alloc, common, role, worker),
         },
-        _ => Ok(Performed::Unfit),
+        _ => Ok(Performed::Stuck),
     }
 }
 
@@ -162,7 +162,7 @@ pub fn perform_wait_future(
     operands: &[Value],
     common: &mut Common,
 ) -> Result<Performed, Memory>
-    ensures row { IfOk result (λ done. (facts : FactsOf) (asker : AskerOf) → IsPerformed facts operation.WaitFuture operands.now asker common.old common.new ⊥ done) }
+    ensures row { IfOk result (λ done. (facts : FactsOf) (caller : CallerOf) → IsPerformed facts operation.WaitFuture operands.now caller common.old common.new ⊥ done) }
     ensures stays { IfOk result (Stays common.old common.new) }
 {
     match operands {
@@ -170,6 +170,6 @@ pub fn perform_wait_future(
             let t = future_target(*strand);
             Ok(Performed::Done(waits(alloc, common, t)?))
         }
-        _ => Ok(Performed::Unfit),
+        _ => Ok(Performed::Stuck),
     }
 }

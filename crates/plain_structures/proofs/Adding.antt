@@ -4,8 +4,8 @@ use Rattle.std.specs.Prelude.{option_map}
 use Rattle.bal_base.specs.declared.text.Text.{Text}
 use Rattle.value_model.specs.declared.value.Value.{Value}
 use Rattle.value_model.specs.declared.value.Value.TheVariants.{Str}
-use Rattle.run_model.specs.Operands.{pairs_of}
-use Rattle.run_model.specs.Stores.{entries_from, set_entry}
+use Rattle.op_model.specs.Operands.{pairs_of}
+use Rattle.op_model.specs.Stores.{entries_from, set_entry}
 use Rattle.plain_structures.specs.Entries.{AreAdded}
 
 -- one pair more, in front of the others

@@ -5,8 +5,8 @@ use Rattle.bal_base.specs.declared.text.Text.{Text}
 use Rattle.value_model.specs.declared.value.Value.{Value}
 use Rattle.value_model.specs.Heap.{Entries, Items, Members, Structure, entry_at}
 use Rattle.value_model.specs.World.{Came, World}
-use Rattle.run_model.specs.Rows.{HasEntries, HasItems, ListAt, MappingAt, gives}
-use Rattle.run_model.specs.StructureRows.{ReadsField}
+use Rattle.op_model.specs.Rows.{HasEntries, HasItems, ListAt, MappingAt, gives}
+use Rattle.op_model.specs.StructureRows.{ReadsField}
 use Rattle.plain_structures.specs.Lookups.{entries_at, entries_in, items_at, items_in}
 
 -- ---- something that is made of what is there

@@ -6,10 +6,10 @@ use Rattle.value_model.specs.declared.value.Value.{Value}
 use Rattle.value_model.specs.declared.value.Value.TheVariants.{Error}
 use Rattle.value_model.specs.Heap.{Entries}
 use Rattle.value_model.specs.World.{Came, World, Gave, PassesCells}
-use Rattle.run_model.specs.Operands.{cause_of, pairs_of}
-use Rattle.run_model.specs.Rows.{gives, gives_structure, makes_error, new_structure, next_error, within}
-use Rattle.run_model.specs.Stores.{entries_from}
-use Rattle.run_model.specs.StructureRows.{MakesError, MakesMapping}
+use Rattle.op_model.specs.Operands.{cause_of, pairs_of}
+use Rattle.op_model.specs.Rows.{gives, gives_structure, makes_error, new_structure, next_error, within}
+use Rattle.op_model.specs.Stores.{entries_from}
+use Rattle.op_model.specs.StructureRows.{MakesError, MakesMapping}
 use Rattle.plain_run.specs.declared.held.World.{World as PlainWorld}
 use Rattle.plain_run.specs.declared.world.Came.{Came as PlainCame}
 use Rattle.plain_run.specs.Came.{IsErrorMade}

@@ -8,7 +8,7 @@ use Rattle.std.proofs.lemmas.List.Sums.{fails_before_first}
 use Rattle.bal_base.specs.declared.text.Text.{Text}
 use Rattle.type_model.specs.Places.{is_same_text}
 use Rattle.value_model.specs.declared.value.Value.{Value}
-use Rattle.run_model.specs.Stores.{set_entry}
+use Rattle.op_model.specs.Stores.{set_entry}
 
 module _ (key : Text) (v : Value) where
   abbrev has_key : Text × Value → Bool

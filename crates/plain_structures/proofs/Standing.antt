@@ -6,26 +6,26 @@ use Rattle.bal_base.specs.declared.text.Text.{Text}
 use Rattle.type_model.specs.Places.{is_same_text}
 use Rattle.value_model.specs.declared.value.Value.{Value}
 use Rattle.value_model.specs.Heap.{Structure as ModelStructure, entry_at}
-use Rattle.run_model.specs.StructureRows.{at_place}
+use Rattle.op_model.specs.StructureRows.{at_place}
 use Rattle.plain_run.specs.declared.held.Heap.{Heap}
 use Rattle.plain_run.specs.declared.held.Structure.{Structure}
 use Rattle.plain_run.specs.Held.{heap_of, members_of, structure_of}
 use Rattle.plain_structures.specs.Lookups.{entries_at, entries_in, items_at, items_in}
 
 module _ (h : Heap) (n : ℕ) where
-  at-held : {A : Type 0} (f : ModelStructure → Option A) (o : Option Structure) → slice_get h.structures.items n ≡ o → option_and_then f (slice_get (map structure_of h.structures.items) n) ≡ option_and_then f (option_map structure_of o)
-  at-held f o e = ap (option_and_then f) (slice_get-map structure_of h.structures.items n ∙ ap (option_map structure_of) e)
+  at-held : {A : Type 0} (f : ModelStructure → Option A) (o : Option Structure) → slice_get h.structures n ≡ o → option_and_then f (slice_get (map structure_of h.structures) n) ≡ option_and_then f (option_map structure_of o)
+  at-held f o e = ap (option_and_then f) (slice_get-map structure_of h.structures n ∙ ap (option_map structure_of) e)
 
-  pub items-there : (s : Structure) → slice_get h.structures.items n ≡ Some s → items_at (heap_of h) n ≡ items_in (members_of s.members)
+  pub items-there : (s : Structure) → slice_get h.structures n ≡ Some s → items_at (heap_of h) n ≡ items_in (members_of s.members)
   items-there s e = at-held (λ x. items_in x.members) (Some s) e
 
-  pub items-past : slice_get h.structures.items n ≡ None → items_at (heap_of h) n ≡ None
+  pub items-past : slice_get h.structures n ≡ None → items_at (heap_of h) n ≡ None
   items-past e = at-held (λ x. items_in x.members) None e
 
-  pub entries-there : (s : Structure) → slice_get h.structures.items n ≡ Some s → entries_at (heap_of h) n ≡ entries_in (members_of s.members)
+  pub entries-there : (s : Structure) → slice_get h.structures n ≡ Some s → entries_at (heap_of h) n ≡ entries_in (members_of s.members)
   entries-there s e = at-held (λ x. entries_in x.members) (Some s) e
 
-  pub entries-past : slice_get h.structures.items n ≡ None → entries_at (heap_of h) n ≡ None
+  pub entries-past : slice_get h.structures n ≡ None → entries_at (heap_of h) n ≡ None
   entries-past e = at-held (λ x. entries_in x.members) None e
 
 -- the value at a key is that of the first entry with the key

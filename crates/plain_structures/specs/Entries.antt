@@ -4,10 +4,10 @@ use Rattle.bal_base.specs.declared.text.Text.{Text}
 use Rattle.value_model.specs.declared.value.Value.{Value}
 use Rattle.value_model.specs.declared.value.Value.TheVariants.{Error}
 use Rattle.value_model.specs.World.{Came, World}
-use Rattle.run_model.specs.Operands.{AString, pairs_of}
-use Rattle.run_model.specs.Rows.{gives, makes_error, next_error, within}
-use Rattle.run_model.specs.Stores.{entries_from}
-use Rattle.run_model.specs.StructureRows.{MakesError}
+use Rattle.op_model.specs.Operands.{AString, pairs_of}
+use Rattle.op_model.specs.Rows.{gives, makes_error, next_error, within}
+use Rattle.op_model.specs.Stores.{entries_from}
+use Rattle.op_model.specs.StructureRows.{MakesError}
 
 -- whether these are keys and values in turn, and the entries when they were set
 abbrev pub AreAdded : List (Text × Value) → List Value → Bool → List (Text × Value) → Type 0

@@ -13,7 +13,7 @@ pub fn performed(came: Option<Came>) -> Performed
     ensures stays { (old : CommonOf) (w : WorldOf) → RowStays old.world w came → Stays old (with_world old w) result }
 {
     match came {
-        None => Performed::Unfit,
+        None => Performed::Stuck,
         Some(came) => Performed::Done(lifted(came)),
     }
 }
@@ -24,9 +24,9 @@ pub enum Tried {
     /// This comes.
     Came(Came),
     /// The row says nothing of these operands.
-    Unfit,
+    Stuck,
     /// It is not told, since a question isn't decided.
-    Untold,
+    Undecided,
 }
 
 /// What comes of a row that asks questions of types, as what is answered.
@@ -36,7 +36,7 @@ pub fn answered(tried: Tried) -> Performed
 {
     match tried {
         Tried::Came(came) => Performed::Done(lifted(came)),
-        Tried::Unfit => Performed::Unfit,
-        Tried::Untold => Performed::Untold,
+        Tried::Stuck => Performed::Stuck,
+        Tried::Undecided => Performed::Undecided,
     }
 }

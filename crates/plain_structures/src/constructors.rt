@@ -2,11 +2,11 @@
 ghost use Rattle.std.specs.Prelude.{◌≡◌, IfOk, true};
 ghost use Rattle.operations.specs.declared.operation.Operation.TheVariants as operation;
 ghost use Rattle.value_model.specs.declared.value.Value.TheVariants.{Error};
-ghost use Rattle.run_model.specs.Operands as operand_rows;
-ghost use Rattle.run_model.specs.Rows as rows;
-ghost use Rattle.run_model.specs.StructureRows as structures;
-ghost use Rattle.plain_run.specs.declared.facts.Facts.{Facts as FactsOf};
-ghost use Rattle.plain_run.specs.declared.held.Asker.{Asker as AskerOf};
+ghost use Rattle.op_model.specs.Operands as operand_rows;
+ghost use Rattle.op_model.specs.Rows as rows;
+ghost use Rattle.op_model.specs.StructureRows as structures;
+ghost use Rattle.plain_run.specs.declared.facts.ProgramFacts.{ProgramFacts as FactsOf};
+ghost use Rattle.plain_run.specs.declared.held.Caller.{Caller as CallerOf};
 ghost use Rattle.plain_run.specs.Came.{WorldStays, came_of};
 ghost use Rattle.plain_run.specs.Effects.{IsPerformed, Stays};
 ghost use Rattle.plain_run.specs.Held.{world_of};
@@ -52,7 +52,7 @@ pub fn perform_make_mapping(
     operands: &[Value],
     common: &mut Common,
 ) -> Result<Performed, Memory>
-    ensures row { IfOk result (λ done. (facts : FactsOf) (asker : AskerOf) → IsPerformed facts (operation.MakeMapping atom immutable count) operands.now asker common.old common.new ⊥ done) }
+    ensures row { IfOk result (λ done. (facts : FactsOf) (caller : CallerOf) → IsPerformed facts (operation.MakeMapping atom immutable count) operands.now caller common.old common.new ⊥ done) }
     ensures stays { IfOk result (Stays common.old common.new) }
 {
     let came = makes_mapping(alloc, &mut common.world, atom, immutable, operands)?;
@@ -147,7 +147,7 @@ pub fn perform_make_error(
     operands: &[Value],
     common: &mut Common,
 ) -> Result<Performed, Memory>
-    ensures row { IfOk result (λ done. (facts : FactsOf) (asker : AskerOf) → IsPerformed facts (operation.MakeError count) operands.now asker common.old common.new ⊥ done) }
+    ensures row { IfOk result (λ done. (facts : FactsOf) (caller : CallerOf) → IsPerformed facts (operation.MakeError count) operands.now caller common.old common.new ⊥ done) }
     ensures stays { IfOk result (Stays common.old common.new) }
 {
     match operands {
@@ -155,6 +155,6 @@ pub fn perform_make_error(
             let came = makes_named(alloc, &mut common.world, message, cause, details)?;
             Ok(performed(came))
         }
-        _ => Ok(Performed::Unfit),
+        _ => Ok(Performed::Stuck),
     }
 }

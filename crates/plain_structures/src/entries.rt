@@ -1,8 +1,8 @@
 //! Entries of mappings that are made.
 ghost use Rattle.std.specs.Prelude.{◌≡◌, ◌<◌, [], IfOk, IfSome, OnOk, length, option_map, position};
 ghost use Rattle.type_model.specs.Places.{is_same_text};
-ghost use Rattle.run_model.specs.Operands as operands;
-ghost use Rattle.run_model.specs.Stores as stores;
+ghost use Rattle.op_model.specs.Operands as operands;
+ghost use Rattle.op_model.specs.Stores as stores;
 ghost use Rattle.plain_structures.specs.Entries.{AreAdded};
 
 use bal_base::{Memory, Text};
@@ -40,13 +40,16 @@ pub fn set_entry(entries: &mut Vec<(Text, Value)>, key: &Text, v: &Value) -> Res
 fn add_pairs(entries: &mut Vec<(Text, Value)>, pairs: &[Value]) -> Result<bool, Memory>
     ensures { IfOk result (λ all. AreAdded entries.old.items pairs.now all entries.new.items) }
 {
-    match pairs {
-        [] => Ok(true),
-        [Value::Str(key), v, rest @ ..] => {
-            set_entry(entries, key, v)?;
-            add_pairs(entries, rest)
+    let mut left = pairs;
+    'pairs: loop {
+        match left {
+            [] => return Ok(true),
+            [Value::Str(key), v, rest @ ..] => {
+                set_entry(entries, key, v)?;
+                left = rest;
+            }
+            _ => return Ok(false),
         }
-        _ => Ok(false),
     }
 }
 

@@ -4,7 +4,7 @@
 ghost use Rattle.std.specs.Prelude.{◌≡◌, find, option_copied, option_map};
 ghost use Rattle.type_model.specs.Places.{is_same_text};
 ghost use Rattle.value_model.specs.Heap.{entry_at};
-ghost use Rattle.run_model.specs.StructureRows.{at_place};
+ghost use Rattle.op_model.specs.StructureRows.{at_place};
 ghost use Rattle.plain_run.specs.Held.{heap_of, members_of};
 ghost use Rattle.plain_structures.specs.Lookups as lookups;
 

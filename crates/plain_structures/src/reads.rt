@@ -2,10 +2,10 @@
 ghost use Rattle.std.specs.Prelude.{◌≡◌, IfOk, option_and_then, option_map, true};
 ghost use Rattle.operations.specs.declared.operation.Operation.TheVariants as operation;
 ghost use Rattle.value_model.specs.Heap.{entry_at};
-ghost use Rattle.run_model.specs.Rows as rows;
-ghost use Rattle.run_model.specs.StructureRows as structures;
-ghost use Rattle.plain_run.specs.declared.facts.Facts.{Facts as FactsOf};
-ghost use Rattle.plain_run.specs.declared.held.Asker.{Asker as AskerOf};
+ghost use Rattle.op_model.specs.Rows as rows;
+ghost use Rattle.op_model.specs.StructureRows as structures;
+ghost use Rattle.plain_run.specs.declared.facts.ProgramFacts.{ProgramFacts as FactsOf};
+ghost use Rattle.plain_run.specs.declared.held.Caller.{Caller as CallerOf};
 ghost use Rattle.plain_run.specs.Came.{WorldStays, came_of};
 ghost use Rattle.plain_run.specs.Effects.{IsPerformed, Stays};
 ghost use Rattle.plain_run.specs.Held.{heap_of, world_of};
@@ -127,11 +127,11 @@ pub fn perform_get_item(
     operands: &[Value],
     common: &mut Common,
 ) -> Result<Performed, Memory>
-    ensures row { IfOk result (λ done. (facts : FactsOf) (asker : AskerOf) → IsPerformed facts operation.GetItem operands.now asker common.old common.new ⊥ done) }
+    ensures row { IfOk result (λ done. (facts : FactsOf) (caller : CallerOf) → IsPerformed facts operation.GetItem operands.now caller common.old common.new ⊥ done) }
     ensures stays { IfOk result (Stays common.old common.new) }
 {
     match structure_and_int(operands) {
-        None => Ok(Performed::Unfit),
+        None => Ok(Performed::Stuck),
         Some((n, i)) => {
             let came = reads_item(alloc, &mut common.world, n, i)?;
             Ok(performed(came))
@@ -141,33 +141,33 @@ pub fn perform_get_item(
 
 /// `m[k]` of mappings
 pub fn perform_get_key(operands: &[Value], common: &Common) -> Performed
-    ensures row { (facts : FactsOf) (asker : AskerOf) → IsPerformed facts operation.GetKey operands.now asker common.now common.now ⊥ result }
+    ensures row { (facts : FactsOf) (caller : CallerOf) → IsPerformed facts operation.GetKey operands.now caller common.now common.now ⊥ result }
     ensures stays { Stays common.now common.now result }
 {
     match structure_and_text(operands) {
-        None => Performed::Unfit,
+        None => Performed::Stuck,
         Some((n, key)) => performed(reads_key(&common.world, n, &key)),
     }
 }
 
 /// `m.f`
 pub fn perform_get_field(name: &Text, operands: &[Value], common: &Common) -> Performed
-    ensures row { (facts : FactsOf) (asker : AskerOf) → IsPerformed facts (operation.GetField name.now) operands.now asker common.now common.now ⊥ result }
+    ensures row { (facts : FactsOf) (caller : CallerOf) → IsPerformed facts (operation.GetField name.now) operands.now caller common.now common.now ⊥ result }
     ensures stays { Stays common.now common.now result }
 {
     match structure(operands) {
-        None => Performed::Unfit,
+        None => Performed::Stuck,
         Some(n) => performed(reads_field(&common.world, n, name)),
     }
 }
 
 /// `m?.f`
 pub fn perform_get_optional(name: &Text, operands: &[Value], common: &Common) -> Performed
-    ensures row { (facts : FactsOf) (asker : AskerOf) → IsPerformed facts (operation.GetOptional name.now) operands.now asker common.now common.now ⊥ result }
+    ensures row { (facts : FactsOf) (caller : CallerOf) → IsPerformed facts (operation.GetOptional name.now) operands.now caller common.now common.now ⊥ result }
     ensures stays { Stays common.now common.now result }
 {
     match operands {
         [v] => performed(reads_optional(&common.world, v, name)),
-        _ => Performed::Unfit,
+        _ => Performed::Stuck,
     }
 }

@@ -108,7 +108,7 @@ module _ (atoms : List AtomDef) where
   mutable_told a d s t (Some below) at is tells =
       let has = asked-has a d s at is in
       (λ yes x valid p. tells.0 yes x valid ((has x).1 p), λ all. tells.1 (λ x valid p. all x valid ((has x).0 p)))
-  mutable_told a d s t None at is untold = (s, subst (λ o. IsSomeAnd o (λ d. IsOfMutable a d s)) (sym at) is, untold)
+  mutable_told a d s t None at is undecided = (s, subst (λ o. IsSomeAnd o (λ d. IsOfMutable a d s)) (sym at) is, undecided)
 
   no-atom : (P : Shape → Type 0) (Asked : SemType → Type 0) (t : SemType) → ((x : Shape) → ¬ P x) → TellsAll atoms P Asked t (Some true)
   no-atom P Asked t none = (λ yes x valid p. absurd (none x p), λ _. refl)
@@ -122,7 +122,7 @@ module _ (atoms : List AtomDef) where
 
   pub atom_told : (a : ℕ) (t : SemType) (told : Option Bool) → a < length atoms → TellsSub atoms (Atom a) t told → TellsAtom atoms a t told
   atom_told a t (Some below) lt tells = tells
-  atom_told a t None lt untold = (Atom a, (lt, refl), untold)
+  atom_told a t None lt undecided = (Atom a, (lt, refl), undecided)
 
   pub atom_undefined : (a : ℕ) (t : SemType) → length atoms ≤ a → TellsAtom atoms a t (Some true)
   atom_undefined a t past = no-atom (λ x. In atoms x (Atom a)) (λ s. (a < length atoms) × (s ≡ Atom a)) t (undefined a (slice_get_past atoms a past))

@@ -15,10 +15,10 @@ use Rattle.value_model.specs.declared.value.Value.{Value}
 use Rattle.value_model.specs.declared.value.Value.TheVariants.{Nil, Bool as Truth, Int, Str, Struct, Error, Function, Future}
 use Rattle.value_model.specs.Heap.{Heap as ModelHeap, Structure, FunctionObject}
 use Rattle.value_model.specs.Stands.{HasShape, IsUnmarked, OwnTypes, StructureStands}
-use Rattle.run_model.specs.Facts.{own_types}
-use Rattle.plain_run.specs.declared.facts.Facts.{Facts}
+use Rattle.op_model.specs.ProgramFacts.{own_types}
+use Rattle.plain_run.specs.declared.facts.ProgramFacts.{ProgramFacts}
 use Rattle.plain_run.specs.declared.held.Heap.{Heap}
-use Rattle.plain_run.specs.Facts.{facts_of}
+use Rattle.plain_run.specs.ProgramFacts.{facts_of}
 use Rattle.plain_run.specs.Held.{heap_of}
 use Rattle.plain_tests.specs.Own.{TellsAtomIf, TellsMutableIf, arrow_at, arrow_of, future_of, mutable_at, mutable_in}
 use Rattle.plain_tests.specs.Shapes.{FindsShape, TellsOne, frozen_in}
@@ -43,7 +43,7 @@ module _ (h : ModelHeap) (atoms : List AtomDef) (v : Value) (t : SemType) where
   shape_told x holds found is =
       (λ yes y valid has. (In-same atoms x y (one h x y v found.0 valid found.1 has) t).0 (is.0 yes), λ all. is.1 (all x found.0 found.1))
 
-module _ (facts : Facts) (heap : Heap) where
+module _ (facts : ProgramFacts) (heap : Heap) where
   abbrev own : OwnTypes
   own = own_types (facts_of facts)
 
@@ -100,7 +100,7 @@ module _ (facts : Facts) (heap : Heap) where
   mutable_told n t atom (Some holds) at tells =
       let same = mutable-stands n (slice_get h.structures n) atom at in
       (λ yes x valid p. tells.0 yes x valid ((same x).0 p), λ all. tells.1 (λ x valid p. all x valid ((same x).1 p)))
-  mutable_told n t atom None at (s, is, untold) = (s, own-type n s (slice_get h.structures n) atom at is, untold)
+  mutable_told n t atom None at (s, is, undecided) = (s, own-type n s (slice_get h.structures n) atom at is, undecided)
 
   -- ---- functions and futures
 
@@ -120,13 +120,13 @@ module _ (facts : Facts) (heap : Heap) where
   function_told n t (Some holds) tells =
       let same : (x : Shape) → _ = λ x. function-is (λ a. In own.atoms x (Atom a)) (slice_get h.functions n) in
       (λ yes x valid p. tells.0 yes x valid ((same x).0 p), λ all. tells.1 (λ x valid p. all x valid ((same x).1 p)))
-  function_told n t None (s, is, untold) = (s, (function-is (λ a. (a < length own.atoms) × (s ≡ Atom a)) (slice_get h.functions n)).1 is, untold)
+  function_told n t None (s, is, undecided) = (s, (function-is (λ a. (a < length own.atoms) × (s ≡ Atom a)) (slice_get h.functions n)).1 is, undecided)
 
   pub future_told : (strand unit : ℕ) (t : SemType) (told : Option Bool) → TellsAtomIf facts.atoms.now (future_of own unit) t told → Tells facts heap (Future strand unit) t told
   future_told strand unit t (Some holds) tells =
       let same : (x : Shape) → _ = λ x. future-is (λ a. In own.atoms x (Atom a)) (slice_get own.units unit) in
       (λ yes x valid p. tells.0 yes x valid ((same x).0 p), λ all. tells.1 (λ x valid p. all x valid ((same x).1 p)))
-  future_told strand unit t None (s, is, untold) = (s, (future-is (λ a. (a < length own.atoms) × (s ≡ Atom a)) (slice_get own.units unit)).1 is, untold)
+  future_told strand unit t None (s, is, undecided) = (s, (future-is (λ a. (a < length own.atoms) × (s ≡ Atom a)) (slice_get own.units unit)).1 is, undecided)
 
   -- ---- a type that is there
 

@@ -1,13 +1,13 @@
 -- The atoms of a unit that is there.
 use Rattle.std.proofs.Common.{◌≡◌, ◌∙◌, ℕ, Some, map, option_map, slice_get, ap}
 use Rattle.std.proofs.lemmas.Option.{slice_get-map}
-use Rattle.run_model.specs.Facts.{own_types}
-use Rattle.plain_run.specs.declared.facts.Facts.{Facts}
+use Rattle.op_model.specs.ProgramFacts.{own_types}
+use Rattle.plain_run.specs.declared.facts.ProgramFacts.{ProgramFacts}
 use Rattle.plain_run.specs.declared.facts.UnitFacts.{UnitFacts}
-use Rattle.plain_run.specs.Facts.{facts_of, unit_facts_of}
+use Rattle.plain_run.specs.ProgramFacts.{facts_of, unit_facts_of}
 use Rattle.plain_tests.specs.Own.{arrow_of, future_of}
 
-module _ (facts : Facts) (n : ℕ) (u : UnitFacts) (there : slice_get facts.units.items n ≡ Some u) where
+module _ (facts : ProgramFacts) (n : ℕ) (u : UnitFacts) (there : slice_get facts.units.items n ≡ Some u) where
   atoms-there : slice_get (own_types (facts_of facts)).units n ≡ Some (u.arrow, u.future)
   atoms-there =
       slice_get-map (λ u. (u.arrow, u.future)) (map unit_facts_of facts.units.items) n

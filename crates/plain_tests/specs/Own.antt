@@ -8,7 +8,7 @@ use Rattle.type_model.specs.Inclusion.{Sub}
 use Rattle.type_model.specs.Membership.{In}
 use Rattle.value_model.specs.Heap.{Heap, Structure}
 use Rattle.value_model.specs.Stands.{IsUnmarked, OwnTypes}
-use Rattle.plain_tests.specs.Tells.{IsOfMutable, IsUndecided}
+use Rattle.plain_tests.specs.Tells.{IsOfMutable, IsUndecidedQuestion}
 
 -- the definition of an atom that is named
 abbrev pub def_of : OwnTypes → Option ℕ → Option AtomDef
@@ -34,12 +34,12 @@ module _ (atoms : List AtomDef) where
   -- whether all shapes of the first type are in the second, or that this is not told
   abbrev pub TellsSub : SemType → SemType → Option Bool → Type 0
   TellsSub s t (Some below) = IsTrue below ↔ Sub atoms s t
-  TellsSub s t None = IsUndecided atoms s t
+  TellsSub s t None = IsUndecidedQuestion atoms s t
 
   -- whether all shapes of which this holds are in the type, or that this is not told of such types
   abbrev pub TellsAll : (Shape → Type 0) → (SemType → Type 0) → SemType → Option Bool → Type 0
   TellsAll P Asked t (Some holds) = IsTrue holds ↔ ((x : Shape) → IsValid x → P x → In atoms x t)
-  TellsAll P Asked t None = (s : SemType) × Asked s × IsUndecided atoms s t
+  TellsAll P Asked t None = (s : SemType) × Asked s × IsUndecidedQuestion atoms s t
 
   -- of a mutable structure of the atom
   abbrev pub TellsMutable : ℕ → SemType → Option Bool → Type 0

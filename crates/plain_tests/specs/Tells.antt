@@ -14,14 +14,14 @@ use Rattle.value_model.specs.declared.value.Value.TheVariants.{Nil, Bool as Trut
 use Rattle.value_model.specs.declared.panics.PanicName.TheVariants.{TypeCastError}
 use Rattle.value_model.specs.Heap.{Heap as ModelHeap}
 use Rattle.value_model.specs.Stands.{OwnTypes, Belongs, BelongsIf}
-use Rattle.run_model.specs.Facts.{own_types}
-use Rattle.run_model.specs.Rows.{gives, panics}
-use Rattle.plain_run.specs.declared.facts.Facts.{Facts}
+use Rattle.op_model.specs.ProgramFacts.{own_types}
+use Rattle.op_model.specs.Rows.{gives, panics}
+use Rattle.plain_run.specs.declared.facts.ProgramFacts.{ProgramFacts}
 use Rattle.plain_run.specs.declared.held.Heap.{Heap}
 use Rattle.plain_run.specs.declared.held.World.{World}
 use Rattle.plain_run.specs.declared.world.Came.{Came}
 use Rattle.plain_run.specs.Came.{came_of}
-use Rattle.plain_run.specs.Facts.{facts_of}
+use Rattle.plain_run.specs.ProgramFacts.{facts_of}
 use Rattle.plain_run.specs.Held.{heap_of, world_of}
 
 -- ---- the type of all shapes that a value may stand for, where it may stand for several
@@ -61,13 +61,13 @@ module _ (own : OwnTypes) (h : ModelHeap) where
 
 -- It is asked whether all shapes of the first type are in the second. That is not decided where the second names an atom
 -- that is not defined, and where the question passes a limit.
-abbrev pub IsUndecided : List AtomDef → SemType → SemType → Type 0
-IsUndecided atoms s t = (¬ IsDefined atoms t) ⊎ ((limit : TypeLimit) × Passes atoms (Without s t) limit)
+abbrev pub IsUndecidedQuestion : List AtomDef → SemType → SemType → Type 0
+IsUndecidedQuestion atoms s t = (¬ IsDefined atoms t) ⊎ ((limit : TypeLimit) × Passes atoms (Without s t) limit)
 
-module _ (facts : Facts) (h : Heap) where
+module _ (facts : ProgramFacts) (h : Heap) where
   -- that is not told of the value's own type
   abbrev pub IsBeyond : Value → SemType → Type 0
-  IsBeyond v t = (s : SemType) × IsOwnType (own_types (facts_of facts)) (heap_of h) v s × IsUndecided facts.atoms.now s t
+  IsBeyond v t = (s : SemType) × IsOwnType (own_types (facts_of facts)) (heap_of h) v s × IsUndecidedQuestion facts.atoms.now s t
 
   -- whether the value belongs to the type, or that it is not told
   abbrev pub Tells : Value → SemType → Option Bool → Type 0

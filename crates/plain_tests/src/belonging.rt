@@ -1,8 +1,8 @@
 //! Whether values belong to types.
 ghost use Rattle.std.specs.Prelude.{◌≡◌, IfOk, option_copied};
 ghost use Rattle.value_model.specs.declared.value.Value.TheVariants.{Struct as StructOf};
-ghost use Rattle.run_model.specs.Facts.{own_types};
-ghost use Rattle.plain_run.specs.Facts.{facts_of};
+ghost use Rattle.op_model.specs.ProgramFacts.{own_types};
+ghost use Rattle.plain_run.specs.ProgramFacts.{facts_of};
 ghost use Rattle.plain_run.specs.Held.{heap_of, structure_of};
 ghost use Rattle.plain_tests.specs.Own as owns;
 ghost use Rattle.plain_tests.specs.Tells.{Tells, TellsIf, TellsIfOne};
@@ -10,7 +10,7 @@ ghost use Rattle.plain_tests.specs.Tells.{Tells, TellsIf, TellsIfOne};
 use crate::below::{atom_below_if, mutable_below_if};
 use crate::single::by_shape;
 use bal_base::Memory;
-use plain_run::{Facts, Heap, Structure};
+use plain_run::{Heap, ProgramFacts, Structure};
 use std::alloc::Global;
 use type_model::{SemType, Ty};
 use value_model::Value;
@@ -33,7 +33,7 @@ fn mutable_at(heap: &Heap, n: u32) -> Option<Option<u32>>
 }
 
 /// The arrow of a unit.
-fn arrow_of(facts: &Facts, unit: u32) -> Option<u32>
+fn arrow_of(facts: &ProgramFacts, unit: u32) -> Option<u32>
     ensures { result ≡ owns.arrow_of (own_types (facts_of facts.now)) unit }
 {
     match facts.units.get(unit as usize) {
@@ -43,7 +43,7 @@ fn arrow_of(facts: &Facts, unit: u32) -> Option<u32>
 }
 
 /// The future atom of a unit.
-fn future_of(facts: &Facts, unit: u32) -> Option<u32>
+fn future_of(facts: &ProgramFacts, unit: u32) -> Option<u32>
     ensures { result ≡ owns.future_of (own_types (facts_of facts.now)) unit }
 {
     match facts.units.get(unit as usize) {
@@ -53,7 +53,7 @@ fn future_of(facts: &Facts, unit: u32) -> Option<u32>
 }
 
 /// The arrow of the unit of a function.
-fn arrow_at(facts: &Facts, heap: &Heap, n: u32) -> Option<u32>
+fn arrow_at(facts: &ProgramFacts, heap: &Heap, n: u32) -> Option<u32>
     ensures { result ≡ owns.arrow_at (own_types (facts_of facts.now)) (heap_of heap.now) n }
 {
     match heap.functions.get(n as usize) {
@@ -65,7 +65,7 @@ fn arrow_at(facts: &Facts, heap: &Heap, n: u32) -> Option<u32>
 /// Whether a structure belongs to the type, where that is told.
 fn structure_belongs(
     alloc: Global,
-    facts: &Facts,
+    facts: &ProgramFacts,
     heap: &Heap,
     n: u32,
     t: &SemType,
@@ -81,7 +81,7 @@ fn structure_belongs(
 /// Whether a simple value or an error belongs to the type.
 fn one_belongs(
     alloc: Global,
-    facts: &Facts,
+    facts: &ProgramFacts,
     heap: &Heap,
     v: &Value,
     t: &SemType,
@@ -96,7 +96,7 @@ fn one_belongs(
 /// the value stands for is in the type passes a limit.
 pub fn belongs(
     alloc: Global,
-    facts: &Facts,
+    facts: &ProgramFacts,
     heap: &Heap,
     v: &Value,
     t: &SemType,
@@ -114,7 +114,7 @@ pub fn belongs(
 /// Whether there is such a type, and the value belongs to it. `None` comes where that is not told of the type.
 pub fn belongs_if(
     alloc: Global,
-    facts: &Facts,
+    facts: &ProgramFacts,
     heap: &Heap,
     v: &Value,
     t: Option<&Ty>,

@@ -6,7 +6,7 @@
 //!
 //! A simple value, an immutable structure and an error has one shape at most, which is looked for and tested. Of a
 //! mutable structure, a function and a future it is asked whether all that its atom has is in the type; only that
-//! may be answered `Untold`, and `IsBeyond` in `specs/Tells.antt` says when.
+//! may be answered `Undecided`, and `IsBeyond` in `specs/Tells.antt` says when.
 //!
 //! - `keys`, `shapes`: the one shape of a value. `single`: whether it is in a type.
 //! - `below`: whether all shapes of an atom are in a type.

@@ -1,12 +1,12 @@
 //! Types at places of lists and at keys of mappings.
 ghost use Rattle.std.specs.Prelude.{◌≡◌, find, option_copied};
 ghost use Rattle.type_model.specs.Places as places;
-ghost use Rattle.run_model.specs.Facts.{own_types};
-ghost use Rattle.plain_run.specs.Facts.{facts_of};
+ghost use Rattle.op_model.specs.ProgramFacts.{own_types};
+ghost use Rattle.plain_run.specs.ProgramFacts.{facts_of};
 ghost use Rattle.plain_tests.specs.Own.{def_of};
 
 use bal_base::Text;
-use plain_run::Facts;
+use plain_run::ProgramFacts;
 use type_model::{AtomDef, FieldDef, Ty};
 
 /// The type at a place of a list, where there is one: its own, or the rest's.
@@ -38,7 +38,7 @@ pub fn key_type<'a>(fields: &'a [FieldDef], rest: &'a Option<Ty>, key: &Text) ->
 }
 
 /// The definition of an atom, where one is named and defined.
-pub fn definition<'a>(facts: &'a Facts, atom: Option<u32>) -> Option<&'a AtomDef>
+pub fn definition<'a>(facts: &'a ProgramFacts, atom: Option<u32>) -> Option<&'a AtomDef>
     ensures { option_copied result ≡ def_of (own_types (facts_of facts.now)) atom }
 {
     match atom {

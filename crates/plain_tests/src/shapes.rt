@@ -206,7 +206,7 @@ fn text_shape(text: &Text) -> Shape
 fn detailed(alloc: Global, heap: &Heap, detail: u32) -> Result<Option<Shape>, Memory>
     ensures { IfOk result (FindsError (heap_of heap.now) detail) }
 {
-    match structure_shape(alloc, heap, detail, heap.structures.as_slice().len())? {
+    match structure_shape(alloc, heap, detail, heap.structures.len())? {
         None => Ok(None),
         Some(shape) => with_detail(alloc, shape),
     }
@@ -260,6 +260,6 @@ pub(crate) fn one_shape(alloc: Global, heap: &Heap, v: &Value) -> Result<Option<
 {
     match error_number(v) {
         Some(n) => error_shape(alloc, heap, n),
-        None => inner_shape(alloc, heap, v, heap.structures.as_slice().len()),
+        None => inner_shape(alloc, heap, v, heap.structures.len()),
     }
 }

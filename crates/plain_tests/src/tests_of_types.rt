@@ -2,7 +2,7 @@
 ghost use Rattle.std.specs.Prelude.{◌≡◌, IfOk};
 ghost use Rattle.operations.specs.declared.operation.Operation.TheVariants as operation;
 ghost use Rattle.typed_tree.specs.SharedTypes.{sem_of};
-ghost use Rattle.plain_run.specs.declared.held.Asker.{Asker as AskerOf};
+ghost use Rattle.plain_run.specs.declared.held.Caller.{Caller as CallerOf};
 ghost use Rattle.plain_run.specs.Came.{WorldStays, came_of};
 ghost use Rattle.plain_run.specs.Effects.{IsPerformed, Stays};
 ghost use Rattle.held_operations.specs.Operation as operations;
@@ -12,7 +12,7 @@ use crate::belonging::belongs;
 use bal_base::Memory;
 use held_operations::TestedType;
 use operations::Constant;
-use plain_run::{Came, Common, Facts, Heap, Performed, World, lifted, panics, told};
+use plain_run::{Came, Common, Heap, Performed, ProgramFacts, World, lifted, panics, told};
 use std::alloc::Global;
 use type_model::{BasicSet, SemType};
 use typed_tree::SharedTy;
@@ -33,7 +33,7 @@ fn singleton(c: &Constant) -> SemType
 /// Whether the value belongs to the tested type, where that is told.
 fn belongs_to(
     alloc: Global,
-    facts: &Facts,
+    facts: &ProgramFacts,
     heap: &Heap,
     v: &Value,
     t: TestedType,
@@ -48,23 +48,23 @@ fn belongs_to(
     }
 }
 
-/// `v is T`. `Untold` has a cause of its own, `IsBeyond`.
+/// `v is T`. `Undecided` has a cause of its own, `IsBeyond`.
 pub fn perform_test(
     alloc: Global,
-    facts: &Facts,
+    facts: &ProgramFacts,
     t: TestedType,
     operands: &[Value],
     common: &Common,
 ) -> Result<Performed, Memory>
-    ensures row { IfOk result (λ done. (asker : AskerOf) → IsPerformed facts.now (operation.Test (operations.type_of t.entry)) operands.now asker common.now common.now (AreBeyond facts.now common.now.world.heap operands.now (operations.type_of t.entry)) done) }
+    ensures row { IfOk result (λ done. (caller : CallerOf) → IsPerformed facts.now (operation.Test (operations.type_of t.entry)) operands.now caller common.now common.now (AreBeyond facts.now common.now.world.heap operands.now (operations.type_of t.entry)) done) }
     ensures stays { IfOk result (Stays common.now common.now) }
 {
     match operands {
         [v] => match belongs_to(alloc, facts, &common.world.heap, v, t)? {
             Some(holds) => Ok(told(holds)),
-            None => Ok(Performed::Untold),
+            None => Ok(Performed::Undecided),
         },
-        _ => Ok(Performed::Unfit),
+        _ => Ok(Performed::Stuck),
     }
 }
 
@@ -79,15 +79,15 @@ fn casts(alloc: Global, world: &mut World, v: &Value, holds: bool) -> Result<Cam
     panics(alloc, world, PanicName::TypeCastError)
 }
 
-/// `<T>v`. `Untold` has a cause of its own, `IsBeyond`.
+/// `<T>v`. `Undecided` has a cause of its own, `IsBeyond`.
 pub fn perform_cast(
     alloc: Global,
-    facts: &Facts,
+    facts: &ProgramFacts,
     t: &SharedTy,
     operands: &[Value],
     common: &mut Common,
 ) -> Result<Performed, Memory>
-    ensures row { IfOk result (λ done. (asker : AskerOf) → IsPerformed facts.now (operation.Cast (sem_of t.now)) operands.now asker common.old common.new (AreBeyond facts.now common.old.world.heap operands.now (sem_of t.now)) done) }
+    ensures row { IfOk result (λ done. (caller : CallerOf) → IsPerformed facts.now (operation.Cast (sem_of t.now)) operands.now caller common.old common.new (AreBeyond facts.now common.old.world.heap operands.now (sem_of t.now)) done) }
     ensures stays { IfOk result (Stays common.old common.new) }
 {
     match operands {
@@ -96,8 +96,8 @@ pub fn perform_cast(
                 let came = casts(alloc, &mut common.world, v, holds)?;
                 Ok(Performed::Done(lifted(came)))
             }
-            None => Ok(Performed::Untold),
+            None => Ok(Performed::Undecided),
         },
-        _ => Ok(Performed::Unfit),
+        _ => Ok(Performed::Stuck),
     }
 }

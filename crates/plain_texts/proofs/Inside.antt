@@ -10,7 +10,7 @@ use Rattle.bal_base.specs.declared.text.Text.{Text}
 use Rattle.value_model.specs.declared.value.Value.{Value}
 use Rattle.value_model.specs.declared.value.Value.TheVariants.{Error, Struct}
 use Rattle.value_model.specs.Heap.{Heap as ModelHeap, Structure as ModelStructure, ErrorObject as ModelError, Members, Items, Entries}
-use Rattle.run_model.specs.Texts.{details_text, error_text, inner_text, members_text, structure_text}
+use Rattle.op_model.specs.Texts.{details_text, error_text, inner_text, members_text, structure_text}
 use Rattle.plain_run.specs.declared.held.Heap.{Heap}
 use Rattle.std.specs.Global.{Global}
 use Rattle.plain_run.specs.declared.held.Members.TheVariants as held
@@ -54,13 +54,13 @@ module _ (h : Heap) (text : Value → List ℕ) (n : ℕ) where
   structure_by (Some s) = members_text text s.members
   structure_by None = []
 
-  at-structures : (o : Option Structure) → slice_get h.structures.items n ≡ o → slice_get (map structure_of h.structures.items) n ≡ option_map structure_of o
-  at-structures o e = slice_get-map structure_of h.structures.items n ∙ ap (option_map structure_of) e
+  at-structures : (o : Option Structure) → slice_get h.structures n ≡ o → slice_get (map structure_of h.structures) n ≡ option_map structure_of o
+  at-structures o e = slice_get-map structure_of h.structures n ∙ ap (option_map structure_of) e
 
-  pub members-there : (s : Structure) → slice_get h.structures.items n ≡ Some s → structure_text (heap_of h) text n ≡ members_text text (members_of s.members)
+  pub members-there : (s : Structure) → slice_get h.structures n ≡ Some s → structure_text (heap_of h) text n ≡ members_text text (members_of s.members)
   members-there s e = ap structure_by (at-structures (Some s) e)
 
-  pub members-past : slice_get h.structures.items n ≡ None → structure_text (heap_of h) text n ≡ []
+  pub members-past : slice_get h.structures n ≡ None → structure_text (heap_of h) text n ≡ []
   members-past e = ap structure_by (at-structures None e)
 
   abbrev details_in : Members → List ℕ
@@ -71,13 +71,13 @@ module _ (h : Heap) (text : Value → List ℕ) (n : ℕ) where
   details_by (Some s) = details_in s.members
   details_by None = []
 
-  pub details-there : (s : Structure) (m : Members) → slice_get h.structures.items n ≡ Some s → members_of s.members ≡ m → details_text (heap_of h) text n ≡ details_in m
+  pub details-there : (s : Structure) (m : Members) → slice_get h.structures n ≡ Some s → members_of s.members ≡ m → details_text (heap_of h) text n ≡ details_in m
   details-there s m e is = ap details_by (at-structures (Some s) e) ∙ ap details_in is
 
-  pub details-entries : (s : Structure) (es : Vec (Text × Value) Global) → slice_get h.structures.items n ≡ Some s → s.members ≡ held.Entries es → details_text (heap_of h) text n ≡ flat_map (λ e. codes "," ++ e.0 ++ codes "=" ++ text e.1) es.items
+  pub details-entries : (s : Structure) (es : Vec (Text × Value) Global) → slice_get h.structures n ≡ Some s → s.members ≡ held.Entries es → details_text (heap_of h) text n ≡ flat_map (λ e. codes "," ++ e.0 ++ codes "=" ++ text e.1) es.items
   details-entries s es e is = details-there s (Entries es.items) e (ap members_of is)
 
-  pub details-past : slice_get h.structures.items n ≡ None → details_text (heap_of h) text n ≡ []
+  pub details-past : slice_get h.structures n ≡ None → details_text (heap_of h) text n ≡ []
   details-past e = ap details_by (at-structures None e)
 
   abbrev error_by : Option ModelError → List ℕ

@@ -4,7 +4,7 @@
 ghost use Rattle.std.specs.Prelude.{◌≡◌, ◌==◌, ◌∷◌, ◌++◌, IfOk, OnOk, codes, flat_map};
 ghost use Rattle.std.specs.List.{list_any};
 ghost use Rattle.text_forms.specs.Forms.{Adds, listed, quoted, written};
-ghost use Rattle.run_model.specs.Texts as texts;
+ghost use Rattle.op_model.specs.Texts as texts;
 ghost use Rattle.value_model.specs.declared.value.Value.TheVariants.{Error, Struct};
 ghost use Rattle.plain_run.specs.Held.{error_of, heap_of, members_of};
 ghost use Rattle.plain_texts.specs.Parts.{parts_text};
@@ -314,7 +314,7 @@ fn add_detail(
 fn add_within(alloc: Global, out: &mut String, heap: &Heap, v: &Value) -> Result<(), Memory>
     ensures { OnOk result (Adds (written out.old) (texts.text_within (heap_of heap.now) v.now) (written out.new)) }
 {
-    let depth = heap.structures.as_slice().len() as u64 + heap.errors.as_slice().len() as u64;
+    let depth = heap.structures.len() as u64 + heap.errors.as_slice().len() as u64;
     add_inner(alloc, out, heap, depth, &[], v)
 }
 

@@ -3,15 +3,15 @@ use Rattle.std.proofs.Common.{◌≡◌, ℕ, suc, List, [], ◌∷◌, ◌++◌
 use Rattle.std.specs.Prelude.{⊤, slice_get}
 use Rattle.bal_base.specs.declared.text.Text.{Text}
 use Rattle.value_model.specs.Meaning.{Answers}
-use Rattle.run_model.specs.Common.{Common}
+use Rattle.op_model.specs.Common.{Common}
 use Rattle.machine_model.specs.Following.{AreFine, FramesFollow, Quiet, Settles, here, pass, step}
-use Rattle.machine_model.specs.Machine.{Blocked, Does, Ended, Frame, Limit, Machine, Moved, NeedsTick, Next, State, Step, Stuck, Takes, TakesTop, asker, goes_to}
+use Rattle.machine_model.specs.Machine.{Blocked, Does, Ended, Frame, Limit, Machine, Moved, NeedsTick, Next, State, Step, Stuck, Takes, TakesTop, caller, goes_to}
 use Rattle.machine_model.specs.Matching.{Alongside, AskAlike, BelowMatch, FramesMatch, OthersMatch, SameCall, StateMatch, TopsAlong}
 use Rattle.machine_model.specs.Runs.{AreWords, Phase, Picking, Reaches, Running, after_block, after_end, after_move, after_pick, picked, start, starts}
 use Rattle.machine_model.specs.Steps.{state_at}
 use Rattle.machine_model.proofs.Back.{back-asked, meet}
 use Rattle.machine_model.proofs.Forth.{same-picked}
-use Rattle.machine_model.proofs.Lifts.{NextMatch, back-some, same-asker}
+use Rattle.machine_model.proofs.Lifts.{NextMatch, back-some, same-caller}
 use Rattle.machine_model.proofs.Quietly.{same-next, same-pass}
 use Rattle.machine_model.proofs.SameOutcomes.{starts-match}
 use Rattle.machine_model.proofs.Steps.{Moves, move, quiet-moves, stay}
@@ -50,7 +50,7 @@ module _ {A B : Type 0} (natives : Answers) (M : Machine A) (N : Machine B) (Fol
       by (f ∷ fs) (g ∷ gs) p q (call, w, below) =
           let came = came-at order s t.common f fs good same p in
           let k = meet natives M N Follows Fine sim fine words input ticks texts t.common f fs s.others g.control (settle f.unit f.control) (came.0, order, came.1) w in
-          let quiet = subst (λ z. Quiet natives N z t.common g.control k.1) (same-asker M N Follows f g fs gs call below) k.3 in
+          let quiet = subst (λ z. Quiet natives N z t.common g.control k.1) (same-caller M N Follows f g fs gs call below) k.3 in
           let tops : TopsAlong M N Follows natives t.common (goes_to f k.0 ∷ fs) (g ∷ gs) = (call, below, (k.1, quiet, k.5)) in
           let there = came-by order (quiet-moves natives M t.common f fs s.others k.2) came in
           (state_at t.common f k.0 fs s.others, there, (refl, om, subst (λ l. TopsAlong M N Follows natives t.common (goes_to f k.0 ∷ fs) l) (sym q) tops))
@@ -68,7 +68,7 @@ module _ {A B : Type 0} (natives : Answers) (M : Machine A) (N : Machine B) (Fol
   module _ (order : List ℕ) (s : State A) (c : Common) (f : Frame A) (fs : List (Frame A)) (g : Frame B) (gs : List (Frame B)) (ps : List (List (Frame B))) (good : IsCame Running order s) (same : s.common ≡ c)
       (p : s.frames ≡ f ∷ fs) (om : OthersMatch M N Follows s.others ps) (call : SameCall f g) (below : BelowMatch M N Follows fs gs) where
     -- the frame of the second stands so: its next step is quiet, or one that the first makes too
-    quiet-or : (b d : B) (next : Next B) → Quiet natives N (asker g gs) c b d → AskAlike M N Follows natives f.unit f.control d → Step natives N (state_at c g b gs ps) next → NextMet order next
+    quiet-or : (b d : B) (next : Next B) → Quiet natives N (caller g gs) c b d → AskAlike M N Follows natives f.unit f.control d → Step natives N (state_at c g b gs ps) next → NextMet order next
     quiet-or b d next here (inl (op, vs, k, m, other, e, look, alike, held)) h =
         let first = back-asked natives M N Follows Fine sim fine words input ticks texts c f g fs gs s.others ps f.control k b m op other vs call om below e (subst (λ u. N.look u b ≡ Does other vs m) call.0 look) alike held next h in
         finish order (state_at c f f.control fs s.others) first.0 next (came-at order s c f fs good same p) first.1 first.2

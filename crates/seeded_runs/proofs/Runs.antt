@@ -4,7 +4,7 @@ use Rattle.std.specs.Prelude.{length, slice_get, take}
 use Rattle.bal_base.specs.declared.text.Text.{Text}
 use Rattle.bal_io.specs.Content.{Appends, IsPrefixOf, Told}
 use Rattle.value_model.specs.Meaning.{Answers}
-use Rattle.run_model.specs.Common.{Common}
+use Rattle.op_model.specs.Common.{Common}
 use Rattle.machine_model.specs.Following.{AreFine, FramesFollow, Settles}
 use Rattle.machine_model.specs.Machine.{Machine}
 use Rattle.machine_model.specs.Outcomes.{Outcome}

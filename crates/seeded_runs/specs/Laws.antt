@@ -2,7 +2,7 @@
 use Rattle.std.specs.Prelude.{◌≡◌, ℕ, List, Option}
 use Rattle.bal_base.specs.declared.text.Text.{Text}
 use Rattle.value_model.specs.Meaning.{Answers}
-use Rattle.run_model.specs.Common.{Common}
+use Rattle.op_model.specs.Common.{Common}
 use Rattle.machine_model.specs.Following.{AreFine, FramesFollow, Settles}
 use Rattle.machine_model.specs.Machine.{Machine, State}
 use Rattle.machine_model.specs.Outcomes.{IsAllowed, Outcome}

@@ -2,7 +2,7 @@
 ghost use Rattle.seeded_runs.specs.Laws.{FollowersReachAlike, FollowersRunAlike};
 
 use machine_model::Followed;
-use run_model::Meaning;
+use op_model::Meaning;
 
 /// Where each frame of the first machine is followed by one of the second and comes to what it asks, each state that the second
 /// machine reaches by some picks has one of the first beside it that is reached by the same picks; so what comes of a run of

@@ -1,4 +1,4 @@
-//! Runs whose picks a seed names, on any machine, as definitions; and that machines whose frames answer alike have the same ones.
+//! Runs whose picks a seed names, on any machine, as definitions; and that a machine runs as one whose frames follow its own.
 //!
 //! - `specs/Seeds.antt`: which of the ready strands a seed names. `specs/Runs.antt`: what comes of such a run, and what of it was
 //!   written.

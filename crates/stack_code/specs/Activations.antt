@@ -2,8 +2,8 @@
 use Rattle.std.specs.Prelude.{◌≡◌, ◌⊎◌, ◌≤◌, ◌<◌, ◌-◌, ◌+◌, ℕ, suc, Option, Some, None, IsSomeAnd, IsTrue, All, is_some, length, slice_get, ⊤}
 use Rattle.type_model.specs.declared.basic.SemType.{SemType}
 use Rattle.value_model.specs.declared.value.Value.{Value}
-use Rattle.run_model.specs.Common.{Common, Activation, Channel, End, Returned, Panicked}
-use Rattle.run_model.specs.Strands.{is_error}
+use Rattle.op_model.specs.Common.{Common, Activation, Channel, End, Returned, Panicked}
+use Rattle.op_model.specs.Strands.{is_error}
 use Rattle.stack_code.specs.declared.code.Code.{Code}
 use Rattle.stack_code.specs.Frames.{HasReceived, HasSent, channel_in, end_in_call}
 use Rattle.stack_code.specs.Messages.{HasAll, IsLast, Leaves, ReceivesAt, SendsAt, worker}

@@ -4,8 +4,8 @@ use Rattle.std.specs.List.{AllZip}
 use Rattle.type_model.specs.declared.basic.SemType.{SemType}
 use Rattle.operations.specs.declared.operation.Operation.TheVariants as op
 use Rattle.value_model.specs.declared.value.Value.{Value}
-use Rattle.run_model.specs.Common.{Common, Role, Activation, Channel, End}
-use Rattle.run_model.specs.Strands.{activation_at, no_channel}
+use Rattle.op_model.specs.Common.{Common, Role, Activation, Channel, End}
+use Rattle.op_model.specs.Strands.{activation_at, no_channel}
 use Rattle.machine_model.specs.Machine.{Frame}
 use Rattle.stack_code.specs.declared.code.Code.{Code}
 use Rattle.stack_code.specs.declared.code.Unit.{Unit as CodeUnit}

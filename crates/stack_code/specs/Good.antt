@@ -3,8 +3,8 @@ use Rattle.std.specs.Prelude.{◌≡◌, ◌≢◌, ◌⊎◌, ◌<◌, ℕ, Lis
 use Rattle.value_model.specs.declared.value.Value.{Value}
 use Rattle.value_model.specs.declared.value.Value.TheVariants.{Nil}
 use Rattle.value_model.specs.Heap.{Grows, IsClosed}
-use Rattle.run_model.specs.Common.{Common, Role, Activation, Strand, End, Returned, Panicked, Need, Message, Received, AllEnded, AnyGiven, IsActive, IsBlocked, IsEnded}
-use Rattle.run_model.specs.Strands.{activation_at, end_in, ended_count, has_ended, is_error, met}
+use Rattle.op_model.specs.Common.{Common, Role, Activation, Strand, End, Returned, Panicked, Need, Message, Received, AllEnded, AnyGiven, IsActive, IsBlocked, IsEnded}
+use Rattle.op_model.specs.Strands.{activation_at, end_in, ended_count, has_ended, is_error, met}
 use Rattle.machine_model.specs.Machine.{State}
 use Rattle.machine_model.specs.Keeping.{Invariant, IsIdle, StateFits}
 use Rattle.machine_model.specs.Runs.{Phase, Running, Picking}

@@ -19,7 +19,7 @@ use Rattle.operations.specs.Kinds.{IsError, IsNil, IsString}
 use Rattle.operations.specs.Rows.{IsWithin, shape_of}
 use Rattle.operations.specs.Structures.{IsListAtom}
 use Rattle.operations.specs.Uses.{atoms_made, units_called, units_used, units_valued, use_of}
-use Rattle.run_model.specs.Inherent.{IsListDefinition, IsOneChoice, member_types}
+use Rattle.op_model.specs.Inherent.{IsListDefinition, IsOneChoice, member_types}
 use Rattle.stack_code.specs.declared.code.Code.{Code}
 use Rattle.stack_code.specs.declared.code.Unit.{Unit as CodeUnit}
 use Rattle.stack_code.specs.declared.code.Spawn.{Spawn}

@@ -12,9 +12,9 @@ use Rattle.value_model.specs.Heap.{Entries, FunctionObject, IsClosed, IsThere, I
 use Rattle.value_model.specs.Meaning.{HasShapes}
 use Rattle.value_model.specs.Stands.{OwnTypes, Belongs, IsUnmarked, MembersBelong}
 use Rattle.value_model.specs.Valid.{IsValidHeap, IsValidValue}
-use Rattle.run_model.specs.Common.{Common}
-use Rattle.run_model.specs.Rows.{size_of}
-use Rattle.run_model.specs.Strands.{is_error}
+use Rattle.op_model.specs.Common.{Common}
+use Rattle.op_model.specs.Rows.{size_of}
+use Rattle.op_model.specs.Strands.{is_error}
 use Rattle.stack_code.specs.declared.code.Code.{Code}
 use Rattle.stack_code.specs.Tables.{IsCallable, IsInherent, UnitAt}
 

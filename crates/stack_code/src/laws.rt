@@ -2,7 +2,7 @@
 ghost use Rattle.stack_code.specs.Laws.{CodeStepsOnce, CodeRunsOnce, CallsStandAtNumbers, NoneBreaks};
 ghost use Rattle.stack_code.specs.Worked.{LandingIsRefused, ReturnIsRefused, TrappedWorkersAreRefused, WorkedIsWellTyped, WorkerStands, WrongCrewIsRefused};
 
-use run_model::Meaning;
+use op_model::Meaning;
 
 /// A state of code has at most one next one, and by an order at most one run, where the natives come to one thing.
 pub fn code_has_one_next_state<N: Meaning>()

@@ -4,7 +4,7 @@ use Rattle.std.specs.Prelude.{Any, IsSomeAnd, OnOk, Result, Err, Ok, option_to_l
 use Rattle.type_model.specs.declared.atoms.AtomDef.{AtomDef}
 use Rattle.type_model.specs.declared.basic.SemType.{SemType}
 use Rattle.type_model.specs.SameType.{IsSameType}
-use Rattle.run_model.specs.Inherent.{member_types}
+use Rattle.op_model.specs.Inherent.{member_types}
 use Rattle.stack_code.specs.Commands.{Command}
 use Rattle.tested_types.specs.Asked.{Asks, HasMember, IsDefinedAt, Notes, type_in}
 use Rattle.tested_types.proofs.Noting.{notes-append, notes-empty, notes-mapped, notes-one}

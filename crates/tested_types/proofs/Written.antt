@@ -11,7 +11,7 @@ use Rattle.operations.specs.declared.operation.Constant.{Constant}
 use Rattle.operations.specs.declared.operation.Constant.TheVariants.{Nil, Bool as Truth, Int, Str}
 use Rattle.operations.specs.declared.operation.Operation.{Operation}
 use Rattle.operations.specs.declared.operation.Operation.TheVariants as op
-use Rattle.run_model.specs.Inherent.{member_types}
+use Rattle.op_model.specs.Inherent.{member_types}
 use Rattle.stack_code.specs.declared.code.Code.{Code}
 use Rattle.stack_code.specs.declared.code.Unit.{Unit as CodeUnit}
 use Rattle.stack_code.specs.declared.instr.Instr.{Instr}

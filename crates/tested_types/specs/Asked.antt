@@ -5,7 +5,7 @@ use Rattle.type_model.specs.declared.basic.SemType.{SemType}
 use Rattle.type_model.specs.SameType.{IsSameType}
 use Rattle.operations.specs.declared.operation.Operation.{Operation}
 use Rattle.operations.specs.declared.operation.Operation.TheVariants as op
-use Rattle.run_model.specs.Inherent.{member_types}
+use Rattle.op_model.specs.Inherent.{member_types}
 use Rattle.stack_code.specs.declared.code.Code.{Code}
 use Rattle.stack_code.specs.Commands.{Command, Do, GoTo, GoToIfNot, OpenTrap, CloseTrap, command_at}
 

@@ -3,7 +3,7 @@
 
 ghost use Rattle.std.specs.Prelude.{◌++◌, All, Any, OnOk, map, option_to_list};
 ghost use Rattle.type_model.specs.SameType.{IsSameType};
-ghost use Rattle.run_model.specs.Inherent.{member_types};
+ghost use Rattle.op_model.specs.Inherent.{member_types};
 ghost use Rattle.tested_types.specs.Asked.{HasMember, IsDefinedAt, Notes};
 
 use crate::places::note;

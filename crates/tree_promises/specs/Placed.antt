@@ -25,7 +25,7 @@ use Rattle.typed_tree.specs.Listed.{Listed, nothing, one, ◌&◌, if_boxed, joi
 use Rattle.typed_tree.specs.SharedTypes.{sem_of}
 use Rattle.typed_tree.specs.StmtLayers.{TypedClauseOf, TypedStmtOf, of_typed_stmt}
 use Rattle.typed_tree.specs.Units.{OfFunction, OfWorker, OfAnonymous, OfInitialiser, UnitTree}
-use Rattle.run_model.specs.Levels.{numbers_from}
+use Rattle.op_model.specs.Levels.{numbers_from}
 use Rattle.tree_promises.specs.Known.{Known}
 
 -- A unit where it stands.

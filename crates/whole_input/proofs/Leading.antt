@@ -7,7 +7,7 @@ use Rattle.bal_io.specs.Content.{GivesCut, GivesWhole, LosesFront, ReadsLine, fi
 use Rattle.bal_io.specs.Fronts.{IsWithinLine}
 use Rattle.bal_io.specs.declared.outside.Line.{Line}
 use Rattle.bal_io.proofs.Lines.{before_feed, length-before_first, position_or_len-le-length, position_or_len-take}
-use Rattle.run_model.specs.Limits.{most_line_bytes}
+use Rattle.op_model.specs.Limits.{most_line_bytes}
 use Rattle.whole_input.specs.Lines.{GiveSame, at_end, by_line, IsReadWhole}
 use Rattle.whole_input.specs.inner.Ends.{AreReady, HasReadSo, ended_by, ends_with_return, line_end, shown}
 use Rattle.whole_input.proofs.Given.{first-behind, reads-cut, reads-ended, reads-last, text-ended, text-last, within-first, within-return, within-text, without-end, without-none, without-one}

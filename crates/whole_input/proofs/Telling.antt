@@ -2,7 +2,7 @@
 use Rattle.std.proofs.Common.{◌≡◌, ◌++◌, Bool, true, false, ℕ, List, [], Option, Some, None, refl, sym, ap, subst}
 use Rattle.bal_io.specs.Content.{LosesFront, ReadsLine, Told}
 use Rattle.bal_io.specs.declared.outside.Line.{Line}
-use Rattle.run_model.specs.Limits.{most_line_bytes}
+use Rattle.op_model.specs.Limits.{most_line_bytes}
 use Rattle.whole_input.specs.Lines.{IsReadWhole}
 use Rattle.whole_input.specs.inner.Ends.{HasReadSo, TakesMore, shown}
 use Rattle.whole_input.proofs.Leading.{line-lost, lost-twice, reads-all, reads-on}

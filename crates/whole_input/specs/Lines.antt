@@ -2,7 +2,7 @@
 use Rattle.std.specs.Prelude.{◌≡◌, ℕ, List, [], Some}
 use Rattle.bal_io.specs.Content.{ReadsLine}
 use Rattle.bal_io.specs.declared.outside.Line.{Line}
-use Rattle.run_model.specs.Limits.{most_line_bytes}
+use Rattle.op_model.specs.Limits.{most_line_bytes}
 
 -- each call for a line of at most so many bytes is given the same by both, and both end at once
 pub data GiveSame (max : ℕ) : List ℕ → List ℕ → Type 0 where

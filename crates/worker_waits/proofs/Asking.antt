@@ -6,7 +6,7 @@ use Rattle.operations.specs.declared.operation.Operation.{Operation}
 use Rattle.operations.specs.declared.operation.Operation.TheVariants as op
 use Rattle.operations.specs.Talk.{workers_in}
 use Rattle.value_model.specs.declared.value.Value.{Value}
-use Rattle.run_model.specs.Local.{Act, Later as Awaited, Local, Never, Now, acts, captured_from, captures, dropped, futures_in, loaded, stored, taken, twice}
+use Rattle.op_model.specs.Local.{Act, Later as Awaited, Local, Never, Now, acts, captured_from, captures, dropped, futures_in, loaded, stored, taken, twice}
 use Rattle.machine_model.specs.Machine.{Ask, On, Does, Stuck, Machine}
 use Rattle.worker_waits.proofs.Staying.{IsQuiet}
 use Rattle.worker_waits.proofs.Told.{lasting, told-op, told-wait}

@@ -4,8 +4,8 @@ use Rattle.std.proofs.lemmas.List.{length-set}
 use Rattle.std.proofs.lemmas.Bool.{eq-eqb, ne_eqb}
 use Rattle.std.proofs.lemmas.Option.{none-some}
 use Rattle.std.specs.Prelude.{get_or, slice_get, slice_set}
-use Rattle.run_model.specs.Common.{Activation, Channel, Role}
-use Rattle.run_model.specs.Strands.{no_activation, no_channel}
+use Rattle.op_model.specs.Common.{Activation, Channel, Role}
+use Rattle.op_model.specs.Strands.{no_activation, no_channel}
 use Rattle.machine_model.proofs.Places.{get-more, get-past, same-or, set-cases, set-view}
 use Rattle.worker_waits.proofs.Stepping.{one_if}
 

@@ -3,7 +3,7 @@ use Rattle.std.proofs.Common.{◌≡◌, ◌<◌, ◌≤◌, ◌⊎◌, ℕ, zer
 use Rattle.std.specs.Prelude.{◌==◌, Any, Contains, IsSomeAnd, slice_get}
 use Rattle.typed_tree.specs.declared.event.EventKind.{EventKind}
 use Rattle.typed_tree.specs.declared.event.EventKind.TheVariants.{Send, Post, Done, Receive, Flush, Wait, End}
-use Rattle.run_model.specs.Strands.{channel_at}
+use Rattle.op_model.specs.Strands.{channel_at}
 use Rattle.machine_model.specs.Machine.{Machine, State}
 use Rattle.worker_pairing.specs.Events.{ArePaired, Crew, IsNumbering, Needs, NeedsAs, before, events_of, receives_from, sends_to}
 use Rattle.worker_waits.specs.Standing.{AreAt, IsUnmet, said}

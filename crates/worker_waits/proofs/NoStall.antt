@@ -3,8 +3,8 @@ use Rattle.std.proofs.Common.{◌≡◌, ◌<◌, ◌≤◌, ◌⊎◌, ℕ, zer
 use Rattle.std.proofs.lemmas.Bool.{cases_lt}
 use Rattle.std.proofs.lemmas.Option.{none-some}
 use Rattle.std.specs.Prelude.{All, Any, Contains, slice_get}
-use Rattle.run_model.specs.Common.{Common, End}
-use Rattle.run_model.specs.Strands.{activation_at, has_ended}
+use Rattle.op_model.specs.Common.{Common, End}
+use Rattle.op_model.specs.Strands.{activation_at, has_ended}
 use Rattle.machine_model.specs.Machine.{Machine, State}
 use Rattle.worker_waits.specs.Standing.{AreStuck, IsLastOf}
 use Rattle.machine_model.specs.Strands.{IsUnfinished}

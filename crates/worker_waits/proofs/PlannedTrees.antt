@@ -25,8 +25,8 @@ use Rattle.typed_tree.specs.Exprs.{place_of}
 use Rattle.typed_tree.specs.Listed.{Listed, nothing, one, ◌&◌, run}
 use Rattle.typed_tree.specs.SharedTypes.{sem_of}
 use Rattle.typed_tree.specs.Units.{UnitBody, UnitTree, OfFunction, OfWorker, OfAnonymous, OfInitialiser, unit_at}
-use Rattle.run_model.specs.Facts.{UnitFacts, WorkerFacts}
-use Rattle.run_model.specs.Levels.{numbers_from}
+use Rattle.op_model.specs.ProgramFacts.{UnitFacts, WorkerFacts}
+use Rattle.op_model.specs.Levels.{numbers_from}
 use Rattle.machine_model.specs.Machine.{Machine}
 use Rattle.machine_model.proofs.BoardMakes.{numbers-at}
 use Rattle.machine_model.proofs.Once.{some-same}

@@ -3,10 +3,10 @@ use Rattle.std.proofs.Common.{◌≡◌, ◌<◌, ◌≤◌, ◌+◌, ◌++◌, 
 use Rattle.std.proofs.lemmas.List.{length-append, length-map, length-set}
 use Rattle.std.proofs.lemmas.Option.{none-some}
 use Rattle.std.specs.Prelude.{⊤, if◌then◌else◌, remove, slice_get}
-use Rattle.run_model.specs.CallRows.{strands_made}
-use Rattle.run_model.specs.Common.{Common, End, Need, Role, Strand, IsActive, IsBlocked, IsEnded}
-use Rattle.run_model.specs.Effects.{Spawned}
-use Rattle.run_model.specs.Strands.{ended_count, settled, strand_at, strand_blocked, strand_ended, strand_made, wakes, with_status, woken, woken_from}
+use Rattle.op_model.specs.CallRows.{strands_made}
+use Rattle.op_model.specs.Common.{Common, End, Need, Role, Strand, IsActive, IsBlocked, IsEnded}
+use Rattle.op_model.specs.Effects.{Spawned}
+use Rattle.op_model.specs.Strands.{ended_count, settled, strand_at, strand_blocked, strand_ended, strand_made, wakes, with_status, woken, woken_from}
 use Rattle.machine_model.proofs.Alike.{board, seen}
 use Rattle.machine_model.proofs.Once.{some-same}
 

@@ -12,16 +12,16 @@ use Rattle.value_model.specs.Heap.{cells}
 use Rattle.value_model.specs.Meaning.{Answers}
 use Rattle.value_model.specs.PanicName.{future_taken}
 use Rattle.value_model.specs.World.{Came, Gave, Threw, PassesCells}
-use Rattle.run_model.specs.CallRows.{arguments, checked, starts, ticks, with_arguments}
-use Rattle.run_model.specs.Common.{Activation, Asker, Common, End, Returned, Panicked, AllEnded, AnyGiven, Role}
-use Rattle.run_model.specs.Effects.{Effect, Gives, Fails, Waits, Enters, Leaves, Spawns, NoTick, Beyond, lifted}
-use Rattle.run_model.specs.Facts.{Facts}
-use Rattle.run_model.specs.Limits.{most_cells, most_frames, most_strands}
-use Rattle.run_model.specs.Messages.{flushes, flushes_end}
-use Rattle.run_model.specs.Performs.{Performs}
-use Rattle.run_model.specs.Rows.{gives, gives_error, panics}
-use Rattle.run_model.specs.Strands.{channel_at, end_of, has_success, met, strand_made, worker_end}
-use Rattle.run_model.specs.Waits.{Collected, FirstPanic, Results, Target, chosen, collects, collects_end, behind, ends_with, field_names, future_target, gives_chosen, gives_end, gives_results, is_taken, strands_in, targets, took, waits, waits_all, waits_any, waits_for, worker_target}
+use Rattle.op_model.specs.CallRows.{arguments, checked, starts, ticks, with_arguments}
+use Rattle.op_model.specs.Common.{Activation, Caller, Common, End, Returned, Panicked, AllEnded, AnyGiven, Role}
+use Rattle.op_model.specs.Effects.{Effect, Gives, Fails, Waits, Enters, Leaves, Spawns, NoTick, Beyond, lifted}
+use Rattle.op_model.specs.ProgramFacts.{ProgramFacts}
+use Rattle.op_model.specs.Limits.{most_cells, most_frames, most_strands}
+use Rattle.op_model.specs.Messages.{flushes, flushes_end}
+use Rattle.op_model.specs.Performs.{Performs}
+use Rattle.op_model.specs.Rows.{gives, gives_error, panics}
+use Rattle.op_model.specs.Strands.{channel_at, end_of, has_success, met, strand_made, worker_end}
+use Rattle.op_model.specs.Waits.{Collected, FirstPanic, Results, Target, chosen, collects, collects_end, behind, ends_with, field_names, future_target, gives_chosen, gives_end, gives_results, is_taken, strands_in, targets, took, waits, waits_all, waits_any, waits_for, worker_target}
 use Rattle.machine_model.proofs.Shapes.{in-boolean, in-error, in-function, in-future, in-if, in-int, in-more, in-none, in-one, in-some, in-string, in-structure, in-three, in-two}
 
 -- what is there behind the effect has these activations
@@ -121,7 +121,7 @@ module _ (acts : List Activation) where
       by (Results rs d) h = lifted-stays d h _
       by (FirstPanic v d) h = h
 
-module _ (facts : Facts) (natives : Answers) (vs : List Value) (asker : Asker) (c : Common) (effect : Effect) where
+module _ (facts : ProgramFacts) (natives : Answers) (vs : List Value) (caller : Caller) (c : Common) (effect : Effect) where
   abbrev acts : List Activation
   acts = c.activations
 
@@ -134,14 +134,14 @@ module _ (facts : Facts) (natives : Answers) (vs : List Value) (asker : Asker) (
   world : {P : Came → Type 0} → (came : Came) × P came × (effect ≡ lifted c came) → Stays acts effect
   world (came, p, e) = only came e
 
-  pub performs-stays : (op : Operation) → IsQuiet op → Performs facts natives op vs asker c effect → Stays acts effect
+  pub performs-stays : (op : Operation) → IsQuiet op → Performs facts natives op vs caller c effect → Stays acts effect
   performs-stays (Const k) q h = absurd h
   performs-stays (Load slot) q h = in-none vs h (λ none e. only _ e)
   performs-stays (Store slot) q h = absurd h
   performs-stays Pop q h = absurd h
   performs-stays (LoadModule m) q h = in-none vs h (λ none k. in-some (slice_get c.variables m) k (λ held is e. only _ e))
   performs-stays (StoreModule m) q h = in-one vs h (λ v is k. in-some (slice_get c.variables m) k (λ held there e. so _ e refl))
-  performs-stays Tick q h = in-none vs h (λ none e. so _ e (ticks-stay acts c refl asker.depth c.ticks))
+  performs-stays Tick q h = in-none vs h (λ none e. so _ e (ticks-stay acts c refl caller.depth c.ticks))
   performs-stays Add q h = in-two vs h (λ a b k. in-int a k (λ x k. in-int b k (λ y k. world k)))
   performs-stays Subtract q h = in-two vs h (λ a b k. in-int a k (λ x k. in-int b k (λ y k. world k)))
   performs-stays Multiply q h = in-two vs h (λ a b k. in-int a k (λ x k. in-int b k (λ y k. world k)))
@@ -174,19 +174,19 @@ module _ (facts : Facts) (natives : Answers) (vs : List Value) (asker : Asker) (
   performs-stays (Library call atom count) q h = world h
   performs-stays Return q h = in-one vs h (λ v is e. so _ e tt)
   performs-stays Panic q h = in-one vs h (λ v is k. in-error v k (λ n e. so _ e refl))
-  performs-stays (Start unit count) q e = so _ e (starts-stay acts c refl asker.role unit vs)
+  performs-stays (Start unit count) q e = so _ e (starts-stay acts c refl caller.role unit vs)
   performs-stays (StartValue count) q h =
       in-more vs h (λ f args k. in-function f k (λ n k. in-some (slice_get c.world.heap.functions n) k (λ o there k. in-some (slice_get facts.units o.unit) k (λ u is e.
       let d = with_arguments c u args in
-      so _ e (checked-stays acts d (starts d asker.role o.unit (arguments c o u args)) (starts-stay acts d refl asker.role o.unit (arguments c o u args)))))))
+      so _ e (checked-stays acts d (starts d caller.role o.unit (arguments c o u args)) (starts-stay acts d refl caller.role o.unit (arguments c o u args)))))))
   performs-stays Workers q h = absurd q
   performs-stays (Send w) q h = absurd q
   performs-stays (Post w) q h = absurd q
   performs-stays (Receive w) q h = absurd q
-  performs-stays (Done w) q h = in-none vs h (λ none k. in-some asker.role k (λ r role e. so _ e (flushes-stay acts c refl r w)))
-  performs-stays (Flush w) q h = in-none vs h (λ none k. in-some asker.role k (λ r role e. so _ e (flushes-stay acts c refl r w)))
-  performs-stays (WaitWorker w) q h = in-none vs h (λ none k. in-some asker.role k (λ r role k. in-some (worker_target c r w) k (λ t is e. so _ e (waits-stay acts c refl t))))
+  performs-stays (Done w) q h = in-none vs h (λ none k. in-some caller.role k (λ r role e. so _ e (flushes-stay acts c refl r w)))
+  performs-stays (Flush w) q h = in-none vs h (λ none k. in-some caller.role k (λ r role e. so _ e (flushes-stay acts c refl r w)))
+  performs-stays (WaitWorker w) q h = in-none vs h (λ none k. in-some caller.role k (λ r role k. in-some (worker_target c r w) k (λ t is e. so _ e (waits-stay acts c refl t))))
   performs-stays WaitFuture q h = in-one vs h (λ f is k. in-future f k (λ n unit same e. so _ e (waits-stay acts c refl (future_target n))))
-  performs-stays (WaitAny names) q h = in-some (targets c asker.role names vs) h (λ ts is e. so _ e (any-stays acts c refl ts))
+  performs-stays (WaitAny names) q h = in-some (targets c caller.role names vs) h (λ ts is e. so _ e (any-stays acts c refl ts))
   performs-stays (WaitAll atom names) q h =
-      in-some (slice_get facts.atoms atom) h (λ d there k. in-some (targets c asker.role names vs) k (λ ts is e. so _ e (all-stays acts c refl atom (field_names d) ts)))
+      in-some (slice_get facts.atoms atom) h (λ d there k. in-some (targets c caller.role names vs) k (λ ts is e. so _ e (all-stays acts c refl atom (field_names d) ts)))

@@ -7,8 +7,8 @@ use Rattle.operations.specs.declared.operation.Operation.{Operation}
 use Rattle.value_model.specs.declared.value.Value.{Value}
 use Rattle.typed_tree.specs.declared.event.EventKind.{EventKind}
 use Rattle.typed_tree.specs.declared.event.EventKind.TheVariants.{End}
-use Rattle.run_model.specs.Common.{Role}
-use Rattle.run_model.specs.Local.{Local}
+use Rattle.op_model.specs.Common.{Role}
+use Rattle.op_model.specs.Local.{Local}
 use Rattle.machine_model.proofs.Once.{some-same}
 use Rattle.eval_model.specs.Tasks.{Task, Eval, Exec, Do, Get, Choose, Turn, Guard, Doing}
 use Rattle.eval_model.specs.Trees.{caught}

@@ -19,17 +19,17 @@ use Rattle.value_model.specs.World.{World, Threw, PassesCells}
 use Rattle.typed_tree.specs.declared.event.EventKind.{EventKind}
 use Rattle.typed_tree.specs.declared.event.EventKind.TheVariants.{Send, Post, Done, Receive, Flush, Wait, End}
 use Rattle.typed_tree.specs.declared.package.TypedPackage.{TypedPackage}
-use Rattle.run_model.specs.CallRows.{new_activation}
-use Rattle.run_model.specs.Common.{Activation, Asker, Channel, Common, End as RunEnd, Returned, Panicked, Role}
-use Rattle.run_model.specs.Copies.{copy_of, with_copies}
-use Rattle.run_model.specs.Effects.{Effect, Gives, Fails, Waits, Enters, Leaves, Spawns, NoTick, Beyond, Spawned, lifted, with_world}
-use Rattle.run_model.specs.Facts.{Facts, UnitFacts, WorkerFacts}
-use Rattle.run_model.specs.Limits.{most_cells}
-use Rattle.run_model.specs.Local.{Local, acts}
-use Rattle.run_model.specs.Messages.{one_received, one_sent, receives, receives_end, receives_from, sends, with_received}
-use Rattle.run_model.specs.Performs.{Performs}
-use Rattle.run_model.specs.Rows.{makes_error, next_error}
-use Rattle.run_model.specs.Strands.{channel_at, no_activation, no_channel, settled, with_channel, worker_end, worker_ended, woken}
+use Rattle.op_model.specs.CallRows.{new_activation}
+use Rattle.op_model.specs.Common.{Activation, Caller, Channel, Common, End as RunEnd, Returned, Panicked, Role}
+use Rattle.op_model.specs.Copies.{copy_of, with_copies}
+use Rattle.op_model.specs.Effects.{Effect, Gives, Fails, Waits, Enters, Leaves, Spawns, NoTick, Beyond, Spawned, lifted, with_world}
+use Rattle.op_model.specs.ProgramFacts.{ProgramFacts, UnitFacts, WorkerFacts}
+use Rattle.op_model.specs.Limits.{most_cells}
+use Rattle.op_model.specs.Local.{Local, acts}
+use Rattle.op_model.specs.Messages.{one_received, one_sent, receives, receives_end, receives_from, sends, with_received}
+use Rattle.op_model.specs.Performs.{Performs}
+use Rattle.op_model.specs.Rows.{makes_error, next_error}
+use Rattle.op_model.specs.Strands.{channel_at, no_activation, no_channel, settled, with_channel, worker_end, worker_ended, woken}
 use Rattle.machine_model.specs.Keeping.{AllBegin, AreApart, Caught, EffectFits, Invariant, RunsOn}
 use Rattle.machine_model.specs.Machine.{Frame, Machine}
 use Rattle.machine_model.specs.Strands.{role_of}
@@ -163,11 +163,11 @@ new-worker K c unit k w n ts size runs (steps, left, at) =
 -- ---- one operation, at the head of the tasks of a frame
 
 module _ (natives : Answers) (K : ℕ → Crew) (atoms : List AtomDef) (fillers : ℕ → List Filler) (p : TypedPackage) (begun-well : Begun K (trees atoms fillers p)) (c : Common) (depth unit : ℕ) (role : Option Role) (control : Doing) (o : Operation) (ts : List Task) (l : Local) (ready : ReadyThere c) (h : FrameFits K c.activations c.running unit role (Do o ∷ ts)) where
-  abbrev facts : Facts
+  abbrev facts : ProgramFacts
   facts = (trees atoms fillers p).facts
 
-  abbrev asker : Asker
-  asker = record { unit = unit; role = role; depth = depth }
+  abbrev caller : Caller
+  caller = record { unit = unit; role = role; depth = depth }
 
   abbrev Fits : Effect → Type 0
   Fits effect = EffectFits natives (patient (trees atoms fillers p)) (tree_keeps K) c depth (frame unit role control) (doing l ts) effect
@@ -193,7 +193,7 @@ module _ (natives : Answers) (K : ℕ → Crew) (atoms : List AtomDef) (fillers 
   by-alike : {q : Option Role} (d : Common) → Alike q c d → Onward Any c d × ReadyThere d
   by-alike d alike = (onward-alike c d (λ r e. tt) alike, ready-board c d alike.board ready)
 
-  by-gives : (vs ws : List Value) (d : Common) → ShapeOf facts o vs asker c (Gives ws d) → Onward Any c d × ReadyThere d
+  by-gives : (vs ws : List Value) (d : Common) → ShapeOf facts o vs caller c (Gives ws d) → Onward Any c d × ReadyThere d
   by-gives vs ws d (inl calm) = by-alike d calm.alike
   by-gives vs ws d (inr (e, alike, is)) =
       let a = by-alike e alike in
@@ -201,7 +201,7 @@ module _ (natives : Answers) (K : ℕ → Crew) (atoms : List AtomDef) (fillers 
 
   -- ---- where no activation changes
 
-  spawns : IsQuiet o → (vs ws : List Value) (ss : List Spawned) (r : Option Role) (d : Common) → ShapeOf facts o vs asker c (Spawns ss r ws d) → d.activations ≡ c.activations → Fits (Spawns ss r ws d)
+  spawns : IsQuiet o → (vs ws : List Value) (ss : List Spawned) (r : Option Role) (d : Common) → ShapeOf facts o vs caller c (Spawns ss r ws d) → d.activations ≡ c.activations → Fits (Spawns ss r ws d)
   spawns quiet vs ws ss r d (inr crew) same = absurd (subst IsQuiet crew.starts quiet)
   spawns quiet vs ws ss r d (inl one) same =
       let a = by-alike one.before one.calm.alike in
@@ -226,7 +226,7 @@ module _ (natives : Answers) (K : ℕ → Crew) (atoms : List AtomDef) (fillers 
         )),
       )
 
-  pub quiet-fits : IsQuiet o → (vs : List Value) (effect : Effect) → ShapeOf facts o vs asker c effect → Stays c.activations effect → Fits effect
+  pub quiet-fits : IsQuiet o → (vs : List Value) (effect : Effect) → ShapeOf facts o vs caller c effect → Stays c.activations effect → Fits effect
   quiet-fits quiet vs (Gives ws d) shape same =
       let a = by-gives vs ws d shape in
       (a.1, (a.0.running, a.0.count), (λ q apart. later-same q c.activations d.activations same), behind (quiet-lasting o quiet) d same)
@@ -246,7 +246,7 @@ module _ (natives : Answers) (K : ℕ → Crew) (atoms : List AtomDef) (fillers 
   loads : (e : Value) (w : World) → Fits (lifted c (Threw e w))
   loads e w = (ready, (refl, refl), (λ q apart. later-same q c.activations c.activations refl), tt, fails (with_world c w) e refl)
 
-  pub load-fits : (slot : ℕ) (vs : List Value) (effect : Effect) → Performs facts natives (op.Load slot) vs asker c effect → Fits effect
+  pub load-fits : (slot : ℕ) (vs : List Value) (effect : Effect) → Performs facts natives (op.Load slot) vs caller c effect → Fits effect
   load-fits slot vs effect performs =
       let e : Value = Error (next_error c.world) in
       let w : World = makes_error c.world (panic_message NotInitialised) None [] in

@@ -15,12 +15,12 @@ use Rattle.value_model.specs.Meaning.{Answers}
 use Rattle.typed_tree.specs.declared.event.EventKind.{EventKind}
 use Rattle.typed_tree.specs.declared.event.EventKind.TheVariants.{Done, Flush, Receive, Wait}
 use Rattle.typed_tree.specs.declared.package.TypedPackage.{TypedPackage}
-use Rattle.run_model.specs.Common.{Activation, Channel, Common, End as RunEnd, Need, Role, IsActive, IsBlocked}
-use Rattle.run_model.specs.Effects.{Gives, Waits}
-use Rattle.run_model.specs.Local.{Act, Later as Awaited, Local, Never, Now, acts}
-use Rattle.run_model.specs.Messages.{flushes, flushes_end, receives, receives_from}
-use Rattle.run_model.specs.Performs.{Performs}
-use Rattle.run_model.specs.Strands.{activation_at, channel_at, no_activation, no_strand, strand_at, worker_end}
+use Rattle.op_model.specs.Common.{Activation, Channel, Common, End as RunEnd, Need, Role, IsActive, IsBlocked}
+use Rattle.op_model.specs.Effects.{Gives, Waits}
+use Rattle.op_model.specs.Local.{Act, Later as Awaited, Local, Never, Now, acts}
+use Rattle.op_model.specs.Messages.{flushes, flushes_end, receives, receives_from}
+use Rattle.op_model.specs.Performs.{Performs}
+use Rattle.op_model.specs.Strands.{activation_at, channel_at, no_activation, no_strand, strand_at, worker_end}
 use Rattle.machine_model.specs.Keeping.{ApartFrom, AreApart, BelowFit, FramesFit, Invariant, IsIdle, OthersFit, StateFits}
 use Rattle.machine_model.specs.Machine.{Ask, On, Does, Stuck, Frame, Machine, State, Next, Takes, TakesTop, asks, captured_slots}
 use Rattle.machine_model.specs.Runs.{AreWords, IsReached, Phase, Picking, Running, Reaches, starts, after_move, after_block, after_end, after_pick, does_in, next_operation}

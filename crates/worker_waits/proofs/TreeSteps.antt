@@ -13,15 +13,15 @@ use Rattle.value_model.specs.Meaning.{Answers}
 use Rattle.typed_tree.specs.declared.event.EventKind.{EventKind}
 use Rattle.typed_tree.specs.declared.event.EventKind.TheVariants.{Send, Post, Receive}
 use Rattle.typed_tree.specs.declared.package.TypedPackage.{TypedPackage}
-use Rattle.run_model.specs.CallRows.{new_activation, starts_workers, strands_made, workers_from}
-use Rattle.run_model.specs.Common.{Common, Panicked, Role}
-use Rattle.run_model.specs.Effects.{Effect, Beyond, Spawns}
-use Rattle.run_model.specs.Facts.{UnitFacts, WorkerFacts}
-use Rattle.run_model.specs.Levels.{numbers_from}
-use Rattle.run_model.specs.Limits.{most_strands}
-use Rattle.run_model.specs.Local.{Act, Later as Awaited, Local, Never, Now, acts}
-use Rattle.run_model.specs.Performs.{Performs}
-use Rattle.run_model.specs.Strands.{no_activation}
+use Rattle.op_model.specs.CallRows.{new_activation, starts_workers, strands_made, workers_from}
+use Rattle.op_model.specs.Common.{Common, Panicked, Role}
+use Rattle.op_model.specs.Effects.{Effect, Beyond, Spawns}
+use Rattle.op_model.specs.ProgramFacts.{UnitFacts, WorkerFacts}
+use Rattle.op_model.specs.Levels.{numbers_from}
+use Rattle.op_model.specs.Limits.{most_strands}
+use Rattle.op_model.specs.Local.{Act, Later as Awaited, Local, Never, Now, acts}
+use Rattle.op_model.specs.Performs.{Performs}
+use Rattle.op_model.specs.Strands.{no_activation}
 use Rattle.bal_base.specs.declared.fault.LimitKind.TheVariants.{Strands}
 use Rattle.machine_model.specs.Keeping.{AllBegin, AskFits, Caught, EffectFits, Invariant, IsKept, RunsOn, StateFits}
 use Rattle.machine_model.specs.Machine.{Ask, Machine, State, asks, captured_slots}

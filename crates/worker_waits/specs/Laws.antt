@@ -9,7 +9,7 @@ use Rattle.value_model.specs.Meaning.{Answers}
 use Rattle.typed_tree.specs.declared.package.TypedPackage.{TypedPackage}
 use Rattle.typed_tree.specs.declared.expr.TypedExpr.{TypedExpr}
 use Rattle.typed_tree.specs.declared.stmt.TypedStmt.{TypedStmt}
-use Rattle.run_model.specs.Strands.{has_ended}
+use Rattle.op_model.specs.Strands.{has_ended}
 use Rattle.machine_model.specs.Machine.{Machine, State}
 use Rattle.eval_model.specs.Expressions.{eval}
 use Rattle.eval_model.specs.Loops.{turn}

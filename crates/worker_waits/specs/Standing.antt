@@ -2,8 +2,8 @@
 use Rattle.std.specs.Prelude.{◌≡◌, ◌<◌, ◌≤◌, ◌⊎◌, ◌+◌, ℕ, true, [], Option, Some, None, IsSomeAnd, Contains, length, slice_get, ⊤}
 use Rattle.typed_tree.specs.declared.event.EventKind.{EventKind}
 use Rattle.typed_tree.specs.declared.event.EventKind.TheVariants.{Send, Post, Done, Receive, Flush, Wait, End}
-use Rattle.run_model.specs.Common.{Common}
-use Rattle.run_model.specs.Strands.{channel_at, has_ended}
+use Rattle.op_model.specs.Common.{Common}
+use Rattle.op_model.specs.Strands.{channel_at, has_ended}
 use Rattle.machine_model.specs.Machine.{Machine, State}
 use Rattle.operations.specs.Talk.{Talk, Sends, Receives, Flushes, StartsWorkers, AwaitsWorkers, NoTalk}
 use Rattle.worker_pairing.specs.Events.{Crew, before, events_of, receives_from, sends_to}

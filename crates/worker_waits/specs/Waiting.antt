@@ -2,8 +2,8 @@
 use Rattle.std.specs.Prelude.{◌≡◌, ℕ, true, List, [], ◌∷◌, Some, IsSomeAnd, All, Any, Contains, slice_get}
 use Rattle.bal_base.specs.declared.text.Text.{Text}
 use Rattle.value_model.specs.Meaning.{Answers}
-use Rattle.run_model.specs.Common.{Need, IsBlocked}
-use Rattle.run_model.specs.Strands.{activation_at, has_ended, strand_at}
+use Rattle.op_model.specs.Common.{Need, IsBlocked}
+use Rattle.op_model.specs.Strands.{activation_at, has_ended, strand_at}
 use Rattle.machine_model.specs.Machine.{Machine, State}
 use Rattle.machine_model.specs.Runs.{AreWords, Picking, Phase, IsReached, next_operation}
 use Rattle.machine_model.specs.Strands.{IsUnfinished, frames_of, role_of, top_role}

@@ -2,7 +2,7 @@
 ghost use Rattle.worker_waits.specs.Laws.{BranchKeepsEvents, EndsAll, EvalKeepsEvents, ExecKeepsEvents, MarksAreShown, PlannedNeverRing, RingsNever, SilenceShowsNothing, TurnKeepsEvents};
 
 use machine_model::AnyMachine;
-use run_model::Meaning;
+use op_model::Meaning;
 use type_model::Types;
 
 /// Where the workers of an activation stand among events that are paired and numbered, no workers of it wait for one another.

@@ -17,6 +17,7 @@ impl Shape {
         }
     }
 
+    /// Whether it is a mapping that is marked, as the detail of an error has to be.
     pub fn is_marked_mapping(&self) -> bool
         ensures { IsTrue result ↔ IsMarkedMapping self.now }
     {
@@ -28,6 +29,8 @@ impl Shape {
         }
     }
 
+    /// Whether it is the shape of a value: names of fields rise, what is marked holds nothing that can be changed, and details of errors
+    /// are marked mappings, all the way down. It takes time and stack by the shape.
     #[cycle(valid)]
     pub fn is_valid(&self) -> bool
         ensures { IsTrue result ↔ IsValid self.now }

@@ -2,7 +2,7 @@
 use Rattle.std.specs.Prelude.{◌≡◌, ◌<◌, ◌-◌, ◌==◌, ◌++◌, ◌&&◌, ℕ, Bool, true, false, List, [], ◌∷◌, Some, None, length, slice_index, nat_lt, if◌then◌else◌}
 use Rattle.bal_io.specs.Content.{LosesFront, ReadsLine, first_line}
 use Rattle.bal_io.specs.declared.outside.Line.{Line}
-use Rattle.run_model.specs.Limits.{most_line_bytes}
+use Rattle.op_model.specs.Limits.{most_line_bytes}
 use Rattle.whole_input.specs.Lines.{GiveSame}
 
 abbrev pub ends_with_return : List ℕ → Bool

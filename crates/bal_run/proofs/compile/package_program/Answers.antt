@@ -4,11 +4,11 @@ use Rattle.checks.specs.Checks.{Comes}
 use Rattle.compile_front.specs.Front.{front_of}
 use Rattle.type_diagrams.specs.Reach.{Passes}
 use Rattle.bal_run.specs.Packages.{ImportsIo}
-use Rattle.bal_run.proofs.ProgramAnswers.{front-gives, front-stops}
+use Rattle.bal_run.proofs.ProgramAnswers.{front-gives, front-stops, large-refused}
 use Rattle.bal_run.proofs.compile.package_program.Goals as goal
 
-pub returns-in-Ok : goal.returns-in-Ok
-returns-in-Ok c =
+pub returns-in-Ok-within_nodes : goal.returns-in-Ok-within_nodes
+returns-in-Ok-within_nodes c =
     record {
       io = subst (All ImportsIo) c.home_files.ensures (c.all_import_io.ensures.0 c.if-not-all_import_io.false);
       source = refl;
@@ -16,7 +16,16 @@ returns-in-Ok c =
       gives = front-gives c.args.source c.new.result.atoms c.accept-types.result.types.atoms c.in-Ok.accepted c.new.ensures.atoms
           (subst (λ a. Comes (front_of Passes c.args.source) c.new.result.atoms a c.accept-types.result.types.atoms) c.in-Ok.is c.accept-types.ensures.comes);
       typed = refl;
+      fits = c.in-Ok-within_nodes.ensures.within;
     }
+
+pub returns-in-Err-within_nodes : goal.returns-in-Err-within_nodes
+returns-in-Err-within_nodes c =
+    large-refused c.args.text.now c.args.source c.in-Ok.accepted c.accept-types.result.types.atoms c.in-Err-within_nodes.stop
+    (subst (All ImportsIo) c.home_files.ensures (c.all_import_io.ensures.0 c.if-not-all_import_io.false))
+    (front-gives c.args.source c.new.result.atoms c.accept-types.result.types.atoms c.in-Ok.accepted c.new.ensures.atoms
+    (subst (λ a. Comes (front_of Passes c.args.source) c.new.result.atoms a c.accept-types.result.types.atoms) c.in-Ok.is c.accept-types.ensures.comes))
+    c.in-Err-within_nodes.ensures.large
 
 pub returns-in-Err : goal.returns-in-Err
 returns-in-Err c =

@@ -1,6 +1,6 @@
 use Rattle.std.proofs.Common.{◌≡◌, [], drop}
 use Rattle.operations.specs.declared.operation.Operation.TheVariants.{Workers}
-use Rattle.run_model.specs.Local.{captures}
+use Rattle.op_model.specs.Local.{captures}
 use Rattle.code_frames.specs.Frames.{local_of}
 use Rattle.code_frames.proofs.captures.capture.Given as goal
 

@@ -1,5 +1,5 @@
 use Rattle.std.proofs.Common.{◌≡◌, ◌≤◌, take}
-use Rattle.run_model.specs.Local.{futures_in}
+use Rattle.op_model.specs.Local.{futures_in}
 use Rattle.code_frames.proofs.local.futures.Given as goal
 
 abbrev pub invariant-loop-name : goal.invariant-loop-name

@@ -2,7 +2,7 @@ use Rattle.std.proofs.Common.{◌≡◌, ◌∷◌, None, map, refl, sym, subst,
 use Rattle.std.specs.Prelude.{option_map, option_to_list}
 use Rattle.machine_model.specs.Machine as machine
 use Rattle.machine_model.specs.Machine.{carried}
-use Rattle.run_model.specs.Effects as effects
+use Rattle.op_model.specs.Effects as effects
 use Rattle.plain_run.specs.Effects.{effect_of, spawned_of}
 use Rattle.plain_run.specs.Held.{common_of, role_of}
 use Rattle.code_frames.specs.Programs.{machine_of}

@@ -2,7 +2,7 @@ use Rattle.code_frames.specs.Programs.{fillers_by}
 use Rattle.code_runs.proofs.Written.{on-err}
 use Rattle.code_steps.specs.Ended.{outcome_of}
 use Rattle.plain_run.proofs.Given.{if-ok}
-use Rattle.run_model.specs.Library.{LibraryAnswers}
+use Rattle.op_model.specs.Library.{LibraryAnswers}
 use Rattle.package_code.proofs.Alike.{code-runs-as-its-package}
 use Rattle.package_code.proofs.packages.run_code.Goals as goal
 

@@ -15,4 +15,4 @@ returns-in-Ok-clause-ended g c =
     let old = g.I.Source.rest c.args.input.now in
     let new = g.I.Source.rest c.program_input.new.input in
     c.run_on.ensures.ended (g.I.Source.faults c.args.input.now) (g.I.Source.faults c.program_input.new.input) old new
-    (subst (λ bytes. IsGivenInput c.args.ready.«package».now old new bytes) (sym c.deref.ensures.value) c.in-Ok.ensures.given)
+    (subst (λ bytes. IsGivenInput c.args.«package».now old new bytes) (sym c.deref.ensures.value) c.in-Ok.ensures.given)

@@ -1,5 +1,5 @@
 use Rattle.std.proofs.Common.{◌≡◌, map, replicate}
-use Rattle.run_model.specs.Strands.{no_channel}
+use Rattle.op_model.specs.Strands.{no_channel}
 use Rattle.plain_run.specs.Held.{channel_of}
 use Rattle.plain_calls.proofs.workers.no_channels.Given as goal
 

@@ -1,9 +1,9 @@
-use Rattle.std.proofs.Common.{◌≡◌, ◌∙◌, ◌+◌, ◌++◌, length, rules, true, false, map, refl, sym, ap}
+use Rattle.std.proofs.Common.{◌∙◌, ◌+◌, ◌++◌, true, false, map, refl, sym, ap}
 use Rattle.std.specs.Prelude.{nat_le}
 use Rattle.std.specs.List.{sum_by}
 use Rattle.std.proofs.lemmas.List.{length-map}
 use Rattle.value_model.specs.Heap.{cells}
-use Rattle.run_model.specs.Limits.{most_cells}
+use Rattle.op_model.specs.Limits.{most_cells}
 use Rattle.plain_run.specs.Held.{structure_of, world_of}
 use Rattle.plain_copies.specs.Copied.{structures_copied}
 use Rattle.plain_copies.proofs.Giving.{copy-same, room-same, world-same}
@@ -14,8 +14,8 @@ returns-then-not-has_room_for_all c =
     let w = world_of c.args.world.now in
     let ns = c.as_slice-left.result.now in
     let made = c.push_copies.new.copies.items in
-    let size : c.len-first.result ≡ length c.args.world.now.heap.structures.items = search rules in
-    let first = size ∙ sym (length-map c.args.world.now.heap.structures.items structure_of) in
+    let size = c.len-first.ensures.len in
+    let first = size ∙ sym (length-map c.args.world.now.heap.structures structure_of) in
     let reached = c.as_slice-left.ensures.value ∙ c.in_ok-numbers.ensures in
     let copies = c.in_ok-push_copies.ensures ∙ ap (λ xs. map structure_of xs ++ structures_copied c.len-first.result ns c.args.mutable w.heap ns) c.new-made.ensures.items in (
       refl,
@@ -28,8 +28,8 @@ returns c =
     let w = world_of c.args.world.now in
     let ns = c.as_slice-left.result.now in
     let made = c.push_copies.new.copies.items in
-    let size : c.len-first.result ≡ length c.args.world.now.heap.structures.items = search rules in
-    let first = size ∙ sym (length-map c.args.world.now.heap.structures.items structure_of) in
+    let size = c.len-first.ensures.len in
+    let first = size ∙ sym (length-map c.args.world.now.heap.structures structure_of) in
     let reached = c.as_slice-left.ensures.value ∙ c.in_ok-numbers.ensures in
     let copies = c.in_ok-push_copies.ensures ∙ ap (λ xs. map structure_of xs ++ structures_copied c.len-first.result ns c.args.mutable w.heap ns) c.new-made.ensures.items in
     let world = world-same w c.args.v.now c.args.mutable c.len-first.result ns made first reached copies (world_of c.make_all.new.world) c.in_ok-make_all.ensures in

@@ -1,6 +1,6 @@
 use Rattle.std.proofs.Common.{◌∙◌, ◌++◌, flat_map, sym, ap, arith}
-use Rattle.run_model.specs.Copies.{mutable_members}
-use Rattle.run_model.specs.Levels.{distinct}
+use Rattle.op_model.specs.Copies.{mutable_members}
+use Rattle.op_model.specs.Levels.{distinct}
 use Rattle.plain_run.specs.Held.{heap_of}
 use Rattle.plain_copies.proofs.Resting.{levels-rest}
 use Rattle.plain_copies.proofs.reaching.reached.Goals as goal

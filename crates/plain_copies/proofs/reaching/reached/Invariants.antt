@@ -1,6 +1,6 @@
 use Rattle.std.proofs.Common.{◌≡◌}
-use Rattle.run_model.specs.Copies.{mutable_members}
-use Rattle.run_model.specs.Levels.{distinct, levels}
+use Rattle.op_model.specs.Copies.{mutable_members}
+use Rattle.op_model.specs.Levels.{distinct, levels}
 use Rattle.plain_run.specs.Held.{heap_of}
 use Rattle.plain_copies.proofs.reaching.reached.Given as goal
 

@@ -16,9 +16,9 @@ returns-in-Some-get c =
     let t = c.in-Some-get.t.now in
     let xs = c.deref.result.now in
     let ys = c.deref-in-Some.result.now in
-    let one : xs ≡ h.structures.items = search rules in
-    let other : ys ≡ h.structures.items = search rules in
-    let first : slice_get h.structures.items n ≡ Some s = subst (λ l. slice_get l n ≡ Some s) one (slice_get_read xs (length xs) n s refl c.in-Some.ensures.lookup.3.0 c.in-Some.ensures.lookup.1) in
-    let second : slice_get h.structures.items m ≡ Some t = subst (λ l. slice_get l m ≡ Some t) other (slice_get_read ys (length ys) m t refl c.in-Some-get.ensures.lookup.3.0 c.in-Some-get.ensures.lookup.1) in
+    let one : xs ≡ h.structures = search rules in
+    let other : ys ≡ h.structures = search rules in
+    let first : slice_get h.structures n ≡ Some s = subst (λ l. slice_get l n ≡ Some s) one (slice_get_read xs (length xs) n s refl c.in-Some.ensures.lookup.3.0 c.in-Some.ensures.lookup.1) in
+    let second : slice_get h.structures m ≡ Some t = subst (λ l. slice_get l m ≡ Some t) other (slice_get_read ys (length ys) m t refl c.in-Some-get.ensures.lookup.3.0 c.in-Some-get.ensures.lookup.1) in
     if-ok (λ pairs. AreMemberPairs (members_of s.members) (members_of t.members) (option_map (λ ps. ps.items) pairs)) (λ pairs. AreStructurePairs (heap_of h) n m (option_map (λ ps. ps.items) pairs)) c.member_pairs.result
     (λ pairs are. structures-there h n m s t (option_map (λ ps. ps.items) pairs) first second are) c.member_pairs.ensures

@@ -1,6 +1,6 @@
 use Rattle.std.proofs.Common.{◌≡◌}
-use Rattle.run_model.specs.Library.{cause_value}
-use Rattle.run_model.specs.Rows.{gives}
+use Rattle.op_model.specs.Library.{cause_value}
+use Rattle.op_model.specs.Rows.{gives}
 use Rattle.plain_run.specs.Held.{error_of, world_of}
 use Rattle.plain_library.proofs.Given.{error-past, error-there}
 use Rattle.plain_library.proofs.errors.cause_of.Goals as goal

@@ -1,6 +1,6 @@
 use Rattle.std.proofs.Common.{◌≡◌, refl}
 use Rattle.value_model.specs.declared.value.Value.TheVariants.{Struct}
-use Rattle.run_model.specs.Rows.{gives}
+use Rattle.op_model.specs.Rows.{gives}
 use Rattle.plain_run.specs.Held.{error_of, world_of}
 use Rattle.plain_library.proofs.Given.{error-past, error-there}
 use Rattle.plain_library.proofs.errors.detail_of.Goals as goal

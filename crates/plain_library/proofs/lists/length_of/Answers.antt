@@ -1,6 +1,6 @@
 use Rattle.std.proofs.Common.{length, pos, rules}
 use Rattle.value_model.specs.declared.value.Value.TheVariants.{Int}
-use Rattle.run_model.specs.Rows.{gives}
+use Rattle.op_model.specs.Rows.{gives}
 use Rattle.plain_run.specs.Held.{world_of}
 use Rattle.plain_structures.proofs.Finding.{list-row, no-list-row}
 use Rattle.plain_library.proofs.lists.length_of.Goals as goal

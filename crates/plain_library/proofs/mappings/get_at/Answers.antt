@@ -1,6 +1,6 @@
 use Rattle.value_model.specs.declared.panics.PanicName.TheVariants.{KeyNotFound}
 use Rattle.value_model.specs.Heap.{entry_at}
-use Rattle.run_model.specs.Rows.{found}
+use Rattle.op_model.specs.Rows.{found}
 use Rattle.plain_run.specs.Came.{came_of}
 use Rattle.plain_run.specs.Held.{world_of}
 use Rattle.plain_structures.proofs.Finding.{mapping-row, no-mapping-row}

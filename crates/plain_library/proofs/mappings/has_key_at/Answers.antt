@@ -1,7 +1,7 @@
 use Rattle.std.specs.Prelude.{is_some}
 use Rattle.value_model.specs.declared.value.Value.TheVariants.{Bool as Truth}
 use Rattle.value_model.specs.Heap.{entry_at}
-use Rattle.run_model.specs.Rows.{gives}
+use Rattle.op_model.specs.Rows.{gives}
 use Rattle.plain_run.specs.Held.{world_of}
 use Rattle.plain_structures.proofs.Finding.{mapping-row, no-mapping-row}
 use Rattle.plain_library.proofs.mappings.has_key_at.Goals as goal

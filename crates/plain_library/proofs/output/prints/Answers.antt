@@ -1,5 +1,5 @@
 use Rattle.std.proofs.Common.{sym, ◌∙◌}
-use Rattle.run_model.specs.Library.{texts_of}
+use Rattle.op_model.specs.Library.{texts_of}
 use Rattle.text_forms.specs.Forms.{written}
 use Rattle.plain_run.proofs.Given.{if-ok}
 use Rattle.plain_run.specs.Came.{came_of}

@@ -1,6 +1,6 @@
 use Rattle.std.proofs.Common.{◌≡◌, ◌++◌, rules, encode_utf8_all}
 use Rattle.value_model.specs.declared.value.Value.TheVariants.{Nil}
-use Rattle.run_model.specs.Rows.{gives}
+use Rattle.op_model.specs.Rows.{gives}
 use Rattle.plain_run.specs.Held.{world_of}
 use Rattle.text_forms.specs.Forms.{written}
 use Rattle.plain_library.proofs.Printing.{encoded}

@@ -1,5 +1,5 @@
 use Rattle.std.specs.Prelude.{◌≡◌, map, take}
-use Rattle.run_model.specs.Strings.{upper_ascii}
+use Rattle.op_model.specs.Strings.{upper_ascii}
 use Rattle.plain_library.proofs.strings.all_upper.Given as goal
 
 abbrev pub invariant-loop-c : goal.invariant-loop-c

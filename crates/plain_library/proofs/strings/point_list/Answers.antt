@@ -1,6 +1,6 @@
 use Rattle.std.proofs.Common.{◌≡◌, map, pos, rules, subst}
 use Rattle.value_model.specs.declared.value.Value.TheVariants.{Int}
-use Rattle.run_model.specs.Rows.{GivesList}
+use Rattle.op_model.specs.Rows.{GivesList}
 use Rattle.plain_run.specs.Came.{came_of}
 use Rattle.plain_run.specs.Held.{world_of}
 use Rattle.plain_library.proofs.strings.point_list.Goals as goal

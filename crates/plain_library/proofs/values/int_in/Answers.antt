@@ -1,7 +1,7 @@
 use Rattle.std.proofs.Common.{◌≡◌, ◌∙◌, Ok, Err, Some, rules, encode_utf8_all, sym, ap}
 use Rattle.std.specs.Bool.{⊤}
 use Rattle.std.proofs.lemmas.Str.{encodes-chars}
-use Rattle.run_model.specs.Strings.{int_in}
+use Rattle.op_model.specs.Strings.{int_in}
 use Rattle.plain_library.specs.Ints.{IsIntOf}
 use Rattle.plain_library.proofs.Numerals.{int-written}
 use Rattle.plain_library.proofs.values.int_in.Goals as goal

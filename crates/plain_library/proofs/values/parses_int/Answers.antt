@@ -2,8 +2,8 @@ use Rattle.std.proofs.Common.{◌≡◌, ◌∙◌, None}
 use Rattle.std.specs.Str.{chars}
 use Rattle.value_model.specs.declared.value.Value.TheVariants.{Error}
 use Rattle.value_model.specs.PanicName.{number_parsing_error}
-use Rattle.run_model.specs.Rows.{gives, makes_error, next_error, within}
-use Rattle.run_model.specs.Strings.{int_in}
+use Rattle.op_model.specs.Rows.{gives, makes_error, next_error, within}
+use Rattle.op_model.specs.Strings.{int_in}
 use Rattle.plain_run.proofs.Given.{if-ok}
 use Rattle.plain_run.specs.Came.{came_of}
 use Rattle.plain_run.specs.Held.{world_of}

@@ -1,9 +1,9 @@
 use Rattle.plain_run.proofs.Given.{if-ok}
-use Rattle.plain_removals.proofs.Calling.{pop-called, pop-unfit}
+use Rattle.plain_removals.proofs.Calling.{pop-called, pop-stuck}
 use Rattle.plain_removals.proofs.calls.pop.Goals as goal
 
 pub returns-in-None-clause-row : goal.returns-in-None-clause-row
-returns-in-None-clause-row c = pop-unfit c.args.facts.now c.args.operands.now c.args.world.now c.args.world.now c.in-None.ensures
+returns-in-None-clause-row c = pop-stuck c.args.facts.now c.args.operands.now c.args.world.now c.args.world.now c.in-None.ensures
 
 pub returns-in-Some-clause-row : goal.returns-in-Some-clause-row
 returns-in-Some-clause-row c =

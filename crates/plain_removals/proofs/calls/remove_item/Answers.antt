@@ -6,11 +6,11 @@ use Rattle.plain_run.proofs.Given.{if-ok}
 use Rattle.plain_structures.specs.Rows.{IsTried}
 use Rattle.plain_removals.specs.declared.place.Place.TheVariants.{At}
 use Rattle.plain_removals.specs.Removals.{IsItemBeyond, RemovesItem}
-use Rattle.plain_removals.proofs.Calling.{remove-item-called, remove-item-unfit}
+use Rattle.plain_removals.proofs.Calling.{remove-item-called, remove-item-stuck}
 use Rattle.plain_removals.proofs.calls.remove_item.Goals as goal
 
 pub returns-in-None-clause-row : goal.returns-in-None-clause-row
-returns-in-None-clause-row c = remove-item-unfit c.args.facts.now c.args.operands.now c.args.world.now c.args.world.now c.in-None.ensures
+returns-in-None-clause-row c = remove-item-stuck c.args.facts.now c.args.operands.now c.args.world.now c.args.world.now c.in-None.ensures
 
 pub returns-in-Some-clause-row : goal.returns-in-Some-clause-row
 returns-in-Some-clause-row c =

@@ -1,6 +1,6 @@
 use Rattle.std.proofs.Common.{◌≡◌, ◌∙◌, Some, true, false, rules, sym, ap}
 use Rattle.value_model.specs.Heap.{entry_at}
-use Rattle.run_model.specs.Stores.{remove_entry}
+use Rattle.op_model.specs.Stores.{remove_entry}
 use Rattle.plain_run.specs.Held.{structure_of}
 use Rattle.plain_run.proofs.Given.{if-ok}
 use Rattle.plain_removals.proofs.KeyPlaces.{entry-no-position, entry-position, entry-there, removed-position}

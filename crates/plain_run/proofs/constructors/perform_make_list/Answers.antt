@@ -1,13 +1,13 @@
 use Rattle.std.proofs.Common.{ap, Some, ◌∙◌}
 use Rattle.std.specs.Prelude.{not}
 use Rattle.value_model.specs.Heap.{Items}
-use Rattle.run_model.specs.Effects.{lifted}
-use Rattle.run_model.specs.Rows.{gives_structure, new_structure}
+use Rattle.op_model.specs.Effects.{lifted}
+use Rattle.op_model.specs.Rows.{gives_structure, new_structure}
 use Rattle.plain_run.specs.Held.{common_of, with_world, world_of}
 use Rattle.plain_run.proofs.constructors.perform_make_list.Goals as goal
 
 pub returns-clause-row : goal.returns-clause-row
-returns-clause-row c = λ facts asker.
+returns-clause-row c = λ facts caller.
     let old = c.args.common.now in
     c.lifted.ensures.row (with_world old c.gives_structure.new.world)
     ∙ ap (lifted (common_of old)) (c.in_ok-came.ensures.row

@@ -7,7 +7,7 @@ pub returns-in_ok-came-in-Some-clause-row : goal.returns-in_ok-came-in-Some-clau
 returns-in_ok-came-in-Some-clause-row c =
     let old = c.args.common.now in
     let new = with_world old c.negate.new.world in
-    λ facts asker. negate-done c.args.operands.now c.in-Some.a facts asker old new c.in_ok-came-in-Some.came c.lifted.result c.in-Some.ensures (search rules) (c.lifted.ensures.row new)
+    λ facts caller. negate-done c.args.operands.now c.in-Some.a facts caller old new c.in_ok-came-in-Some.came c.lifted.result c.in-Some.ensures (search rules) (c.lifted.ensures.row new)
 
 pub returns-in_ok-came-in-Some-clause-stays : goal.returns-in_ok-came-in-Some-clause-stays
 returns-in_ok-came-in-Some-clause-stays c = c.lifted.ensures.stays c.args.common.now c.negate.new.world c.in_ok-came-in-Some.ensures.stays

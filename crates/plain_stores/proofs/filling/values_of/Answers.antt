@@ -1,6 +1,6 @@
 use Rattle.std.proofs.Common.{◌≡◌, ◌∙◌, ◌+◌, length, ap, arith}
 use Rattle.std.proofs.lemmas.List.{take_all}
-use Rattle.run_model.specs.Fillers.{filler_values, new_ones}
+use Rattle.op_model.specs.Fillers.{filler_values, new_ones}
 use Rattle.plain_stores.proofs.Values.{new-more, values-more}
 use Rattle.plain_stores.proofs.filling.values_of.Goals as goal
 

@@ -1,5 +1,5 @@
 use Rattle.std.specs.Prelude.{◌≡◌, ◌+◌, length, take}
-use Rattle.run_model.specs.Fillers.{filler_values, new_ones}
+use Rattle.op_model.specs.Fillers.{filler_values, new_ones}
 use Rattle.plain_stores.proofs.filling.values_of.Given as goal
 
 abbrev pub invariant-loop-f : goal.invariant-loop-f

@@ -1,6 +1,6 @@
 use Rattle.std.proofs.Common.{◌≡◌, ◌∙◌, ◌+◌, ◌-◌, ◌≤◌, true, false, ap, sym, rules, arith}
 use Rattle.std.specs.List.{list_all}
-use Rattle.run_model.specs.Fillers.{filler_at, fillers_from}
+use Rattle.op_model.specs.Fillers.{filler_at, fillers_from}
 use Rattle.plain_stores.specs.Fillers.{is_there}
 use Rattle.plain_stores.proofs.Gapped.{all-missing, all-more, from-none}
 use Rattle.plain_stores.proofs.gaps.are_there.Goals as goal

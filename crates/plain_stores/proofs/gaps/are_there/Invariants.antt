@@ -1,6 +1,6 @@
 use Rattle.std.specs.Prelude.{◌≡◌, ◌-◌, ◌≤◌, true}
 use Rattle.std.specs.List.{list_all}
-use Rattle.run_model.specs.Fillers.{fillers_from}
+use Rattle.op_model.specs.Fillers.{fillers_from}
 use Rattle.plain_stores.specs.Fillers.{is_there}
 use Rattle.plain_stores.proofs.gaps.are_there.Given as goal
 

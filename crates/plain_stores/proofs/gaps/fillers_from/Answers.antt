@@ -1,5 +1,5 @@
 use Rattle.std.proofs.Common.{◌≡◌, ◌∙◌, ◌+◌, ◌-◌, ◌≤◌, ◌++◌, ◌∷◌, [], ap, sym, rules, arith}
-use Rattle.run_model.specs.Fillers.{filler_at, fillers_from}
+use Rattle.op_model.specs.Fillers.{filler_at, fillers_from}
 use Rattle.plain_stores.proofs.Gapped.{from-more, from-none}
 use Rattle.plain_stores.proofs.gaps.fillers_from.Goals as goal
 

@@ -1,5 +1,5 @@
 use Rattle.std.specs.Prelude.{◌≡◌, ◌-◌, ◌≤◌}
-use Rattle.run_model.specs.Fillers.{fillers_from}
+use Rattle.op_model.specs.Fillers.{fillers_from}
 use Rattle.plain_stores.proofs.gaps.fillers_from.Given as goal
 
 abbrev pub invariant-loop-place : goal.invariant-loop-place

@@ -1,6 +1,6 @@
 use Rattle.std.proofs.Common.{◌∙◌, ◌++◌, sym, ap}
 use Rattle.std.proofs.lemmas.List.{append-nil, take_all}
-use Rattle.run_model.specs.Fillers.{new_ones}
+use Rattle.op_model.specs.Fillers.{new_ones}
 use Rattle.plain_stores.proofs.Values.{ones-more}
 use Rattle.plain_stores.proofs.gaps.push_new.Goals as goal
 

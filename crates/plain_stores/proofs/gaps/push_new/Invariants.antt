@@ -1,5 +1,5 @@
 use Rattle.std.specs.Prelude.{◌≡◌, ◌++◌, take}
-use Rattle.run_model.specs.Fillers.{new_ones}
+use Rattle.op_model.specs.Fillers.{new_ones}
 use Rattle.plain_stores.proofs.gaps.push_new.Given as goal
 
 abbrev pub invariant-loop-f : goal.invariant-loop-f

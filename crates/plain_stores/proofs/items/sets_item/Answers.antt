@@ -1,9 +1,9 @@
 use mir.Val.{to_z, of_z}
 use Rattle.std.proofs.Common.{◌≡◌, ◌∙◌, Some, None, ap, rules, sym, w64}
-use Rattle.run_model.specs.Facts.{own_types}
-use Rattle.run_model.specs.Rows.{ListAt, place_of}
-use Rattle.run_model.specs.Stores.{StoresAt}
-use Rattle.plain_run.specs.Facts.{facts_of}
+use Rattle.op_model.specs.ProgramFacts.{own_types}
+use Rattle.op_model.specs.Rows.{ListAt, place_of}
+use Rattle.op_model.specs.Stores.{StoresAt}
+use Rattle.plain_run.specs.ProgramFacts.{facts_of}
 use Rattle.plain_run.specs.Held.{world_of}
 use Rattle.plain_run.proofs.Given.{if-ok}
 use Rattle.plain_stores.specs.Questions.{StoreIsBeyond}

@@ -6,7 +6,7 @@ pub returns-in_ok-came-in-Some-clause-row : goal.returns-in_ok-came-in-Some-clau
 returns-in_ok-came-in-Some-clause-row c =
     let old = c.args.common.now in
     let w = c.sets_key.new.world in
-    λ asker. key-done c.args.facts.now asker c.args.operands.now old w c.in_ok-came-in-Some.came c.answered.result (c.answered.ensures.row (with_world old w)) c.in-Some.n c.in-Some.key c.in-Some.v c.in-Some.ensures c.in_ok-came-in-Some.ensures.row
+    λ caller. key-done c.args.facts.now caller c.args.operands.now old w c.in_ok-came-in-Some.came c.answered.result (c.answered.ensures.row (with_world old w)) c.in-Some.n c.in-Some.key c.in-Some.v c.in-Some.ensures c.in_ok-came-in-Some.ensures.row
 
 pub returns-in_ok-came-in-Some-clause-stays : goal.returns-in_ok-came-in-Some-clause-stays
 returns-in_ok-came-in-Some-clause-stays c = c.answered.ensures.stays c.args.common.now c.sets_key.new.world c.in_ok-came-in-Some.ensures.stays

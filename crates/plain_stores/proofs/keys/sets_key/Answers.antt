@@ -1,9 +1,9 @@
 use Rattle.std.proofs.Common.{[], subst, sym}
-use Rattle.run_model.specs.Facts.{own_types}
-use Rattle.run_model.specs.Rows.{gives_nothing, within}
-use Rattle.run_model.specs.Stores.{StoresKey, set_entry, stored}
+use Rattle.op_model.specs.ProgramFacts.{own_types}
+use Rattle.op_model.specs.Rows.{gives_nothing, within}
+use Rattle.op_model.specs.Stores.{StoresKey, set_entry, stored}
 use Rattle.value_model.specs.Heap.{Entries}
-use Rattle.plain_run.specs.Facts.{facts_of}
+use Rattle.plain_run.specs.ProgramFacts.{facts_of}
 use Rattle.plain_run.specs.Held.{world_of}
 use Rattle.plain_structures.specs.Rows.{IsTried}
 use Rattle.plain_stores.specs.Questions.{EntryIsBeyond}

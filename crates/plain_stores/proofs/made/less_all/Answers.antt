@@ -1,6 +1,6 @@
 use Rattle.std.specs.Prelude.{◌+◌, take}
 use Rattle.std.specs.List.{sum_by}
-use Rattle.plain_run.proofs.Room.{take-more, taken-all}
+use Rattle.plain_stores.proofs.Leaving.{take-more, taken-all}
 use Rattle.plain_stores.specs.Changes.{filler_cells}
 use Rattle.plain_stores.proofs.made.less_all.Goals as goal
 

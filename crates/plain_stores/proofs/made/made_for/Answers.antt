@@ -1,8 +1,8 @@
 use Rattle.std.proofs.Common.{◌≡◌, ◌∙◌, ◌+◌, ◌-◌, ◌++◌, [], None, Some, ap, subst, sym, arith}
 use Rattle.std.specs.Prelude.{flat_map}
 use Rattle.std.specs.List.{sum_by}
-use Rattle.run_model.specs.Levels.{all_of, levels}
-use Rattle.run_model.specs.Limits.{most_cells}
+use Rattle.op_model.specs.Levels.{all_of, levels}
+use Rattle.op_model.specs.Limits.{most_cells}
 use Rattle.plain_run.specs.Came.{IsLeft}
 use Rattle.plain_stores.specs.Changes.{filler_cells, kids}
 use Rattle.plain_stores.proofs.Levels.{level-left, level-on, level-past, levels-end}

@@ -1,7 +1,7 @@
 use Rattle.std.specs.Prelude.{◌≡◌, ◌++◌, ◌-◌, Some}
 use Rattle.std.specs.List.{sum_by}
-use Rattle.run_model.specs.Levels.{all_of, levels}
-use Rattle.run_model.specs.Limits.{most_cells}
+use Rattle.op_model.specs.Levels.{all_of, levels}
+use Rattle.op_model.specs.Limits.{most_cells}
 use Rattle.plain_run.specs.Came.{IsLeft}
 use Rattle.plain_stores.specs.Changes.{filler_cells, kids}
 use Rattle.plain_stores.proofs.made.made_for.Given as goal

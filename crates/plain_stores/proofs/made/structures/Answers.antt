@@ -1,6 +1,6 @@
 use Rattle.std.proofs.Common.{◌≡◌, ◌∙◌, ◌+◌, map, ap, arith}
 use Rattle.std.proofs.lemmas.List.{take_all}
-use Rattle.run_model.specs.Fillers.{filler_structures}
+use Rattle.op_model.specs.Fillers.{filler_structures}
 use Rattle.plain_run.specs.Held.{structure_of}
 use Rattle.plain_stores.specs.Changes.{fixed_of}
 use Rattle.plain_stores.proofs.Levels.{kids-more, structures-more}

@@ -1,5 +1,5 @@
 use Rattle.std.specs.Prelude.{◌≡◌, ◌+◌, flat_map, length, map, take}
-use Rattle.run_model.specs.Fillers.{filler_structures}
+use Rattle.op_model.specs.Fillers.{filler_structures}
 use Rattle.plain_run.specs.Held.{structure_of}
 use Rattle.plain_stores.specs.Changes.{fixed_of, kids}
 use Rattle.plain_stores.proofs.made.structures.Given as goal

@@ -1,6 +1,6 @@
 use Rattle.std.proofs.Common.{◌≡◌, ◌∙◌, ◌+◌, ◌-◌, None, length, subst, ap}
-use Rattle.run_model.specs.Fillers.{filler_values, fillers_from, new_ones}
-use Rattle.run_model.specs.Rows.{next_structure}
+use Rattle.op_model.specs.Fillers.{filler_values, fillers_from, new_ones}
+use Rattle.op_model.specs.Rows.{next_structure}
 use Rattle.plain_run.specs.Held.{structure_of, world_of}
 use Rattle.plain_stores.specs.Changes.{AreFor, gap_of, size_behind}
 use Rattle.plain_stores.proofs.Fitted.{making-past}

@@ -1,6 +1,6 @@
 use Rattle.std.proofs.Common.{◌≡◌, ◌∙◌, ◌++◌, length, subst, ap}
-use Rattle.run_model.specs.Fillers.{filler_structures, new_ones}
-use Rattle.run_model.specs.Levels.{all_of, levels}
+use Rattle.op_model.specs.Fillers.{filler_structures, new_ones}
+use Rattle.op_model.specs.Levels.{all_of, levels}
 use Rattle.plain_run.specs.Held.{world_of}
 use Rattle.plain_stores.specs.Changes.{AreMade, fixed_of, kids}
 use Rattle.plain_stores.proofs.Fitted.{for-full, for-made, for-past}

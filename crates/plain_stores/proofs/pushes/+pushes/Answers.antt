@@ -1,7 +1,7 @@
 use Rattle.std.proofs.Common.{◌∙◌, ◌-◌, drop, length, subst, sym, take}
-use Rattle.run_model.specs.Facts.{own_types}
-use Rattle.run_model.specs.Library.{Pushes}
-use Rattle.plain_run.specs.Facts.{facts_of}
+use Rattle.op_model.specs.ProgramFacts.{own_types}
+use Rattle.op_model.specs.Library.{Pushes}
+use Rattle.plain_run.specs.ProgramFacts.{facts_of}
 use Rattle.plain_run.specs.Held.{world_of}
 use Rattle.plain_structures.specs.Rows.{IsTried}
 use Rattle.plain_stores.specs.Changes.{IsEnd}
@@ -22,8 +22,8 @@ returns-then-not-has_given-clause-row t c =
     subst (λ l. IsTried (Pushes (own_types (facts_of facts)) n l (world_of old)) (PushesAreBeyond facts n l old) new first) (sym (first-of vs v c.in-len1-up.len_at_least c.v-item.is))
     (push-stops facts n v (take (length vs - 1) (drop 1 vs)) old c.in-Some.end end first new (sym c.has_given.ensures ∙ c.if-not-has_given.true) c.in_ok-first-in-len1-up.ensures.row)
 
-pub returns-in_ok-behind-in-len1-up-clause-row : goal.returns-in_ok-behind-in-len1-up-clause-row
-returns-in_ok-behind-in-len1-up-clause-row t c =
+pub returns-in_ok-undo_unless_done-in-len1-up-clause-row : goal.returns-in_ok-undo_unless_done-in-len1-up-clause-row
+returns-in_ok-undo_unless_done-in-len1-up-clause-row t c =
     let facts = c.args.facts.now in
     let old = c.args.world.now in
     let n = c.args.n in
@@ -34,11 +34,11 @@ returns-in_ok-behind-in-len1-up-clause-row t c =
     let new = c.undo_unless_done.new.world in
     let end = subst (IsEnd (world_of old) n) c.in-Some.is c.end_of.ensures in
     subst (λ l. IsTried (Pushes (own_types (facts_of facts)) n l (world_of old)) (PushesAreBeyond facts n l old) new behind) (sym (first-of vs v c.in-len1-up.len_at_least c.v-item.is))
-    (push-goes facts n v (take (length vs - 1) (drop 1 vs)) old c.in-Some.end end first behind c.stores_at.new.world c.pushes.new.world new (sym c.has_given.ensures ∙ c.if-not-has_given.false) c.in_ok-first-in-len1-up.ensures.row c.in_ok-behind-in-len1-up.ensures.row c.undo_unless_done.ensures)
+    (push-goes facts n v (take (length vs - 1) (drop 1 vs)) old c.in-Some.end end first behind c.stores_at.new.world c.pushes.new.world new (sym c.has_given.ensures ∙ c.if-not-has_given.false) c.in_ok-first-in-len1-up.ensures.row c.in_ok-behind-in-len1-up.ensures.row c.in_ok-undo_unless_done-in-len1-up.ensures)
 
-pub returns-in_ok-behind-in-len1-up-clause-stays : goal.returns-in_ok-behind-in-len1-up-clause-stays
-returns-in_ok-behind-in-len1-up-clause-stays t c =
+pub returns-in_ok-undo_unless_done-in-len1-up-clause-stays : goal.returns-in_ok-undo_unless_done-in-len1-up-clause-stays
+returns-in_ok-undo_unless_done-in-len1-up-clause-stays t c =
     let old = c.args.world.now in
     let vs = c.args.values.now in
     let end = subst (IsEnd (world_of old) c.args.n) c.in-Some.is c.end_of.ensures in
-    push-keeps c.args.facts.now c.args.n c.v-item.result (take (length vs - 1) (drop 1 vs)) old c.in-Some.end end c.in_ok-first-in-len1-up.first c.in_ok-behind-in-len1-up.behind c.stores_at.new.world c.pushes.new.world c.undo_unless_done.new.world (sym c.has_given.ensures ∙ c.if-not-has_given.false) c.in_ok-first-in-len1-up.ensures.row c.in_ok-behind-in-len1-up.ensures.stays c.undo_unless_done.ensures
+    push-keeps c.args.facts.now c.args.n c.v-item.result (take (length vs - 1) (drop 1 vs)) old c.in-Some.end end c.in_ok-first-in-len1-up.first c.in_ok-behind-in-len1-up.behind c.stores_at.new.world c.pushes.new.world c.undo_unless_done.new.world (sym c.has_given.ensures ∙ c.if-not-has_given.false) c.in_ok-first-in-len1-up.ensures.row c.in_ok-behind-in-len1-up.ensures.stays c.in_ok-undo_unless_done-in-len1-up.ensures

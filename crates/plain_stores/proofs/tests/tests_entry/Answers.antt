@@ -13,7 +13,7 @@ returns-in-Some c =
     let n = c.args.n in
     let key = c.args.key.now in
     let v = c.args.v.now in
-    let held = c.args.world.now.heap.structures.items in
+    let held = c.args.world.now.heap.structures in
     if-ok _ _ c.tests_mapping.result
     (λ test h. tested-there w n (λ s. MappingRow facts w n s key v) (λ s. MappingComes w n s key v) (λ s. MappingIsBeyond facts w s key v) (world_of w) test c.in-Some.s.now (slice_get_read held (length held) n c.in-Some.s.now refl (search rules) (search rules)) h)
     c.tests_mapping.ensures

@@ -1,7 +1,7 @@
 use Rattle.std.proofs.Common.{◌≡◌, ◌-◌, ◌<◌, false, rules}
 use Rattle.std.specs.List.{list_all}
-use Rattle.run_model.specs.Fillers.{fillers_from}
-use Rattle.run_model.specs.Limits.{most_items}
+use Rattle.op_model.specs.Fillers.{fillers_from}
+use Rattle.op_model.specs.Limits.{most_items}
 use Rattle.plain_stores.specs.Fillers.{is_there}
 use Rattle.plain_stores.proofs.Tested.{gap-missing}
 use Rattle.plain_stores.proofs.tests.tests_gap.Goals as goal

@@ -13,7 +13,7 @@ returns-in-Some c =
     let n = c.args.n in
     let k = c.args.place in
     let v = c.args.v.now in
-    let held = c.args.world.now.heap.structures.items in
+    let held = c.args.world.now.heap.structures in
     if-ok _ _ c.tests_list.result
     (λ test h. tested-there w n (λ s. ListRow facts w n s k v) (λ s. ListComes facts w n s k v) (λ s. ListIsBeyond facts w s k v) (world_of w) test c.in-Some.s.now (slice_get_read held (length held) n c.in-Some.s.now refl (search rules) (search rules)) h)
     c.tests_list.ensures

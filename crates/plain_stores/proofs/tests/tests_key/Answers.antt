@@ -1,10 +1,10 @@
 use Rattle.std.proofs.Common.{true, false, refl}
 use Rattle.std.specs.Prelude.{option_and_then, option_copied}
 use Rattle.std.proofs.lemmas.Bool.{false≢true}
-use Rattle.run_model.specs.Facts.{own_types}
-use Rattle.run_model.specs.Rows.{Else}
-use Rattle.run_model.specs.Stores.{atom_of, type_at_key}
-use Rattle.plain_run.specs.Facts.{facts_of}
+use Rattle.op_model.specs.ProgramFacts.{own_types}
+use Rattle.op_model.specs.Rows.{Else}
+use Rattle.op_model.specs.Stores.{atom_of, type_at_key}
+use Rattle.plain_run.specs.ProgramFacts.{facts_of}
 use Rattle.plain_run.specs.Held.{structure_of}
 use Rattle.plain_stores.specs.declared.tests.Test.TheVariants.{Passed}
 use Rattle.plain_stores.specs.Questions.{KeyIsBeyond}

@@ -1,18 +1,17 @@
-use Rattle.std.proofs.Common.{◌≤◌, refl, rules, length}
-use Rattle.std.proofs.lemmas.Option.{slice_get_read}
+use Rattle.std.proofs.Common.{◌≤◌, ◌∙◌, map, length, ap, arith}
 use Rattle.plain_run.specs.Held.{structure_of}
 use Rattle.plain_stores.specs.Changes.{changed_by, with_entry}
 use Rattle.plain_run.proofs.Given.{on-ok}
 use Rattle.plain_stores.proofs.Changed.{changed-past, changed-there}
 use Rattle.plain_stores.proofs.writing.set_key_at.Goals as goal
 
-pub returns-in-None : goal.returns-in-None
-returns-in-None c =
-    let held = c.args.structures.now.items in
-    let far : length held ≤ c.args.n = search rules in
+pub returns-then-at-len : goal.returns-then-at-len
+returns-then-at-len c =
+    let held = c.args.structures.now in
+    let far : length held ≤ c.args.n = grind (arith, c.if-at-len.true, c.len.ensures.len) in
     changed-past structure_of (changed_by (with_entry c.args.key.now c.args.v.now)) held c.args.n far
 
-pub returns-in-Some : goal.returns-in-Some
-returns-in-Some c =
-    let held = c.args.structures.now.items in
-    on-ok _ _ c.set_key_in.result (λ h. changed-there structure_of (changed_by (with_entry c.args.key.now c.args.v.now)) held c.args.n c.in-Some.s.now _ (slice_get_read _ (length held) _ _ refl (search rules) (search rules)) h) c.set_key_in.ensures
+pub returns : goal.returns
+returns c =
+    let held = c.args.structures.now in
+    on-ok _ _ c.put.result (λ e. ap (map structure_of) (e ∙ c.take-s.ensures.others _) ∙ changed-there structure_of (changed_by (with_entry c.args.key.now c.args.v.now)) held c.args.n c.take-s.result _ c.take-s.ensures.taken c.in_ok-set_key_in.ensures) c.put.ensures.put

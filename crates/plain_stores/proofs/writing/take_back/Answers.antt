@@ -1,17 +1,17 @@
-use Rattle.std.proofs.Common.{◌≤◌, refl, rules, length}
-use Rattle.std.proofs.lemmas.Option.{slice_get_read}
+use Rattle.std.proofs.Common.{◌≤◌, ◌∙◌, map, length, ap, arith}
 use Rattle.plain_run.specs.Held.{structure_of}
 use Rattle.plain_stores.specs.Changes.{taken_back}
+use Rattle.plain_run.proofs.Given.{on-ok}
 use Rattle.plain_stores.proofs.Changed.{changed-past, changed-there}
 use Rattle.plain_stores.proofs.writing.take_back.Goals as goal
 
-pub returns-in_default : goal.returns-in_default
-returns-in_default c =
-    let held = c.args.structures.now.items in
-    let far : length held ≤ c.args.n = search rules in
+pub returns-then-at-len : goal.returns-then-at-len
+returns-then-at-len c =
+    let held = c.args.structures.now in
+    let far : length held ≤ c.args.n = grind (arith, c.if-at-len.true, c.len.ensures.len) in
     changed-past structure_of (taken_back c.args.greatest) held c.args.n far
 
-pub returns-in-Some : goal.returns-in-Some
-returns-in-Some c =
-    let held = c.args.structures.now.items in
-    changed-there structure_of (taken_back c.args.greatest) held c.args.n c.in-Some.s.now _ (slice_get_read _ (length held) _ _ refl (search rules) (search rules)) c.drop_in.ensures
+pub returns : goal.returns
+returns c =
+    let held = c.args.structures.now in
+    on-ok _ _ c.put.result (λ e. ap (map structure_of) (e ∙ c.take-s.ensures.others _) ∙ changed-there structure_of (taken_back c.args.greatest) held c.args.n c.take-s.result _ c.take-s.ensures.taken c.drop_in.ensures) c.put.ensures.put

@@ -1,6 +1,6 @@
 use Rattle.std.proofs.Common.{refl, rules, length}
 use Rattle.std.proofs.lemmas.Option.{slice_get_read}
-use Rattle.run_model.specs.Strands.{no_channel}
+use Rattle.op_model.specs.Strands.{no_channel}
 use Rattle.plain_run.specs.Held.{channel_of}
 use Rattle.plain_strands.specs.Channels.{passed}
 use Rattle.plain_run.proofs.Given.{on-ok}

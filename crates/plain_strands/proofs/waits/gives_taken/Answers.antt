@@ -1,6 +1,6 @@
 use Rattle.std.proofs.Common.{ap, ◌∙◌}
-use Rattle.run_model.specs.Effects.{lifted}
-use Rattle.run_model.specs.Rows.{gives_error}
+use Rattle.op_model.specs.Effects.{lifted}
+use Rattle.op_model.specs.Rows.{gives_error}
 use Rattle.plain_run.specs.Held.{common_of, with_world, world_of}
 use Rattle.plain_strands.proofs.waits.gives_taken.Goals as goal
 

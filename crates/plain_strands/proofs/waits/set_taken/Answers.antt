@@ -1,6 +1,6 @@
 use Rattle.std.proofs.Common.{refl, rules, length}
 use Rattle.std.proofs.lemmas.Option.{slice_get_read}
-use Rattle.run_model.specs.Strands.{no_strand}
+use Rattle.op_model.specs.Strands.{no_strand}
 use Rattle.plain_run.specs.Held.{strand_of}
 use Rattle.plain_strands.specs.Targets.{with_taken}
 use Rattle.plain_strands.proofs.Changing.{changed-there}

@@ -1,7 +1,7 @@
 use Rattle.std.proofs.Common.{◌≡◌, Some, None, [], rules}
 use Rattle.std.specs.Prelude.{option_map}
-use Rattle.run_model.specs.Operands.{pairs_of}
-use Rattle.run_model.specs.Stores.{entries_from}
+use Rattle.op_model.specs.Operands.{pairs_of}
+use Rattle.op_model.specs.Stores.{entries_from}
 use Rattle.plain_run.specs.Came.{came_of}
 use Rattle.plain_run.specs.Held.{world_of}
 use Rattle.plain_structures.proofs.Making.{caused-absent, caused-made}

@@ -1,8 +1,8 @@
 use Rattle.std.proofs.Common.{◌≡◌, ◌∙◌, Some, None, [], ap, rules}
 use Rattle.std.specs.Prelude.{option_map}
-use Rattle.run_model.specs.Operands.{pairs_of}
-use Rattle.run_model.specs.Rows.{gives_structure}
-use Rattle.run_model.specs.Stores.{entries_from}
+use Rattle.op_model.specs.Operands.{pairs_of}
+use Rattle.op_model.specs.Rows.{gives_structure}
+use Rattle.op_model.specs.Stores.{entries_from}
 use Rattle.plain_run.specs.Came.{came_of}
 use Rattle.plain_run.specs.Held.{world_of}
 use Rattle.plain_structures.proofs.Making.{mapping-absent, mapping-made}

@@ -1,5 +1,5 @@
 use Rattle.std.proofs.Common.{refl}
-use Rattle.run_model.specs.Rows.{gives}
+use Rattle.op_model.specs.Rows.{gives}
 use Rattle.plain_run.specs.Held.{world_of}
 use Rattle.plain_structures.proofs.Finding.{field-row, no-field-row}
 use Rattle.plain_structures.proofs.reads.reads_field.Goals as goal

@@ -1,8 +1,8 @@
 use Rattle.std.proofs.Common.{◌≡◌, Some, None, rules}
 use Rattle.std.specs.Prelude.{option_map}
 use Rattle.value_model.specs.declared.panics.PanicName.TheVariants.{IndexOutOfRange}
-use Rattle.run_model.specs.Rows.{found}
-use Rattle.run_model.specs.StructureRows.{at_place}
+use Rattle.op_model.specs.Rows.{found}
+use Rattle.op_model.specs.StructureRows.{at_place}
 use Rattle.plain_run.specs.Came.{came_of}
 use Rattle.plain_run.specs.Held.{world_of}
 use Rattle.plain_structures.specs.Lookups.{items_at}

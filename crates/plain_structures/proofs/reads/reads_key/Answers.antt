@@ -1,7 +1,7 @@
 use Rattle.std.proofs.Common.{ap}
 use Rattle.value_model.specs.Heap.{entry_at}
-use Rattle.run_model.specs.Rows.{gives}
-use Rattle.run_model.specs.StructureRows.{or_nil}
+use Rattle.op_model.specs.Rows.{gives}
+use Rattle.op_model.specs.StructureRows.{or_nil}
 use Rattle.plain_run.specs.Held.{world_of}
 use Rattle.plain_structures.proofs.Finding.{mapping-row, no-mapping-row}
 use Rattle.plain_structures.proofs.reads.reads_key.Goals as goal

@@ -1,7 +1,7 @@
 use Rattle.std.proofs.Common.{IfOk, subst, sym}
 use Rattle.value_model.specs.declared.value.Value.TheVariants.{Function, Future}
-use Rattle.run_model.specs.Facts.{own_types}
-use Rattle.plain_run.specs.Facts.{facts_of}
+use Rattle.op_model.specs.ProgramFacts.{own_types}
+use Rattle.plain_run.specs.ProgramFacts.{facts_of}
 use Rattle.plain_run.specs.Held.{heap_of}
 use Rattle.plain_run.proofs.Given.{if-ok}
 use Rattle.plain_tests.specs.Own.{TellsAtomIf, arrow_at, future_of}

@@ -1,4 +1,4 @@
-use Rattle.std.proofs.Common.{◌≡◌, ◌∙◌, length, sym, ap, subst}
+use Rattle.std.proofs.Common.{◌≡◌, ◌∙◌, length, sym, subst}
 use Rattle.std.proofs.Math.ListN.{length-map}
 use Rattle.plain_run.specs.Held.{heap_of, structure_of}
 use Rattle.plain_run.proofs.Given.{if-ok}
@@ -10,6 +10,6 @@ pub returns-in-None : goal.returns-in-None
 returns-in-None c =
     let h = heap_of c.args.heap.now in
     let v = c.args.v.now in
-    let size : length c.as_slice.result.now ≡ length h.structures = ap length c.as_slice.ensures.value ∙ sym (length-map c.args.heap.now.structures.items structure_of) in
+    let size : c.len.result ≡ length h.structures = c.len.ensures.len ∙ sym (length-map c.args.heap.now.structures structure_of) in
     let none = subst (IsErrorNumber v) c.in-None.is c.error_number.ensures in
-    if-ok (Finds h (length c.as_slice.result.now) v) (FindsShape h v) c.inner_shape.result (λ found is. inner_is h v found none (subst (λ n. Finds h n v found) size is)) c.inner_shape.ensures
+    if-ok (Finds h c.len.result v) (FindsShape h v) c.inner_shape.result (λ found is. inner_is h v found none (subst (λ n. Finds h n v found) size is)) c.inner_shape.ensures

@@ -10,7 +10,7 @@ use Rattle.plain_tests.proofs.Doing.{cast-done}
 use Rattle.plain_tests.proofs.tests_of_types.perform_cast.Goals as goal
 
 pub returns-in_ok-came-in-Some-clause-row : goal.returns-in_ok-came-in-Some-clause-row
-returns-in_ok-came-in-Some-clause-row c = λ asker.
+returns-in_ok-came-in-Some-clause-row c = λ caller.
     let facts = c.args.facts.now in
     let t = sem_of c.args.t.now in
     let old = c.args.common.now in
@@ -20,11 +20,11 @@ returns-in_ok-came-in-Some-clause-row c = λ asker.
     let one = one-item c.args.operands.now v c.in-len1.len_at_least c.in-len1.len_below c.v-item.is in
     let same : c.deref.result.now ≡ c.args.t.now.value = search rules in
     let tells = subst (λ ty. Tells facts heap v ty.sem c.in_ok-holds-in-len1.field-0) same c.in_ok-holds-in-len1.ensures in
-    subst (λ vs. IsPerformed facts (operation.Cast t) vs asker old (with_world old w) (AreBeyond facts heap vs t) (Done c.lifted.result)) (sym one)
-    (cast-done v t (AreBeyond facts heap (v ∷ []) t) c.in-Some.holds facts asker old w c.in_ok-came-in-Some.came c.lifted.result (subst (Tells facts heap v t) c.in-Some.is tells) c.in_ok-came-in-Some.ensures.row (c.lifted.ensures.row (with_world old w)))
+    subst (λ vs. IsPerformed facts (operation.Cast t) vs caller old (with_world old w) (AreBeyond facts heap vs t) (Done c.lifted.result)) (sym one)
+    (cast-done v t (AreBeyond facts heap (v ∷ []) t) c.in-Some.holds facts caller old w c.in_ok-came-in-Some.came c.lifted.result (subst (Tells facts heap v t) c.in-Some.is tells) c.in_ok-came-in-Some.ensures.row (c.lifted.ensures.row (with_world old w)))
 
 pub returns-in-None-clause-row : goal.returns-in-None-clause-row
-returns-in-None-clause-row c = λ asker.
+returns-in-None-clause-row c = λ caller.
     let facts = c.args.facts.now in
     let t = sem_of c.args.t.now in
     let heap = c.args.common.now.world.heap in

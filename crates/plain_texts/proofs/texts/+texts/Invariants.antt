@@ -1,5 +1,5 @@
 use Rattle.std.proofs.Common.{◌+◌, ◌*◌, ◌++◌, take, codes, flat_map}
-use Rattle.run_model.specs.Texts.{inner_text, quoted}
+use Rattle.op_model.specs.Texts.{inner_text, quoted}
 use Rattle.plain_run.specs.Held.{heap_of}
 use Rattle.text_forms.specs.Forms.{Adds, listed, written}
 use Rattle.plain_texts.proofs.texts.+texts.Given as goal

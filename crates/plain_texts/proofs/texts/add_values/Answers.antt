@@ -1,4 +1,4 @@
-use Rattle.run_model.specs.Texts.{text_of}
+use Rattle.op_model.specs.Texts.{text_of}
 use Rattle.plain_run.specs.Held.{heap_of}
 use Rattle.plain_texts.proofs.Inside.{adds-taken_more}
 use Rattle.plain_texts.proofs.texts.add_values.Goals as goal

@@ -1,5 +1,5 @@
 use Rattle.std.proofs.Common.{flat_map, take}
-use Rattle.run_model.specs.Texts.{text_of}
+use Rattle.op_model.specs.Texts.{text_of}
 use Rattle.plain_run.specs.Held.{heap_of}
 use Rattle.text_forms.specs.Forms.{Adds, written}
 use Rattle.plain_texts.proofs.texts.add_values.Given as goal

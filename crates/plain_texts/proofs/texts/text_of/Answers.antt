@@ -1,5 +1,5 @@
 use Rattle.std.proofs.Common.{◌∙◌}
-use Rattle.run_model.specs.Texts.{text_of}
+use Rattle.op_model.specs.Texts.{text_of}
 use Rattle.plain_run.proofs.Given.{if-ok}
 use Rattle.plain_run.specs.Held.{heap_of}
 use Rattle.text_forms.proofs.Adding.{adds-first}

@@ -1,5 +1,5 @@
 use Rattle.std.proofs.Common.{flat_map}
-use Rattle.run_model.specs.Texts.{text_of}
+use Rattle.op_model.specs.Texts.{text_of}
 use Rattle.plain_run.specs.Held.{heap_of}
 use Rattle.text_forms.proofs.Adding.{adds-first}
 use Rattle.plain_texts.proofs.texts.texts_of.Goals as goal

@@ -2,7 +2,7 @@ use Rattle.std.proofs.Common.{ap, sym}
 use Rattle.type_model.specs.declared.atoms.FieldDef.{FieldDef}
 use Rattle.type_model.specs.declared.basic.Ty.{Ty}
 use Rattle.type_model.specs.SameType.{IsSameType}
-use Rattle.run_model.specs.Inherent.{member_types}
+use Rattle.op_model.specs.Inherent.{member_types}
 use Rattle.tested_types.proofs.Retold.{front-same, listed-as, mapped-same}
 use Rattle.tested_types.proofs.members.definition.Goals as goal
 

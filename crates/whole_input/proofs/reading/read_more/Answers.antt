@@ -1,6 +1,6 @@
 use Rattle.std.proofs.Common.{subst}
 use Rattle.bal_io.specs.Content.{ReadsLine, Told}
-use Rattle.run_model.specs.Limits.{most_line_bytes}
+use Rattle.op_model.specs.Limits.{most_line_bytes}
 use Rattle.whole_input.proofs.Telling.{told-line-lost}
 use Rattle.whole_input.proofs.reading.read_more.Goals as goal
 

@@ -1,3 +1,0 @@
-pub mod Acting
-pub mod Entering
-pub mod Holding

@@ -1,5 +1,0 @@
-use Rattle.std.proofs.Common.{length}
-use Rattle.plain_run.proofs.strands.+ended_count.Given as goal
-
-abbrev pub decreases-ended_count : goal.decreases-ended_count
-decreases-ended_count l = length l.strands.now

@@ -1,0 +1,8 @@
+use Rattle.std.proofs.Common.{map}
+use Rattle.plain_run.specs.Held.{strand_of}
+use Rattle.plain_run.proofs.Walking.{wake-more}
+use Rattle.plain_run.proofs.strands.wake.Goals as goal
+
+pub loop-n-preserved : goal.loop-n-preserved
+loop-n-preserved c =
+    wake-more c.args.numbers.now c.loop-n.n-index (map strand_of c.args.strands.now.items) (map strand_of c.loop-n.strands.items) (map strand_of c.set_status.new.strands.items) c.loop-n-test.true c.loop-n.invariant c.set_status.ensures

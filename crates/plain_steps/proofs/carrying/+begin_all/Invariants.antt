@@ -1,5 +1,0 @@
-use Rattle.std.proofs.Common.{length}
-use Rattle.plain_steps.proofs.carrying.+begin_all.Given as goal
-
-abbrev pub decreases-begin_all : goal.decreases-begin_all
-decreases-begin_all l = length l.spawned.now

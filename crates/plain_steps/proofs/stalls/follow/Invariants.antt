@@ -1,6 +1,0 @@
-use Rattle.plain_run.specs.Held.{common_of}
-use Rattle.plain_steps.specs.Rings.{IsWay}
-use Rattle.plain_steps.proofs.stalls.follow.Given as goal
-
-abbrev pub invariant-loop : goal.invariant-loop
-invariant-loop l = IsWay (common_of l.common) l.way.items l.n

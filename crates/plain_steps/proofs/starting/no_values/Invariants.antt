@@ -1,5 +1,0 @@
-use Rattle.std.proofs.Common.{◌≡◌, None, replicate}
-use Rattle.plain_steps.proofs.starting.no_values.Given as goal
-
-abbrev pub invariant-loop : goal.invariant-loop
-invariant-loop l = l.variables.items ≡ replicate l.counter None

@@ -1,5 +1,0 @@
-use Rattle.run_model.proofs.Twins.{levels-twins}
-use Rattle.run_model.proofs.laws.levels_have_no_twins.Goals as goal
-
-pub returns : goal.returns
-returns c = levels-twins

@@ -1,5 +1,0 @@
-use Rattle.run_model.proofs.LibraryOnce.{library-one}
-use Rattle.run_model.proofs.laws.library_answers_once.Goals as goal
-
-pub returns : goal.returns
-returns c = library-one

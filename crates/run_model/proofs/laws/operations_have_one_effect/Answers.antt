@@ -1,5 +1,0 @@
-use Rattle.run_model.proofs.PerformsOnce.{one-effect}
-use Rattle.run_model.proofs.laws.operations_have_one_effect.Goals as goal
-
-pub returns : goal.returns
-returns g c = one-effect g.N.Meaning.answers

@@ -1,4 +1,0 @@
-pub mod Fillers
-pub mod Laws
-pub mod SameMachines
-pub mod Units

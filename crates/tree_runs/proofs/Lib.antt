@@ -1,3 +1,0 @@
-pub mod Beginning
-pub mod Turning
-pub mod Written

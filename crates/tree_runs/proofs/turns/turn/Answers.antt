@@ -1,4 +1,0 @@
-use Rattle.tree_runs.proofs.turns.turn.Goals as goal
-
-pub returns : goal.returns
-returns c = λ words input ticks come. c.pick_turn.ensures c.args.program.now words input ticks come

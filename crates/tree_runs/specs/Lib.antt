@@ -1,3 +1,0 @@
-pub mod inner
-pub mod Picks
-pub mod Running
