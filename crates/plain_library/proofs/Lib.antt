@@ -5,3 +5,4 @@ pub mod Letters
 pub mod Numerals
 pub mod Printing
 pub mod Reading
+pub mod TextParts

@@ -70,7 +70,7 @@ fn called(
         LibraryCall::ToString => told(to_string(alloc, operands, world)),
         LibraryCall::Clone => told(clone(alloc, operands, world)),
         LibraryCall::CloneReadOnly => told(clone_read_only(alloc, operands, world)),
-        LibraryCall::StringLength => told(string_length(alloc, operands, world)),
+        LibraryCall::StringLength => told(string_length(operands, world)),
         LibraryCall::StartsWith => told(starts_with(alloc, operands, world)),
         LibraryCall::Trim => told(trim(alloc, operands, world)),
         LibraryCall::Substring => told(substring(alloc, operands, world)),

@@ -12,32 +12,20 @@ ghost use Rattle.plain_library.specs.Calls.{IsCalled, IsMade};
 ghost use Rattle.plain_library.specs.Parts as parts;
 
 use crate::lists::gives_list;
-use crate::parts::{end_or, part};
+use crate::parts::{length_of_text, text_end, text_part};
 use bal_base::{Memory, Text};
 use plain_run::{Came, World, panics};
 use plain_structures::{characters, text_of_characters};
 use std::alloc::Global;
 use value_model::{PanicName, Value};
 
-/// How many characters the string has.
-fn count_of(alloc: Global, t: &Text) -> Result<i64, Memory>
-    ensures { IfOk result (λ n. n ≡ pos (length t.now)) }
-{
-    let all = characters(alloc, t)?;
-    Ok(all.len() as i64)
-}
-
-/// `s.length()`
-pub fn string_length(
-    alloc: Global,
-    operands: &[Value],
-    world: &World,
-) -> Result<Option<Came>, Memory>
+/// `s.length()`. The text knows it, so nothing is walked over.
+pub fn string_length(operands: &[Value], world: &World) -> Result<Option<Came>, Memory>
     ensures { IfOk result (IsCalled call.StringLength operands.now world.now world.now) }
 {
     match operands {
         [Value::Str(t)] => {
-            let length = count_of(alloc, t)?;
+            let length = length_of_text(t);
             Ok(Some(Came::Gave(Some(Value::Int(length)))))
         }
         _ => Ok(None),
@@ -123,21 +111,22 @@ pub fn trim(alloc: Global, operands: &[Value], world: &World) -> Result<Option<C
     }
 }
 
-/// A part of the characters as a string, or a panic where there is no such part.
+/// A part of the text as a string, or a panic where there is no such part. Where all code points are ASCII only those of
+/// the part are walked over.
 fn takes_part(
     alloc: Global,
     world: &mut World,
-    characters: &[char],
+    text: &Text,
     start: i64,
     end: i64,
 ) -> Result<Came, Memory>
-    ensures row { IfOk result (λ came. TakesPart (world_of world.old) characters.now start end (came_of came world.new)) }
+    ensures row { IfOk result (λ came. TakesPart (world_of world.old) text.now start end (came_of came world.new)) }
     ensures stays { IfOk result (WorldStays world.old world.new) }
 {
-    match part(characters, start, end) {
+    match text_part(text, start, end) {
         None => panics(alloc, world, PanicName::IndexOutOfRange),
         Some(part) => {
-            let text = text_of_characters(alloc, part)?;
+            let text = Text::new(alloc, part)?;
             Ok(Came::Gave(Some(Value::Str(text))))
         }
     }
@@ -154,8 +143,8 @@ fn substring_of(
     ensures row { IfOk result (IsCalled call.Substring (parts.bounded (Str text.now) start end) world.old world.new) }
     ensures stays { IfOk result (RowStays world.old world.new) }
 {
-    let all = characters(alloc, text)?;
-    let came = takes_part(alloc, world, all.as_slice(), start, end_or(end, all.len()))?;
+    let end = text_end(text, end);
+    let came = takes_part(alloc, world, text, start, end)?;
     Ok(Some(came))
 }
 

@@ -11,5 +11,4 @@ pub mod PanicNames
 pub mod Room
 pub mod Settling
 pub mod Standing
-pub mod Texts
 pub mod Walking

@@ -1,5 +1,5 @@
 //! Operations on strings.
-ghost use Rattle.std.specs.Prelude.{◌≡◌, ◌++◌, IfOk, length, true};
+ghost use Rattle.std.specs.Prelude.{IfOk, true};
 ghost use Rattle.operations.specs.declared.operation.Operation.TheVariants as operation;
 ghost use Rattle.op_model.specs.Rows.{GivesText};
 ghost use Rattle.plain_run.specs.declared.facts.ProgramFacts.{ProgramFacts as FactsOf};
@@ -19,29 +19,12 @@ use value_model::{PanicName, Value};
 /// The most code points of a string.
 pub const MOST_CODE_POINTS: usize = 16_777_216;
 
-/// How many code points a text has.
-pub fn code_points(text: &Text) -> usize
-    ensures { result ≡ length text.now }
-{
-    text.as_str().chars().count()
-}
-
-/// One text behind another.
-fn joined(alloc: Global, first: &Text, second: &Text) -> Result<Text, Memory>
-    ensures { IfOk result (λ t. t ≡ first.now ++ second.now) }
-{
-    let mut both = String::new(alloc);
-    both.push_str(first.as_str())?;
-    both.push_str(second.as_str())?;
-    Text::from_string(alloc, both)
-}
-
-/// The string, or a panic where it is too long.
+/// The string, or a panic where it is too long. The text knows its length, so nothing is walked over.
 pub fn gives_text(alloc: Global, world: &mut World, text: Text) -> Result<Came, Memory>
     ensures row { IfOk result (λ came. GivesText (world_of world.old) text (came_of came world.new)) }
     ensures stays { IfOk result (WorldStays world.old world.new) }
 {
-    if code_points(&text) > MOST_CODE_POINTS {
+    if text.length() > MOST_CODE_POINTS {
         return panics(alloc, world, PanicName::TooLong);
     }
     Ok(Came::Gave(Some(Value::Str(text))))
@@ -57,7 +40,7 @@ fn two_texts(operands: &[Value]) -> Option<(Text, Text)>
     }
 }
 
-/// `s + t` of strings
+/// `s + t` of strings. The bytes of both are copied once, and none is walked over.
 pub fn perform_concat(
     alloc: Global,
     operands: &[Value],
@@ -69,7 +52,7 @@ pub fn perform_concat(
     match two_texts(operands) {
         None => Ok(Performed::Stuck),
         Some((s, t)) => {
-            let text = joined(alloc, &s, &t)?;
+            let text = Text::join(alloc, &s, &t)?;
             let came = gives_text(alloc, &mut common.world, text)?;
             Ok(Performed::Done(lifted(came)))
         }

@@ -43,18 +43,17 @@ pub fn text_of_characters(alloc: Global, characters: &[char]) -> Result<Text, Me
     Text::from_string(alloc, text)
 }
 
-/// The character at a place as a string, where it is there.
+/// The character at a place as a string, where it is there. Where all code points are ASCII nothing is walked over.
 fn character(alloc: Global, text: &Text, i: i64) -> Result<Option<Value>, Memory>
     ensures { IfOk result (λ v. v ≡ option_map (λ c. Str (c ∷ [])) (structures.at_place text.now i)) }
 {
     if i < 0 {
         return Ok(None);
     }
-    let all = characters(alloc, text)?;
-    match all.get(i as usize) {
+    match text.char_at(i as usize) {
         None => Ok(None),
         Some(c) => {
-            let one = text_of_characters(alloc, &[*c])?;
+            let one = text_of_characters(alloc, &[c])?;
             Ok(Some(Value::Str(one)))
         }
     }
