@@ -95,7 +95,7 @@ fn waits(alloc: Global, asked: Asking, need: Need, state: &mut State) -> Result<
     ensures { IfOk result (λ n. (M : machine.Machine Standing) (s : StateOf Standing) → s.common.running ≡ asked.running → s.others ≡ others_of state.old → s.common ≡ common_of state.old.common → Some (next_of n state.new) ≡ carried M s (call_of asked.call) (awaiting asked) (calls_of state.old.calls.items) (effects.Waits (need_of need))) }
 {
     push(&mut state.calls, asked.call)?;
-    block(&mut state.common, need);
+    block(&mut state.common, need)?;
     stop(alloc, asked.running, state);
     Ok(Next::Blocked)
 }

@@ -72,7 +72,7 @@ fn ends(alloc: Global, running: u64, end: End, state: &mut State) -> Result<Next
     requires { calls_of state.old.calls.items ≡ [] }
     ensures { IfOk result (λ n. (s : StateOf Standing) → s.common.running ≡ running → s.others ≡ others_of state.old → next_of n state.new ≡ machine.Ended (machine.stopped s (settled (strand_ended (end_of end) (common_of state.old.common))) [])) }
 {
-    end_strand(&mut state.common, end);
+    end_strand(&mut state.common, end)?;
     settle(alloc, &mut state.common)?;
     stop(alloc, running, state);
     Ok(Next::Ended)

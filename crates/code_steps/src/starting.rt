@@ -19,7 +19,7 @@ use crate::held::{Call, State};
 use bal_base::{Memory, Text};
 use code_frames::{Launch, Program};
 use plain_run::{
-    Common, Functions, Heap, Members, Status, Strand, Structure, Structures, ToRun, World,
+    Common, Functions, Heap, Members, Status, Strand, Strands, Structure, Structures, ToRun, World,
     new_structure,
 };
 use std::alloc::Global;
@@ -152,15 +152,16 @@ fn first_common(
 ) -> Result<Common, Memory>
     ensures { IfOk result (λ c. (words : List TextOf) (input : List ℕ) → world_of world ≡ runs.first_world launch.words words input → common_of c ≡ with_units (runs.first_common (launch_of launch) words input ticks) (map to_run_of to_run.items)) }
 {
-    let strand = Strand {
+    let mut strands = Strands::new(alloc);
+    strands.push(Strand {
         unit: launch.main,
         role: None,
         status: Status::Active,
         taken: false,
-    };
+    })?;
     Ok(Common {
         world,
-        strands: vec![in alloc; strand]?,
+        strands,
         activations: Vec::new(alloc),
         variables: no_values(alloc, launch.variables)?,
         ready: vec![in alloc; 0]?,

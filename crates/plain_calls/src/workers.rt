@@ -109,7 +109,7 @@ fn new_activation(
     unit: u32,
     workers: &[WorkerFacts],
 ) -> Result<Activation, Memory>
-    requires { length common.now.strands.items + length workers.now < 2 ^ 63 }
+    requires { length common.now.strands + length workers.now < 2 ^ 63 }
     ensures { IfOk result (λ a. activation_of a ≡ model.new_activation (common_of common.now) unit (length workers.now)) }
 {
     let mut strands = vec![in alloc; common.running]?;

@@ -3,6 +3,7 @@ pub mod Comparing
 pub mod Counted
 pub mod Doing
 pub mod Given
+pub mod Listed
 pub mod Lists
 pub mod Looking
 pub mod Made

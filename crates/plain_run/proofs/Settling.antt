@@ -5,7 +5,8 @@ use Rattle.std.proofs.lemmas.List.{append_assoc, length-append, map-set}
 use Rattle.std.proofs.Math.Seq.{get_or-append_seam, set-append_seam}
 use Rattle.op_model.specs.Common.{Common, Strand, IsActive}
 use Rattle.op_model.specs.Strands.{no_strand, wakes, with_status, woken, woken_from}
-use Rattle.plain_run.specs.Strands.{all_woken, listed_if, stands_so}
+use Rattle.plain_run.specs.Strands.{all_woken, stands_so}
+use Rattle.plain_run.specs.Blocked.{listed_if}
 
 by : {A : Type 0} → Bool → A → A → A
 by b x y = if b then x else y

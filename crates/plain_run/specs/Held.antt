@@ -78,7 +78,7 @@ abbrev pub common_of : Common → model.Common
 common_of c =
     record {
       world = world_of c.world;
-      strands = map strand_of c.strands.items;
+      strands = map strand_of c.strands;
       activations = map activation_of c.activations.items;
       variables = c.variables.items;
       ready = c.ready.items;

@@ -1,3 +1,4 @@
+pub mod Blocked
 pub mod Came
 pub mod Effects
 pub mod ProgramFacts

@@ -1,6 +1,7 @@
 //! What a run holds.
 
 use crate::functions::Functions;
+use crate::strand_list::Strands;
 use crate::structures::Structures;
 use bal_base::Text;
 use value_model::Value;
@@ -148,7 +149,7 @@ pub struct ToRun {
 #[derive(Drop)]
 pub struct Common {
     pub world: World,
-    pub strands: Vec<Strand>,
+    pub strands: Strands,
     pub activations: Vec<Activation>,
     /// The module variables; one that was not initialised yet has no value.
     pub variables: Vec<Option<Value>>,

@@ -2,7 +2,8 @@
 //! contract is its row of the table of operations. Code runs by them, but for what `fast_code` does at once.
 //!
 //! - [`Common`] and its parts: what a run holds. `specs/Held.antt` says what it stands for. [`Structures`] and [`Functions`] count
-//!   their cells as they come and change, so that the heap's room is known at once.
+//!   their cells as they come and change, so that the heap's room is known at once; [`Strands`] knows which of them are blocked and
+//!   how many have ended.
 //! - [`ProgramFacts`] and its parts: what is known of the program; `specs/ProgramFacts.antt`.
 //! - [`Performed`] and [`Effect`]: what is answered for an operation; `specs/Effects.antt`, `IsPerformed`.
 //! - [`perform_ints`], [`perform_negate`] and [`perform_not`]: ints and booleans.
@@ -28,6 +29,7 @@ mod held;
 mod ints;
 mod making;
 mod needs;
+mod strand_list;
 mod strands;
 mod strings;
 mod structures;
@@ -48,6 +50,7 @@ pub use held::{
 };
 pub use making::{MOST_ITEMS, gives_function, gives_structure, new_structure, size_of};
 pub use needs::{channel, has_ended, has_success, is_met, is_success, strand_end, worker_end};
+pub use strand_list::Strands;
 pub use strands::{block, end_strand, end_worker, settle};
 pub use strings::{MOST_CODE_POINTS, gives_text, perform_concat};
 pub use structures::Structures;

@@ -1,23 +1,28 @@
 //! Who becomes ready, and how strands and workers stand from then on.
 #![tactic(auto, using(crate::proofs::Settling::settling))]
 
-ghost use Rattle.std.specs.Prelude.{◌≡◌, ◌≤◌, ◌<◌, ◌+◌, ◌++◌, ◌^◌, OnOk, Some, get_or, length, map, option_map, slice_set};
+ghost use Rattle.std.specs.Prelude.{◌≡◌, ◌++◌, OnOk, Some, map, option_map, slice_set};
 ghost use Rattle.op_model.specs.Strands as model;
-ghost use Rattle.plain_run.specs.Held.{activation_of, common_of, end_of as end_held, need_of, role_of, strand_of, status_of};
-ghost use Rattle.plain_run.specs.Strands.{all_woken, ended_once, ends_so, listed_if, stands_so};
+ghost use Rattle.plain_run.specs.Held.{activation_of, common_of, end_of as end_held, need_of, role_of, strand_of};
+ghost use Rattle.plain_run.specs.Blocked.{listed_if};
+ghost use Rattle.plain_run.specs.Strands.{all_woken, ends_so, woken_among};
 
-use crate::held::{Activation, Common, End, Need, Role, Status, Strand};
+use crate::held::{Activation, Common, End, Need, Role, Status};
 use crate::needs::is_met;
+use crate::strand_list::Strands;
 use bal_base::Memory;
 use std::alloc::Global;
 
-/// Whether the strand wakes.
-fn wakes(common: &Common, strand: &Strand) -> bool
-    ensures { result ≡ model.wakes (common_of common.now) (status_of strand.now.status) }
+/// Whether the strand with this number wakes.
+fn wakes(common: &Common, n: u64) -> bool
+    ensures { result ≡ model.wakes (common_of common.now) (model.strand_at (common_of common.now) n).status }
 {
-    match &strand.status {
-        Status::Active | Status::Ended(_, _) => false,
-        Status::Blocked(need) => is_met(common, need),
+    match common.strands.get(n as usize) {
+        None => false,
+        Some(strand) => match &strand.status {
+            Status::Active | Status::Ended(_, _) => false,
+            Status::Blocked(need) => is_met(common, need),
+        },
     }
 }
 
@@ -31,40 +36,24 @@ fn push_if(numbers: &mut Vec<u64>, listed: bool, n: u64) -> Result<(), Memory>
     Ok(())
 }
 
-/// Of these strands, the first of which has this number, those that wake.
-fn list_woken(
-    woken: &mut Vec<u64>,
-    common: &Common,
-    n: u64,
-    strands: &[Strand],
-) -> Result<(), Memory>
-    requires { n + length strands.now < 2 ^ 64 }
-    ensures { OnOk result (woken.new.items ≡ woken.old.items ++ model.woken_from (common_of common.now) n (map strand_of strands.now)) }
+/// Of the strands with these numbers, those that wake.
+fn list_woken(woken: &mut Vec<u64>, common: &Common, numbers: &[u64]) -> Result<(), Memory>
+    ensures { OnOk result (woken.new.items ≡ woken.old.items ++ woken_among (common_of common.now) numbers.now) }
 {
-    let mut at = n;
-    for strand in strands {
-        push_if(woken, wakes(common, strand), at)?;
-        at += 1;
+    for n in numbers {
+        push_if(woken, wakes(common, *n), *n)?;
     }
     Ok(())
 }
 
-/// The strand with this number stands so from now on.
-fn set_status(strands: &mut Vec<Strand>, n: u64, status: Status)
-    ensures { map strand_of strands.new.items ≡ stands_so (map strand_of strands.old.items) n (status_of status) }
-{
-    if let Some(strand) = strands.get_mut(n as usize) {
-        strand.status = status;
-    }
-}
-
 /// These strands are active.
-fn wake(strands: &mut Vec<Strand>, numbers: &[u64])
-    ensures { map strand_of strands.new.items ≡ all_woken numbers.now (map strand_of strands.old.items) }
+fn wake(strands: &mut Strands, numbers: &[u64]) -> Result<(), Memory>
+    ensures { OnOk result (map strand_of strands.new ≡ all_woken numbers.now (map strand_of strands.old)) }
 {
     for n in numbers {
-        set_status(strands, *n, Status::Active);
+        strands.set_status(*n, Status::Active)?;
     }
+    Ok(())
 }
 
 /// These numbers behind the others.
@@ -77,55 +66,33 @@ fn add_all(numbers: &mut Vec<u64>, more: &[u64]) -> Result<(), Memory>
     Ok(())
 }
 
-/// The blocked strands whose needs are met by now are ready, by rising number.
+/// The blocked strands whose needs are met by now are ready, by rising number. Looks at those that are blocked alone.
 pub fn settle(alloc: Global, common: &mut Common) -> Result<(), Memory>
     ensures { OnOk result (common_of common.new ≡ model.settled (common_of common.old)) }
 {
     let mut woken = Vec::new(alloc);
-    list_woken(&mut woken, common, 0, common.strands.as_slice())?;
-    wake(&mut common.strands, woken.as_slice());
+    list_woken(&mut woken, common, common.strands.blocked())?;
+    wake(&mut common.strands, woken.as_slice())?;
     add_all(&mut common.ready, woken.as_slice())
 }
 
 /// The running strand has stopped, for a need.
-pub fn block(common: &mut Common, need: Need)
-    ensures { common_of common.new ≡ model.strand_blocked (need_of need) (common_of common.old) }
+pub fn block(common: &mut Common, need: Need) -> Result<(), Memory>
+    ensures { OnOk result (common_of common.new ≡ model.strand_blocked (need_of need) (common_of common.old)) }
 {
-    set_status(&mut common.strands, common.running, Status::Blocked(need));
-}
-
-/// One, where the strand has ended.
-fn counted(strand: &Strand) -> u64
-    ensures { result ≡ ended_once (strand_of strand.now) }
-{
-    match &strand.status {
-        Status::Active | Status::Blocked(_) => 0,
-        Status::Ended(_, _) => 1,
-    }
-}
-
-/// How many of the strands have ended.
-fn ended_count(strands: &[Strand]) -> u64
-    ensures count { result ≡ model.ended_count (map strand_of strands.now) }
-    ensures most { result ≤ length strands.now }
-{
-    let mut count = 0;
-    for strand in strands {
-        count += counted(strand);
-    }
-    count
+    common
+        .strands
+        .set_status(common.running, Status::Blocked(need))
 }
 
 /// The running strand has ended.
-pub fn end_strand(common: &mut Common, end: End)
-    ensures { common_of common.new ≡ model.strand_ended (end_held end) (common_of common.old) }
+pub fn end_strand(common: &mut Common, end: End) -> Result<(), Memory>
+    ensures { OnOk result (common_of common.new ≡ model.strand_ended (end_held end) (common_of common.old)) }
 {
-    let place = ended_count(common.strands.as_slice());
-    set_status(
-        &mut common.strands,
-        common.running,
-        Status::Ended(place, end),
-    );
+    let place = common.strands.ended();
+    common
+        .strands
+        .set_status(common.running, Status::Ended(place, end))
 }
 
 /// The worker with this number has ended so.

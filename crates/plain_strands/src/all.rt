@@ -14,7 +14,7 @@ ghost use Rattle.plain_strands.specs.Targets.{target_of};
 use crate::ends::share_end;
 use crate::results::{field_names, gives_results};
 use crate::targets::{push_strands, targets};
-use crate::waits::{Target, is_taken, set_taken, take_result};
+use crate::waits::{Target, is_taken, take_result};
 use bal_base::{LimitKind, Memory, Text};
 use operations::Awaited;
 use plain_run::{
@@ -40,7 +40,7 @@ fn give_back(common: &mut Common, t: Target)
     ensures { (before : CommonOf) → model.is_taken (common_of before) (target_of t) ≡ false → common_of common.old ≡ model.took (common_of before) (target_of t) → common_of common.new ≡ common_of before }
 {
     if !t.is_worker {
-        set_taken(&mut common.strands, t.strand, false);
+        common.strands.set_taken(t.strand, false);
     }
 }
 

@@ -1,21 +1,20 @@
 //! Waits for one strand.
 #![tactic(auto, using(crate::proofs::Waiting::waiting))]
 
-ghost use Rattle.std.specs.Prelude.{◌≡◌, [], IfOk, Some, map, option_map, true};
+ghost use Rattle.std.specs.Prelude.{◌≡◌, [], IfOk, Some, option_map, true};
 ghost use Rattle.operations.specs.declared.operation.Operation.TheVariants as operation;
-ghost use Rattle.op_model.specs.Strands.{no_strand, strand_at};
+ghost use Rattle.op_model.specs.Strands.{strand_at};
 ghost use Rattle.op_model.specs.Waits as model;
 ghost use Rattle.plain_run.specs.declared.facts.ProgramFacts.{ProgramFacts as FactsOf};
 ghost use Rattle.plain_run.specs.declared.held.Caller.{Caller as CallerOf};
 ghost use Rattle.plain_run.specs.Effects.{EffectStays, IsPerformed, Stays, effect_of};
-ghost use Rattle.plain_run.specs.Held.{common_of, end_of, role_of, strand_of};
-ghost use Rattle.plain_strands.specs.Channels.{changed};
-ghost use Rattle.plain_strands.specs.Targets.{taken_given, target_of, with_taken};
+ghost use Rattle.plain_run.specs.Held.{common_of, end_of, role_of};
+ghost use Rattle.plain_strands.specs.Targets.{taken_given, target_of};
 
 use crate::ends::{ended, share_end};
 use crate::errors::{error_given, future_taken};
 use bal_base::Memory;
-use plain_run::{Caller, Common, Effect, End, Need, Performed, Role, Strand, lifted, strand_end};
+use plain_run::{Caller, Common, Effect, End, Need, Performed, Role, lifted, strand_end};
 use std::alloc::Global;
 use value_model::Value;
 
@@ -69,21 +68,12 @@ pub(crate) fn is_taken(common: &Common, t: Target) -> bool
     !t.is_worker && was_taken(common, t.strand)
 }
 
-/// Whether the result of the strand was taken, from now on.
-pub(crate) fn set_taken(strands: &mut Vec<Strand>, n: u64, taken: bool)
-    ensures { map strand_of strands.new.items ≡ changed (with_taken taken) no_strand (map strand_of strands.old.items) n }
-{
-    if let Some(strand) = strands.get_mut(n as usize) {
-        strand.taken = taken;
-    }
-}
-
 /// Its result is taken, where a result can be.
 pub(crate) fn take_result(common: &mut Common, t: Target)
     ensures { common_of common.new ≡ model.took (common_of common.old) (target_of t) }
 {
     if !t.is_worker {
-        set_taken(&mut common.strands, t.strand, true);
+        common.strands.set_taken(t.strand, true);
     }
 }
 

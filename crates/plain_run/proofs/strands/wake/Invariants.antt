@@ -4,4 +4,4 @@ use Rattle.plain_run.specs.Strands.{all_woken}
 use Rattle.plain_run.proofs.strands.wake.Given as goal
 
 abbrev pub invariant-loop-n : goal.invariant-loop-n
-invariant-loop-n l = map strand_of l.strands.items ≡ all_woken (take l.n-index l.fn.numbers) (map strand_of l.fn.strands.items)
+invariant-loop-n l = map strand_of l.strands ≡ all_woken (take l.n-index l.fn.numbers) (map strand_of l.fn.strands)
