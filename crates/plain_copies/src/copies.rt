@@ -7,7 +7,7 @@ ghost use Rattle.plain_run.specs.Held.{heap_of, members_of, structure_of};
 ghost use Rattle.plain_copies.specs.Copied.{copied_entry, is_number, structures_copied};
 
 use bal_base::{Memory, Text};
-use plain_run::{Heap, Members, Structure, new_structure};
+use plain_run::{Entries, Heap, Members, Structure, new_structure};
 use std::alloc::Global;
 use value_model::Value;
 
@@ -76,13 +76,13 @@ fn push_entries(
     first: usize,
     numbers: &[u32],
     entries: &[(Text, Value)],
-    copies: &mut Vec<(Text, Value)>,
+    copies: &mut Entries,
 ) -> Result<(), Memory>
-    ensures { OnOk result (copies.new.items ≡ copies.old.items ++ map (copied_entry first numbers.now) entries.now) }
+    ensures { OnOk result (copies.new ≡ copies.old ++ map (copied_entry first numbers.now) entries.now) }
 {
     for entry in entries {
         let v = copied_value(first, numbers, &entry.1)?;
-        copies.push((entry.0.share(), v))?;
+        copies.push(entry.0.share(), v)?;
     }
     Ok(())
 }
@@ -102,7 +102,7 @@ fn copied_members(
             Ok(Members::Items(copies))
         }
         Members::Entries(entries) => {
-            let mut copies = Vec::new(alloc);
+            let mut copies = Entries::new(alloc);
             push_entries(first, numbers, entries.as_slice(), &mut copies)?;
             Ok(Members::Entries(copies))
         }

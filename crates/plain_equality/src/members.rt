@@ -3,14 +3,14 @@
 
 ghost use Rattle.std.specs.Prelude.{◌≡◌, ◌++◌, IfOk, OnOk, option_map};
 ghost use Rattle.value_model.specs.declared.value.Value.TheVariants.{Struct};
-ghost use Rattle.value_model.specs.Heap.{AreAlike, Entries, Items};
+ghost use Rattle.value_model.specs.Heap.{AreAlike, Entries as EntriesOf, Items};
 ghost use Rattle.op_model.specs.Equality.{face_of};
 ghost use Rattle.plain_run.specs.Held.{heap_of, members_of};
 ghost use Rattle.plain_equality.specs.Pairs as pairs;
 ghost use Rattle.plain_equality.specs.Pairs.{AreMemberPairs, AreStructurePairs, both_of};
 
 use bal_base::{Memory, Text};
-use plain_run::{Heap, Members};
+use plain_run::{Entries, Heap, Members};
 use plain_structures::entry;
 use std::alloc::Global;
 use value_model::Value;
@@ -34,7 +34,7 @@ fn item_pairs(
 }
 
 /// Whether each key of the first entries is one of the second.
-fn have_keys(first: &[(Text, Value)], second: &[(Text, Value)]) -> bool
+fn have_keys(first: &[(Text, Value)], second: &Entries) -> bool
     ensures { result ≡ pairs.have_keys first.now second.now }
 {
     first.iter().all(|e| entry(second, &e.0).is_some())
@@ -63,16 +63,17 @@ fn add_pair(
 /// The members of two mappings key by key, where they have the same keys.
 fn entry_pairs(
     alloc: Global,
-    first: &[(Text, Value)],
-    second: &[(Text, Value)],
+    first: &Entries,
+    second: &Entries,
 ) -> Result<Option<Vec<(Value, Value)>>, Memory>
-    ensures { IfOk result (λ pairs. AreMemberPairs (Entries first.now) (Entries second.now) (option_map (λ ps. ps.items) pairs)) }
+    ensures { IfOk result (λ pairs. AreMemberPairs (EntriesOf first.now) (EntriesOf second.now) (option_map (λ ps. ps.items) pairs)) }
 {
-    if !have_keys(first, second) || !have_keys(second, first) {
+    let entries = first.as_slice();
+    if !have_keys(entries, second) || !have_keys(second.as_slice(), first) {
         return Ok(None);
     }
     let mut pairs = Vec::new(alloc);
-    for e in first {
+    for e in entries {
         add_pair(&mut pairs, entry(first, &e.0), entry(second, &e.0))?;
     }
     Ok(Some(pairs))
@@ -94,7 +95,7 @@ fn member_pairs(
         },
         Members::Entries(es) => match second {
             Members::Items(_) => unreachable!(),
-            Members::Entries(ds) => entry_pairs(alloc, es.as_slice(), ds.as_slice()),
+            Members::Entries(ds) => entry_pairs(alloc, es, ds),
         },
     }
 }

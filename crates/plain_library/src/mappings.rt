@@ -107,7 +107,7 @@ fn value_at(heap: &Heap, n: u32, key: &Text) -> Option<Option<Value>>
 {
     match entries_at(heap, n) {
         None => None,
-        Some(entries) => Some(entry(entries.as_slice(), key)),
+        Some(entries) => Some(entry(entries, key)),
     }
 }
 

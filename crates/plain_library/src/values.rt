@@ -11,7 +11,7 @@ ghost use Rattle.plain_library.specs.Calls.{IsCalled};
 ghost use Rattle.plain_library.specs.Ints.{IsIntOf};
 
 use bal_base::{Memory, Text};
-use plain_run::{Came, World, gives_text, panics};
+use plain_run::{Came, Entries, World, gives_text, panics};
 use plain_structures::gives_error;
 use plain_texts::text_of;
 use std::alloc::Global;
@@ -64,7 +64,7 @@ fn parses_int(alloc: Global, world: &mut World, text: &Text) -> Result<Came, Mem
         Some(n) => Ok(Came::Gave(Some(Value::Int(n)))),
         None => {
             let message = Text::new(alloc, NUMBER_PARSING_ERROR)?;
-            gives_error(world, message, None, Vec::new(alloc))
+            gives_error(world, message, None, Entries::new(alloc))
         }
     }
 }

@@ -7,7 +7,7 @@ use crate::allowing::allowed;
 use crate::entries::place_of;
 use crate::removal::Removal;
 use bal_base::{Memory, Text};
-use plain_run::{Heap, Members, ProgramFacts, Structure};
+use plain_run::{Entries, Heap, Members, ProgramFacts, Structure};
 use std::alloc::Global;
 use value_model::{PanicName, Value};
 
@@ -27,11 +27,11 @@ fn entries_without(
     alloc: Global,
     entries: &[(Text, Value)],
     place: usize,
-) -> Result<Vec<(Text, Value)>, Memory>
+) -> Result<Entries, Memory>
     requires { place < length entries.now }
-    ensures { IfOk result (λ left. left.items ≡ remove entries.now place) }
+    ensures { IfOk result (λ left. left ≡ remove entries.now place) }
 {
-    let mut left = share_entries(alloc, entries)?;
+    let mut left = Entries::of(share_entries(alloc, entries)?);
     let _ = left.remove(place);
     Ok(left)
 }

@@ -3,6 +3,8 @@ pub mod Comparing
 pub mod Counted
 pub mod Doing
 pub mod Given
+pub mod Indexed
+pub mod KeyPlaces
 pub mod Listed
 pub mod Lists
 pub mod Looking

@@ -28,7 +28,7 @@ use Rattle.plain_run.specs.declared.held.Caller.{Caller}
 
 abbrev pub members_of : Members → ModelMembers
 members_of (Items vs) = model_heap.Items vs.items
-members_of (Entries es) = model_heap.Entries es.items
+members_of (Entries es) = model_heap.Entries es
 
 abbrev pub structure_of : Structure → ModelStructure
 structure_of s = record { atom = s.atom; mutable = s.mutable; members = members_of s.members; greatest = s.greatest }

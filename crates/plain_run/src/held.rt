@@ -1,5 +1,6 @@
 //! What a run holds.
 
+use crate::entries::Entries;
 use crate::functions::Functions;
 use crate::strand_list::Strands;
 use crate::structures::Structures;
@@ -12,7 +13,7 @@ pub enum Members {
     /// The items of a list.
     Items(Vec<Value>),
     /// The entries of a mapping, in the order in which their keys came.
-    Entries(Vec<(Text, Value)>),
+    Entries(Entries),
 }
 
 /// A list or a mapping.

@@ -3,7 +3,7 @@
 //!
 //! - [`Common`] and its parts: what a run holds. `specs/Held.antt` says what it stands for. [`Structures`] and [`Functions`] count
 //!   their cells as they come and change, so that the heap's room is known at once; [`Strands`] knows which of them are blocked and
-//!   how many have ended.
+//!   how many have ended; [`Entries`] find a key by an index.
 //! - [`ProgramFacts`] and its parts: what is known of the program; `specs/ProgramFacts.antt`.
 //! - [`Performed`] and [`Effect`]: what is answered for an operation; `specs/Effects.antt`, `IsPerformed`.
 //! - [`perform_ints`], [`perform_negate`] and [`perform_not`]: ints and booleans.
@@ -22,6 +22,7 @@
 
 mod constructors;
 mod effect;
+mod entries;
 mod facts;
 mod frames;
 mod functions;
@@ -39,6 +40,7 @@ mod world;
 
 pub use constructors::{perform_make_function, perform_make_list};
 pub use effect::{Effect, Ints, Performed, Spawned, lifted, perform_ints};
+pub use entries::Entries;
 pub use facts::{ProgramFacts, UnitFacts, WorkerFacts};
 pub use frames::{
     perform_call, perform_load, perform_panic, perform_return, perform_tick, share_all,

@@ -6,6 +6,7 @@ ghost use Rattle.op_model.specs.Rows as rows;
 ghost use Rattle.plain_run.specs.Held.{heap_of, world_of};
 ghost use Rattle.plain_run.specs.Came.{IsErrorMade, IsLeft, WorldStays, came_of};
 
+use crate::entries::Entries;
 use crate::held::{ErrorObject, Heap, Members, Structure, World};
 use bal_base::{Memory, Text};
 use std::alloc::Global;
@@ -87,11 +88,11 @@ pub fn make_error(
     world: &mut World,
     message: Text,
     cause: Option<u32>,
-    details: Vec<(Text, Value)>,
+    details: Entries,
 ) -> Result<Option<u32>, Memory>
-    ensures { IfOk result (IsErrorMade (world_of world.old) message cause details.items (world_of world.new)) }
+    ensures { IfOk result (IsErrorMade (world_of world.old) message cause details (world_of world.new)) }
 {
-    let greatest = details.as_slice().len() as u64;
+    let greatest = details.len() as u64;
     if !has_room_for(&world.heap, greatest, 2) {
         return Ok(None);
     }
@@ -117,7 +118,7 @@ pub fn panics(alloc: Global, world: &mut World, name: PanicName) -> Result<Came,
     ensures stays { IfOk result (WorldStays world.old world.new) }
 {
     let message = Text::new(alloc, name.message())?;
-    match make_error(world, message, None, Vec::new(alloc))? {
+    match make_error(world, message, None, Entries::new(alloc))? {
         Some(number) => Ok(Came::Threw(Value::Error(number))),
         None => Ok(Came::PassesCells),
     }

@@ -19,13 +19,15 @@ use crate::room::has_room;
 use crate::tests::{Test, tests_entry};
 use crate::writing::set_key_at;
 use bal_base::{Memory, Text};
-use plain_run::{Came, Common, Members, Performed, ProgramFacts, Structure, World, panics};
+use plain_run::{
+    Came, Common, Entries, Members, Performed, ProgramFacts, Structure, World, panics,
+};
 use plain_structures::{Tried, answered, entry};
 use std::alloc::Global;
 use value_model::Value;
 
 /// How many entries there are behind a store at the key.
-fn entries_behind(entries: &[(Text, Value)], key: &Text) -> u64
+fn entries_behind(entries: &Entries, key: &Text) -> u64
     ensures { result ≡ changes.entries_behind entries.now key.now }
 {
     let size = entries.len() as u64;
@@ -42,7 +44,7 @@ fn mapping_has_room(world: &World, s: &Structure, key: &Text) -> Option<bool>
     match &s.members {
         Members::Items(_) => None,
         Members::Entries(entries) => {
-            let size = entries_behind(entries.as_slice(), key);
+            let size = entries_behind(entries, key);
             Some(has_room(&world.heap, s.greatest, size, 0))
         }
     }

@@ -11,7 +11,9 @@ ghost use Rattle.plain_stores.specs.Fillers.{is_there};
 use crate::filling::values_of;
 use crate::gaps::{fixed_fillers, is_filler, push_new};
 use bal_base::Memory;
-use plain_run::{MOST_CELLS, Members, ProgramFacts, Structure, left_beside, new_structure};
+use plain_run::{
+    Entries, MOST_CELLS, Members, ProgramFacts, Structure, left_beside, new_structure,
+};
 use std::alloc::Global;
 use value_model::Filler;
 
@@ -135,7 +137,7 @@ fn push_made(
             Ok(inside.next)
         }
         Filler::Mapping(atom) => {
-            made.push(new_structure(Some(*atom), true, Members::Entries(Vec::new(alloc))))?;
+            made.push(new_structure(Some(*atom), true, Members::Entries(Entries::new(alloc))))?;
             Ok(next)
         }
         Filler::Nothing | Filler::Nil => Ok(next),

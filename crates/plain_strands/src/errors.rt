@@ -8,7 +8,7 @@ ghost use Rattle.plain_run.specs.Came.{WorldStays, came_of};
 ghost use Rattle.plain_run.specs.Held.{world_of};
 
 use bal_base::{Memory, Text};
-use plain_run::{Came, World, make_error};
+use plain_run::{Came, Entries, World, make_error};
 use std::alloc::Global;
 use value_model::Value;
 
@@ -24,7 +24,7 @@ pub(crate) fn error_given(alloc: Global, world: &mut World, message: Text) -> Re
     ensures row { IfOk result (λ came. came_of came world.new ≡ gives_error (world_of world.old) message) }
     ensures stays { IfOk result (WorldStays world.old world.new) }
 {
-    match make_error(world, message, None, Vec::new(alloc))? {
+    match make_error(world, message, None, Entries::new(alloc))? {
         Some(number) => Ok(Came::Gave(Some(Value::Error(number)))),
         None => Ok(Came::PassesCells),
     }

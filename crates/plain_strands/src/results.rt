@@ -14,7 +14,9 @@ ghost use Rattle.plain_strands.specs.Results.{detail_of, details, error_from, er
 use crate::errors::future_taken;
 use bal_base::{Memory, Text};
 use plain_copies::{cells_of, make_all};
-use plain_run::{Came, ErrorObject, Heap, Members, Structure, World, has_room_for, new_structure};
+use plain_run::{
+    Came, Entries, ErrorObject, Heap, Members, Structure, World, has_room_for, new_structure,
+};
 use std::alloc::Global;
 use type_model::{AtomDef, FieldDef};
 use value_model::Value;
@@ -90,7 +92,7 @@ fn push_detail(alloc: Global, v: &Option<Value>, made: &mut Vec<Structure>) -> R
     match v {
         Some(_) => Ok(()),
         None => {
-            let members = Members::Entries(Vec::new(alloc));
+            let members = Members::Entries(Entries::new(alloc));
             made.push(new_structure(None, false, members))?;
             Ok(())
         }
@@ -212,7 +214,7 @@ fn structures_made(
     let mut entries = Vec::new(alloc);
     push_results(names, results, next, &mut entries)?;
     let mut made = Vec::new(alloc);
-    made.push(new_structure(Some(atom), true, Members::Entries(entries)))?;
+    made.push(new_structure(Some(atom), true, Members::Entries(Entries::of(entries))))?;
     push_details(alloc, results, &mut made)?;
     Ok(made)
 }

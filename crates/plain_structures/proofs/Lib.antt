@@ -2,5 +2,4 @@ pub mod Adding
 pub mod Doing
 pub mod Finding
 pub mod Making
-pub mod Setting
 pub mod Standing

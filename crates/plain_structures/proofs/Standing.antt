@@ -1,11 +1,8 @@
 -- What stands in the heap, as it is held.
-use Rattle.std.proofs.Common.{◌≡◌, ◌∙◌, ℕ, ℤ, pos, List, [], ◌∷◌, Option, Some, None, Bool, true, false, map, refl, ap}
-use Rattle.std.specs.Prelude.{find, option_and_then, option_map, slice_get, if◌then◌else◌}
+use Rattle.std.proofs.Common.{◌≡◌, ◌∙◌, ℕ, ℤ, pos, List, Option, Some, None, map, ap}
+use Rattle.std.specs.Prelude.{option_and_then, option_map, slice_get}
 use Rattle.std.proofs.lemmas.Option.{slice_get-map}
-use Rattle.bal_base.specs.declared.text.Text.{Text}
-use Rattle.type_model.specs.Places.{is_same_text}
-use Rattle.value_model.specs.declared.value.Value.{Value}
-use Rattle.value_model.specs.Heap.{Structure as ModelStructure, entry_at}
+use Rattle.value_model.specs.Heap.{Structure as ModelStructure}
 use Rattle.op_model.specs.StructureRows.{at_place}
 use Rattle.plain_run.specs.declared.held.Heap.{Heap}
 use Rattle.plain_run.specs.declared.held.Structure.{Structure}
@@ -28,22 +25,7 @@ module _ (h : Heap) (n : ℕ) where
   pub entries-past : slice_get h.structures n ≡ None → entries_at (heap_of h) n ≡ None
   entries-past e = at-held (λ x. entries_in x.members) None e
 
--- the value at a key is that of the first entry with the key
-entry-first : (es : List (Text × Value)) (key : Text) → entry_at es key ≡ option_map (λ e. e.1) (find (λ e. is_same_text e.0 key) es)
-entry-first [] key = refl
-entry-first (e ∷ es) key = by (entry-first es key) (is_same_text e.0 key)
-  where
-    by : entry_at es key ≡ option_map (λ x. x.1) (find (λ x. is_same_text x.0 key) es) → (b : Bool) → (if b then Some e.1 else entry_at es key) ≡ option_map (λ x. x.1) (if b then Some e else find (λ x. is_same_text x.0 key) es)
-    by behind true = refl
-    by behind false = behind
-
-pub entry-there : (es : List (Text × Value)) (key : Text) (e : Text × Value) → find (λ x. is_same_text x.0 key) es ≡ Some e → entry_at es key ≡ Some e.1
-entry-there es key e h = entry-first es key ∙ ap (option_map (λ x. x.1)) h
-
-pub entry-absent : (es : List (Text × Value)) (key : Text) → find (λ x. is_same_text x.0 key) es ≡ None → entry_at es key ≡ None
-entry-absent es key h = entry-first es key ∙ ap (option_map (λ x. x.1)) h
-
 pub at-positive : {A : Type 0} (xs : List A) (i : ℤ) (k : ℕ) → i ≡ pos k → at_place xs i ≡ slice_get xs k
 at-positive xs i k e = ap (at_place xs) e
 
-pub ruleset standing = (items-there, items-past, entries-there, entries-past, entry-there, entry-absent, at-positive)
+pub ruleset standing = (items-there, items-past, entries-there, entries-past, at-positive)

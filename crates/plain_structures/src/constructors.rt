@@ -17,7 +17,7 @@ use crate::answer::performed;
 use crate::entries::entries_of;
 use bal_base::{Memory, Text};
 use plain_run::{
-    Came, Common, Members, Performed, World, gives_structure, make_error, new_structure,
+    Came, Common, Entries, Members, Performed, World, gives_structure, make_error, new_structure,
 };
 use std::alloc::Global;
 use value_model::Value;
@@ -64,9 +64,9 @@ pub fn gives_error(
     world: &mut World,
     message: Text,
     cause: Option<u32>,
-    details: Vec<(Text, Value)>,
+    details: Entries,
 ) -> Result<Came, Memory>
-    ensures row { IfOk result (λ came. came_of came world.new ≡ rows.within (rows.gives (rows.makes_error (world_of world.old) message cause details.items) (Error (rows.next_error (world_of world.old))))) }
+    ensures row { IfOk result (λ came. came_of came world.new ≡ rows.within (rows.gives (rows.makes_error (world_of world.old) message cause details) (Error (rows.next_error (world_of world.old))))) }
     ensures stays { IfOk result (WorldStays world.old world.new) }
 {
     match make_error(world, message, cause, details)? {

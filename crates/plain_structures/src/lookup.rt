@@ -1,15 +1,14 @@
 //! What stands in the heap.
 #![tactic(auto, using(crate::proofs::Standing::standing))]
 
-ghost use Rattle.std.specs.Prelude.{◌≡◌, find, option_copied, option_map};
-ghost use Rattle.type_model.specs.Places.{is_same_text};
+ghost use Rattle.std.specs.Prelude.{◌≡◌, option_copied, option_map};
 ghost use Rattle.value_model.specs.Heap.{entry_at};
 ghost use Rattle.op_model.specs.StructureRows.{at_place};
 ghost use Rattle.plain_run.specs.Held.{heap_of, members_of};
 ghost use Rattle.plain_structures.specs.Lookups as lookups;
 
 use bal_base::Text;
-use plain_run::{Heap, Members};
+use plain_run::{Entries, Heap, Members};
 use value_model::Value;
 
 /// The items, where the members are those of a list.
@@ -33,8 +32,8 @@ pub fn items_at(heap: &Heap, n: u32) -> Option<&Vec<Value>>
 }
 
 /// The entries, where the members are those of a mapping.
-fn entries_in(members: &Members) -> Option<&Vec<(Text, Value)>>
-    ensures { option_map (λ es. es.items) (option_copied result) ≡ lookups.entries_in (members_of members.now) }
+fn entries_in(members: &Members) -> Option<&Entries>
+    ensures { option_copied result ≡ lookups.entries_in (members_of members.now) }
 {
     match members {
         Members::Items(_) => None,
@@ -43,8 +42,8 @@ fn entries_in(members: &Members) -> Option<&Vec<(Text, Value)>>
 }
 
 /// The entries of the mapping with this number, where it is one.
-pub fn entries_at(heap: &Heap, n: u32) -> Option<&Vec<(Text, Value)>>
-    ensures { option_map (λ es. es.items) (option_copied result) ≡ lookups.entries_at (heap_of heap.now) n }
+pub fn entries_at(heap: &Heap, n: u32) -> Option<&Entries>
+    ensures { option_copied result ≡ lookups.entries_at (heap_of heap.now) n }
 {
     match heap.structures.get(n as usize) {
         None => None,
@@ -65,19 +64,12 @@ pub fn item(items: &[Value], i: i64) -> Option<Value>
     }
 }
 
-/// The first entry with the key.
-fn entry_with<'a>(entries: &'a [(Text, Value)], key: &Text) -> Option<&'a (Text, Value)>
-    ensures { option_copied result ≡ find (λ e. is_same_text e.0 key.now) entries.now }
-{
-    entries.iter().find(|e| e.0 == *key)
-}
-
 /// The value at a key, where it is there.
-pub fn entry(entries: &[(Text, Value)], key: &Text) -> Option<Value>
+pub fn entry(entries: &Entries, key: &Text) -> Option<Value>
     ensures { result ≡ entry_at entries.now key.now }
 {
-    match entry_with(entries, key) {
-        Some(e) => Some(e.1.share()),
+    match entries.get(key) {
+        Some(v) => Some(v.share()),
         None => None,
     }
 }

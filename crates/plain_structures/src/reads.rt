@@ -52,7 +52,7 @@ fn entry_of(world: &World, n: u32, key: &Text) -> Option<Option<Value>>
 {
     match entries_at(&world.heap, n) {
         None => None,
-        Some(entries) => Some(entry(entries.as_slice(), key)),
+        Some(entries) => Some(entry(entries, key)),
     }
 }
 
@@ -96,7 +96,7 @@ fn member_of(world: &World, n: u32, key: &Text) -> Option<Value>
 {
     match entries_at(&world.heap, n) {
         None => None,
-        Some(entries) => entry(entries.as_slice(), key),
+        Some(entries) => entry(entries, key),
     }
 }
 

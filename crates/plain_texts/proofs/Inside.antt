@@ -1,5 +1,5 @@
 -- Texts of values inside one another.
-use Rattle.std.proofs.Common.{Vec, append_assoc, ◌+◌, ◌<◌, length, get_or, take, subst, ◌≡◌, ◌≢◌, ◌∙◌, ◌-◌, ◌==◌, ℕ, zero, suc, Bool, true, false, List, [], ◌∷◌, ◌++◌, Option, Some, None, flat_map, map, refl, sym, ap, arith}
+use Rattle.std.proofs.Common.{append_assoc, ◌+◌, ◌<◌, length, get_or, take, subst, ◌≡◌, ◌≢◌, ◌∙◌, ◌-◌, ◌==◌, ℕ, zero, suc, Bool, true, false, List, [], ◌∷◌, ◌++◌, Option, Some, None, flat_map, map, refl, sym, ap, arith}
 use Rattle.std.specs.Prelude.{codes, slice_get, option_map, if◌then◌else◌}
 use Rattle.std.specs.List.{list_any}
 use Rattle.std.proofs.lemmas.List.{append-nil, take_more}
@@ -12,7 +12,6 @@ use Rattle.value_model.specs.declared.value.Value.TheVariants.{Error, Struct}
 use Rattle.value_model.specs.Heap.{Heap as ModelHeap, Structure as ModelStructure, ErrorObject as ModelError, Members, Items, Entries}
 use Rattle.op_model.specs.Texts.{details_text, error_text, inner_text, members_text, structure_text}
 use Rattle.plain_run.specs.declared.held.Heap.{Heap}
-use Rattle.std.specs.Global.{Global}
 use Rattle.plain_run.specs.declared.held.Members.TheVariants as held
 use Rattle.plain_run.specs.declared.held.Structure.{Structure}
 use Rattle.plain_run.specs.declared.held.ErrorObject.{ErrorObject}
@@ -74,8 +73,8 @@ module _ (h : Heap) (text : Value → List ℕ) (n : ℕ) where
   pub details-there : (s : Structure) (m : Members) → slice_get h.structures n ≡ Some s → members_of s.members ≡ m → details_text (heap_of h) text n ≡ details_in m
   details-there s m e is = ap details_by (at-structures (Some s) e) ∙ ap details_in is
 
-  pub details-entries : (s : Structure) (es : Vec (Text × Value) Global) → slice_get h.structures n ≡ Some s → s.members ≡ held.Entries es → details_text (heap_of h) text n ≡ flat_map (λ e. codes "," ++ e.0 ++ codes "=" ++ text e.1) es.items
-  details-entries s es e is = details-there s (Entries es.items) e (ap members_of is)
+  pub details-entries : (s : Structure) (es : List (Text × Value)) → slice_get h.structures n ≡ Some s → s.members ≡ held.Entries es → details_text (heap_of h) text n ≡ flat_map (λ e. codes "," ++ e.0 ++ codes "=" ++ text e.1) es
+  details-entries s es e is = details-there s (Entries es) e (ap members_of is)
 
   pub details-past : slice_get h.structures n ≡ None → details_text (heap_of h) text n ≡ []
   details-past e = ap details_by (at-structures None e)

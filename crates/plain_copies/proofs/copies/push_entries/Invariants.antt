@@ -3,4 +3,4 @@ use Rattle.plain_copies.specs.Copied.{copied_entry}
 use Rattle.plain_copies.proofs.copies.push_entries.Given as goal
 
 abbrev pub invariant-loop-entry : goal.invariant-loop-entry
-invariant-loop-entry l = l.copies.items ≡ l.fn.copies.items ++ map (copied_entry l.fn.first l.fn.numbers) (take l.entry-index l.fn.entries)
+invariant-loop-entry l = l.copies ≡ l.fn.copies ++ map (copied_entry l.fn.first l.fn.numbers) (take l.entry-index l.fn.entries)

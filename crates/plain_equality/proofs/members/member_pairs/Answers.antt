@@ -14,7 +14,7 @@ returns-in-Items-second c =
 
 pub returns-in-Entries-second-2 : goal.returns-in-Entries-second-2
 returns-in-Entries-second-2 c =
-    let first : Entries c.as_slice-in-Entries-second-2.result.now ≡ members_of c.args.first.now = search rules in
-    let second : Entries c.as_slice-in-Entries-second-2-2.result.now ≡ members_of c.args.second.now = search rules in
+    let first : Entries c.in-Entries.es ≡ members_of c.args.first.now = search rules in
+    let second : Entries c.in-Entries-second-2.ds ≡ members_of c.args.second.now = search rules in
     subst (λ x. IfOk c.entry_pairs.result (λ pairs. AreMemberPairs x (members_of c.args.second.now) (option_map (λ ps. ps.items) pairs))) first
-    (subst (λ y. IfOk c.entry_pairs.result (λ pairs. AreMemberPairs (Entries c.as_slice-in-Entries-second-2.result.now) y (option_map (λ ps. ps.items) pairs))) second c.entry_pairs.ensures)
+    (subst (λ y. IfOk c.entry_pairs.result (λ pairs. AreMemberPairs (Entries c.in-Entries.es) y (option_map (λ ps. ps.items) pairs))) second c.entry_pairs.ensures)

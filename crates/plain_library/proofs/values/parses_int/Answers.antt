@@ -15,5 +15,5 @@ unfolding chars
 returns-in_ok-message-in-None-clause-row c =
     let w = world_of c.args.world.now in
     let message : c.in_ok-message-in-None.message ≡ number_parsing_error = c.in_ok-message-in-None.ensures in
-    if-ok _ _ c.gives_error.result (λ came h. unparsed w (int_in c.args.text.now) (came_of came c.gives_error.new.world) c.in-None.ensures (h ∙ (λ i. within (gives (makes_error w (message i) None (c.new-in-None.ensures.items i)) (Error (next_error w))))))
+    if-ok _ _ c.gives_error.result (λ came h. unparsed w (int_in c.args.text.now) (came_of came c.gives_error.new.world) c.in-None.ensures (h ∙ (λ i. within (gives (makes_error w (message i) None (c.new-in-None.ensures i)) (Error (next_error w))))))
     c.gives_error.ensures.row

@@ -3,7 +3,8 @@ use Rattle.value_model.specs.Heap.{entry_at}
 use Rattle.op_model.specs.Stores.{remove_entry}
 use Rattle.plain_run.specs.Held.{structure_of}
 use Rattle.plain_run.proofs.Given.{if-ok}
-use Rattle.plain_removals.proofs.KeyPlaces.{entry-no-position, entry-position, entry-there, removed-position}
+use Rattle.plain_run.proofs.KeyPlaces.{entry-no-position, entry-position, entry-there}
+use Rattle.plain_removals.proofs.KeyPlaces.{removed-position}
 use Rattle.plain_removals.proofs.Removing.{entries-frozen, entry-allowed, no-key}
 use Rattle.plain_removals.proofs.keys.key_removal.Goals as goal
 
@@ -25,6 +26,6 @@ returns-in_ok-left-in-Some c =
     let e = c.index-entries-i.result in
     let at = sym c.in-Some.ensures.place in
     let there : entry_at es key ≡ Some c.share-given.result = entry-position key es i e at ∙ ap Some (sym c.share-given.ensures) in
-    let left : c.in_ok-left-in-Some.left.items ≡ remove_entry es key = c.in_ok-left-in-Some.ensures ∙ sym (removed-position key es i e at) in
+    let left : c.in_ok-left-in-Some.left ≡ remove_entry es key = c.in_ok-left-in-Some.ensures ∙ sym (removed-position key es i e at) in
     let free : c.args.s.now.mutable ≡ true = search rules in
-    if-ok _ _ c.allowed.result (λ removal. entry-allowed c.args.facts.now c.args.heap.now (structure_of c.args.s.now) es key c.in_ok-left-in-Some.left.items c.share-given.result removal there left free) c.allowed.ensures
+    if-ok _ _ c.allowed.result (λ removal. entry-allowed c.args.facts.now c.args.heap.now (structure_of c.args.s.now) es key c.in_ok-left-in-Some.left c.share-given.result removal there left free) c.allowed.ensures

@@ -8,14 +8,14 @@ pub returns-in-Some-clause-row : goal.returns-in-Some-clause-row
 returns-in-Some-clause-row c =
     let w = world_of c.args.world.now in
     let v = world_of c.make_error.new.world in
-    error-given w v c.args.message c.args.cause c.args.details.items c.in-Some.number (subst (IsErrorMade w c.args.message c.args.cause c.args.details.items v) c.in-Some.is c.in_ok-number.ensures)
+    error-given w v c.args.message c.args.cause c.args.details c.in-Some.number (subst (IsErrorMade w c.args.message c.args.cause c.args.details v) c.in-Some.is c.in_ok-number.ensures)
 
 pub returns-in-None-clause-row : goal.returns-in-None-clause-row
 returns-in-None-clause-row c =
     let w = world_of c.args.world.now in
     let v = world_of c.make_error.new.world in
-    error-passes w v c.args.message c.args.cause c.args.details.items (subst (IsErrorMade w c.args.message c.args.cause c.args.details.items v) c.in-None.is c.in_ok-number.ensures)
+    error-passes w v c.args.message c.args.cause c.args.details (subst (IsErrorMade w c.args.message c.args.cause c.args.details v) c.in-None.is c.in_ok-number.ensures)
 
 pub returns-in-None-clause-stays : goal.returns-in-None-clause-stays
 returns-in-None-clause-stays c =
-    (subst (IsErrorMade (world_of c.args.world.now) c.args.message c.args.cause c.args.details.items (world_of c.make_error.new.world)) c.in-None.is c.in_ok-number.ensures).0
+    (subst (IsErrorMade (world_of c.args.world.now) c.args.message c.args.cause c.args.details (world_of c.make_error.new.world)) c.in-None.is c.in_ok-number.ensures).0

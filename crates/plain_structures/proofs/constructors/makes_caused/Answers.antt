@@ -14,5 +14,5 @@ returns-in-None-clause-row c =
 
 pub returns-in_ok-came-in-Some-clause-row : goal.returns-in_ok-came-in-Some-clause-row
 returns-in_ok-came-in-Some-clause-row c =
-    let some : Some c.in-Some.entries.items ≡ option_map (λ ps. entries_from [] ps) (pairs_of c.args.details.now) = search rules in
-    caused-made (world_of c.args.world.now) c.args.message.now c.args.details.now c.args.cause c.in-Some.entries.items (came_of c.in_ok-came-in-Some.came c.gives_error.new.world) some (search rules)
+    let some : Some c.in-Some.entries ≡ option_map (λ ps. entries_from [] ps) (pairs_of c.args.details.now) = search rules in
+    caused-made (world_of c.args.world.now) c.args.message.now c.args.details.now c.args.cause c.in-Some.entries (came_of c.in_ok-came-in-Some.came c.gives_error.new.world) some (search rules)

@@ -16,6 +16,6 @@ returns-in-None-clause-row c =
 pub returns-in_ok-came-in-Some-clause-row : goal.returns-in_ok-came-in-Some-clause-row
 returns-in_ok-came-in-Some-clause-row c =
     let w = world_of c.args.world.now in
-    let some : Some c.in-Some.entries.items ≡ option_map (λ ps. entries_from [] ps) (pairs_of c.args.operands.now) = search rules in
-    mapping-made w c.args.atom c.args.immutable c.args.operands.now c.in-Some.entries.items (came_of c.in_ok-came-in-Some.came c.gives_structure.new.world) some
+    let some : Some c.in-Some.entries ≡ option_map (λ ps. entries_from [] ps) (pairs_of c.args.operands.now) = search rules in
+    mapping-made w c.args.atom c.args.immutable c.args.operands.now c.in-Some.entries (came_of c.in_ok-came-in-Some.came c.gives_structure.new.world) some
     (c.in_ok-came-in-Some.ensures.row ∙ ap (gives_structure w) c.new_structure-made.ensures)

@@ -8,4 +8,4 @@ abbrev pub decreases-pairs : goal.decreases-pairs
 decreases-pairs l = length l.left
 
 abbrev pub invariant-pairs : goal.invariant-pairs
-invariant-pairs l = (all : Bool) (new : List (Text × Value)) → AreAdded l.entries.items l.left all new → AreAdded l.fn.entries.items l.fn.pairs all new
+invariant-pairs l = (all : Bool) (new : List (Text × Value)) → AreAdded l.entries l.left all new → AreAdded l.fn.entries l.fn.pairs all new
