@@ -1,0 +1,5 @@
+pub mod Cycles
+pub mod Imports
+pub mod Order
+pub mod Repeats
+pub mod inner

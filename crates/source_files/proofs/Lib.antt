@@ -1,0 +1,3 @@
+pub mod SourceReadings
+pub mod TokenPlaces
+pub mod Unread
