@@ -1,0 +1,8 @@
+mod Commanded
+mod Descent
+mod MayAsk
+mod MayPlaces
+mod MayQuestions
+mod MayRows
+mod Numbered
+mod Parts

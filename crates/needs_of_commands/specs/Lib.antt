@@ -1,0 +1,4 @@
+pub mod Askable
+pub mod inner
+pub mod Laws
+pub mod Loans
