@@ -6,3 +6,4 @@ mod MayQuestions
 mod MayRows
 mod Numbered
 mod Parts
+mod PassedDefined

@@ -1,13 +1,14 @@
 -- The laws of traps and of questions.
-use Rattle.std.specs.Prelude.{◌≡◌, ◌≤◌, ◌<◌, ◌+◌, ℕ, List, Option, Some, All, slice_get}
+use Rattle.std.specs.Prelude.{◌≡◌, ◌≤◌, ◌<◌, ◌+◌, ℕ, List, Option, Some, All, length, slice_get}
 use Rattle.std.specs.List.{flat_map}
 use Rattle.type_model.specs.declared.atoms.AtomDef.{AtomDef}
 use Rattle.stack_code.specs.declared.code.Code.{Code}
 use Rattle.stack_code.specs.declared.code.Unit.{Unit as CodeUnit}
 use Rattle.stack_code.specs.Places.{Station, traps_from}
 use Rattle.code_numbers.specs.Traps.{AreTrapRows}
+use Rattle.code_needs.specs.FieldNeeds.{FieldsPass}
 use Rattle.code_needs.specs.Needs.{Need}
-use Rattle.code_needs.specs.PlaceNeeds.{place_needs}
+use Rattle.code_needs.specs.PlaceNeeds.{PlacePasses, place_needs}
 use Rattle.need_questions.specs.declared.question.NeedQuestion.{NeedQuestion}
 use Rattle.need_questions.specs.NeedsAsked.{IsAskableNeed, needs_of}
 use Rattle.needs_of_commands.specs.Askable.{HasDefined, MakesCallable, MayBeAsked}
@@ -28,6 +29,12 @@ abbrev pub QuestionsMayBeAsked : Type 0
 QuestionsMayBeAsked =
     (env : List AtomDef) (questions : List NeedQuestion) →
     All (MayBeAsked env) (flat_map needs_of questions) → All (IsAskableNeed env) questions
+
+-- where the fields of a code pass, and each place does as one of some worker's, what is to be known of the code before is known
+abbrev pub PassedIsDefined : Type 0
+PassedIsDefined =
+    (code : Code) → FieldsPass code →
+    ((p : ℕ) → p < length code.instrs → (u : CodeUnit) × (station : Station) × PlacePasses code u station p) → HasDefined code
 
 -- all needs of a place may be asked about, where its unit is one of the code
 abbrev pub PlaceNeedsMayBeAsked : Type 0

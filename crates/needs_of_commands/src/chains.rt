@@ -59,8 +59,7 @@ fn chain<'c>(
     while let Some(trap) = next {
         let below = stack_at(code, trap as usize);
         begins_below(found, types, below);
-        let further = outside(rows, first, trap);
-        next = further;
+        next = outside(rows, first, trap);
     }
 }
 
