@@ -1,0 +1,5 @@
+pub mod inner
+pub mod Laws
+pub mod Standing
+pub mod Stopping
+pub mod Telling
