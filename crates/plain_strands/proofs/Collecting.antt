@@ -1,5 +1,5 @@
 -- Results that are collected, and those that are given back.
-use Rattle.std.proofs.Common.{◌≡◌, ◌∙◌, ℕ, zero, suc, Bool, true, false, List, [], ◌∷◌, ◌++◌, Option, Some, None, get_or, map, refl, sym, ap}
+use Rattle.std.proofs.Common.{◌≡◌, ◌∙◌, ℕ, zero, suc, Bool, true, false, List, [], ◌∷◌, ◌++◌, Option, Some, None, get_or, refl, sym, ap}
 use Rattle.std.specs.Prelude.{not, if◌then◌else◌}
 use Rattle.std.proofs.lemmas.List.{append-nil}
 use Rattle.bal_base.specs.declared.text.Text.{Text}
@@ -13,7 +13,7 @@ use Rattle.plain_run.specs.declared.held.Common.{Common as Held}
 use Rattle.plain_run.specs.declared.world.Came.{Came}
 use Rattle.plain_run.specs.declared.world.Came.TheVariants.{Gave, Threw, PassesCells}
 use Rattle.plain_run.specs.Held.{common_of}
-use Rattle.plain_strands.specs.Channels.{changed}
+use Rattle.plain_messages.specs.Channels.{changed}
 use Rattle.plain_strands.specs.Results.{CommonStays, JustTook, collects_untaken, free_end, mapping_given, prefixed}
 use Rattle.plain_strands.specs.Targets.{with_taken}
 use Rattle.plain_run.proofs.Lists.{append-one}

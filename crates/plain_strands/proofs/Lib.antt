@@ -1,9 +1,7 @@
-pub mod Changing
 pub mod Choosing
 pub mod Collecting
 pub mod Erring
 pub mod Gathering
 pub mod Naming
-pub mod Receiving
 pub mod Resulting
 pub mod Waiting

@@ -1,4 +1,3 @@
-pub mod Channels
 pub mod Choices
 pub mod Results
 pub mod Targets

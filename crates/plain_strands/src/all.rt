@@ -1,7 +1,7 @@
 //! Multiple waits.
 #![tactic(auto, using(crate::proofs::Collecting::collecting))]
 
-ghost use Rattle.std.specs.Prelude.{◌≡◌, false, IfOk, IfSome, map, option_map, true};
+ghost use Rattle.std.specs.Prelude.{◌≡◌, false, IfOk, IfSome, map, option_map};
 ghost use Rattle.operations.specs.declared.operation.Operation.TheVariants as operation;
 ghost use Rattle.op_model.specs.Strands.{end_of as end_of_strand};
 ghost use Rattle.op_model.specs.Waits as model;
@@ -11,12 +11,12 @@ ghost use Rattle.plain_run.specs.Held.{common_of, end_of};
 ghost use Rattle.plain_strands.specs.Results.{CommonStays, JustTook, effect_came, free_end, prefixed};
 ghost use Rattle.plain_strands.specs.Targets.{target_of};
 
-use crate::ends::share_end;
 use crate::results::{field_names, gives_results};
 use crate::targets::{push_strands, targets};
 use crate::waits::{Target, is_taken, take_result};
 use bal_base::{LimitKind, Memory, Text};
 use operations::Awaited;
+use plain_messages::share_end;
 use plain_run::{
     Caller, Came, Common, Effect, End, Need, Performed, ProgramFacts, is_met, strand_end,
 };

@@ -1,7 +1,7 @@
 //! Alternate waits.
 #![tactic(auto, using(crate::proofs::Choosing::choosing))]
 
-ghost use Rattle.std.specs.Prelude.{◌≡◌, IfOk, filter, map, option_map, true};
+ghost use Rattle.std.specs.Prelude.{◌≡◌, IfOk, filter, map, option_map};
 ghost use Rattle.operations.specs.declared.operation.Operation.TheVariants as operation;
 ghost use Rattle.op_model.specs.Waits as model;
 ghost use Rattle.plain_run.specs.declared.facts.ProgramFacts.{ProgramFacts as FactsOf};

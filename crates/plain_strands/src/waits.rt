@@ -11,9 +11,9 @@ ghost use Rattle.plain_run.specs.Effects.{EffectStays, IsPerformed, Stays, effec
 ghost use Rattle.plain_run.specs.Held.{common_of, end_of, role_of};
 ghost use Rattle.plain_strands.specs.Targets.{taken_given, target_of};
 
-use crate::ends::{ended, share_end};
 use crate::errors::{error_given, future_taken};
 use bal_base::Memory;
+use plain_messages::{ended, share_end};
 use plain_run::{Caller, Common, Effect, End, Need, Performed, Role, lifted, strand_end};
 use std::alloc::Global;
 use value_model::Value;

@@ -6,8 +6,8 @@ use Rattle.op_model.specs.Messages.{one_received, one_sent}
 use Rattle.op_model.specs.Strands.{channel_at, no_channel, with_channel}
 use Rattle.plain_run.specs.declared.held.Channel.{Channel}
 use Rattle.plain_run.specs.Held.{channel_of}
-use Rattle.plain_strands.specs.declared.passing.Passing.{Passing}
-use Rattle.plain_strands.specs.declared.passing.Passing.TheVariants.{Sent, Received}
+use Rattle.plain_messages.specs.declared.passing.Passing.{Passing}
+use Rattle.plain_messages.specs.declared.passing.Passing.TheVariants.{Sent, Received}
 
 -- the member at the place is changed so, where it is there
 abbrev pub changed : {A : Type 0} → (A → A) → A → List A → ℕ → List A

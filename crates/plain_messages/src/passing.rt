@@ -5,7 +5,7 @@ ghost use Rattle.std.specs.Prelude.{◌≡◌, ◌+◌, IfOk, OnOk, drop, map, o
 ghost use Rattle.op_model.specs.Strands.{no_activation};
 ghost use Rattle.plain_run.specs.Held.{activation_of, channel_of, common_of};
 ghost use Rattle.plain_run.specs.Strands.{channel_there};
-ghost use Rattle.plain_strands.specs.Channels.{changed, first_of as first_of_list, passed, passed_from, passed_in, passed_on, passed_to};
+ghost use Rattle.plain_messages.specs.Channels.{changed, first_of as first_of_list, passed, passed_from, passed_in, passed_on, passed_to};
 
 use bal_base::Memory;
 use plain_run::{Activation, Channel, Common};

@@ -10,7 +10,7 @@ ghost use Rattle.plain_run.specs.Held.{common_of, end_of};
 use plain_run::{Effect, End};
 
 /// Its result, or its panic.
-pub(crate) fn ended(end: &End) -> Effect
+pub fn ended(end: &End) -> Effect
     ensures row { (c : CommonOf) → effect_of result c ≡ ends_with (common_of c) (end_of end.now) }
     ensures stays { (old new : CommonOf) → EffectStays old new result }
 {
@@ -30,7 +30,7 @@ fn again(end: &End) -> End
 }
 
 /// The same end.
-pub(crate) fn share_end(end: Option<&End>) -> Option<End>
+pub fn share_end(end: Option<&End>) -> Option<End>
     ensures { option_map end_of result ≡ option_map end_of (option_copied end.entry) }
 {
     match end {

@@ -1,9 +1,9 @@
 -- A member of a list that is held, and what it is changed to.
-use Rattle.std.proofs.Common.{◌≡◌, ◌∙◌, ℕ, suc, List, [], ◌∷◌, Some, None, Result, Ok, Err, drop, get_or, length, map, refl, sym, ap, arith}
-use Rattle.std.specs.Prelude.{OnOk, slice_get, slice_set}
+use Rattle.std.proofs.Common.{◌≡◌, ◌∙◌, ℕ, suc, List, [], ◌∷◌, Some, None, drop, get_or, length, map, refl, sym, ap, arith}
+use Rattle.std.specs.Prelude.{slice_get, slice_set}
 use Rattle.plain_run.proofs.Looking.{get-past, get-there}
 use Rattle.plain_run.proofs.Settling.{set-past, set-there}
-use Rattle.plain_strands.specs.Channels.{changed}
+use Rattle.plain_messages.specs.Channels.{changed}
 
 pub changed-there : {X Y : Type 0} (f : X → Y) (g : Y → Y) (xs : List X) (n : ℕ) (x t : X) (d : Y) → slice_get xs n ≡ Some x → f t ≡ g (f x) → map f (slice_set xs n t) ≡ changed g d (map f xs) n
 changed-there f g xs n x t d e h = set-there f xs n t (g (f x)) h ∙ ap (λ y. slice_set (map f xs) n (g y)) (sym (get-there f xs n x d e))

@@ -6,8 +6,8 @@ use Rattle.op_model.specs.Effects.{Gives}
 use Rattle.op_model.specs.Messages.{flushes_end, receives, receives_end, receives_from, with_received}
 use Rattle.op_model.specs.Strands.{channel_at, settled, worker_end}
 use Rattle.op_model.specs.Waits.{ends_with}
-use Rattle.plain_strands.specs.declared.passing.Passing.TheVariants.{Received}
-use Rattle.plain_strands.specs.Channels.{first_of, passed_on}
+use Rattle.plain_messages.specs.declared.passing.Passing.TheVariants.{Received}
+use Rattle.plain_messages.specs.Channels.{first_of, passed_on}
 
 some-same : (x y : Value) → Some x ≡ Some y → x ≡ y
 some-same x y e = let q : x ≡ y = cc in q

@@ -1,14 +1,14 @@
 //! Messages that are received, and flushes.
 #![tactic(auto, using(crate::proofs::Receiving::receiving))]
 
-ghost use Rattle.std.specs.Prelude.{◌≡◌, IfOk, None, Some, true};
+ghost use Rattle.std.specs.Prelude.{◌≡◌, IfOk, None, Some};
 ghost use Rattle.operations.specs.declared.operation.Operation.TheVariants as operation;
 ghost use Rattle.op_model.specs.Messages as model;
 ghost use Rattle.op_model.specs.Strands.{channel_at, worker_end as worker_end_of};
 ghost use Rattle.plain_run.specs.declared.facts.ProgramFacts.{ProgramFacts as FactsOf};
 ghost use Rattle.plain_run.specs.Effects.{EffectStays, IsPerformed, Stays, effect_of};
 ghost use Rattle.plain_run.specs.Held.{common_of, end_of, role_of};
-ghost use Rattle.plain_strands.specs.Channels.{first_of};
+ghost use Rattle.plain_messages.specs.Channels.{first_of};
 
 use crate::ends::{ended, share_end};
 use crate::passing::{Passing, first_message, pass_on, received, sent};

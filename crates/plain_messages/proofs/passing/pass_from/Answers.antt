@@ -1,10 +1,10 @@
 use Rattle.std.proofs.Common.{refl, rules, length, map, []}
 use Rattle.std.proofs.lemmas.Option.{slice_get_read}
 use Rattle.plain_run.specs.Held.{channel_of}
-use Rattle.plain_strands.specs.Channels.{passed_to}
+use Rattle.plain_messages.specs.Channels.{passed_to}
 use Rattle.plain_run.proofs.Given.{on-ok}
-use Rattle.plain_strands.proofs.Changing.{changed-there}
-use Rattle.plain_strands.proofs.passing.pass_from.Goals as goal
+use Rattle.plain_messages.proofs.Changing.{changed-there}
+use Rattle.plain_messages.proofs.passing.pass_from.Goals as goal
 
 pub returns-in-Some : goal.returns-in-Some
 returns-in-Some c =
