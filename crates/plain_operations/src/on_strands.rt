@@ -8,11 +8,9 @@ use crate::on_structures::on_structures;
 use bal_base::Memory;
 use held_operations::Op;
 use plain_calls::{perform_call_value, perform_start, perform_start_value, perform_workers};
+use plain_messages::{perform_done, perform_flush, perform_post, perform_receive, perform_send};
 use plain_run::{Caller, Common, Performed, ProgramFacts};
-use plain_strands::{
-    perform_done, perform_flush, perform_post, perform_receive, perform_send, perform_wait_all,
-    perform_wait_any, perform_wait_future, perform_wait_worker,
-};
+use plain_strands::{perform_wait_all, perform_wait_any, perform_wait_future, perform_wait_worker};
 use std::alloc::Global;
 use value_model::Value;
 

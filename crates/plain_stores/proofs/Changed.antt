@@ -1,6 +1,6 @@
 -- A structure that is changed where it is held.
-use Rattle.std.proofs.Common.{◌≡◌, ◌∙◌, ◌≤◌, ℕ, zero, suc, List, [], ◌∷◌, Some, Result, Ok, Err, length, map, refl, sym, ap, arith}
-use Rattle.std.specs.Prelude.{OnOk, slice_get, slice_set}
+use Rattle.std.proofs.Common.{◌≡◌, ◌∙◌, ◌≤◌, ℕ, zero, suc, List, [], ◌∷◌, Some, length, map, refl, sym, ap, arith}
+use Rattle.std.specs.Prelude.{slice_get, slice_set}
 use Rattle.std.proofs.lemmas.Option.{same_Some}
 use Rattle.plain_stores.specs.Changes.{changed_at}
 

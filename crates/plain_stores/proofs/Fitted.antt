@@ -18,7 +18,8 @@ use Rattle.plain_run.specs.Held.{structure_of}
 use Rattle.plain_stores.specs.declared.made.Made.{Made}
 use Rattle.plain_stores.specs.declared.making.Prepared.{Prepared}
 use Rattle.plain_stores.specs.declared.making.Prepared.TheVariants.{Absent, Passes, Makes}
-use Rattle.plain_stores.specs.Changes.{AreFor, AreMade, IsMaking, ListIsPrepared, filler_cells, fixed_of, gap_of, has_place, kids, made_from, room_of, size_behind}
+use Rattle.store_tests.specs.Fillers.{fixed_of}
+use Rattle.plain_stores.specs.Changes.{AreFor, AreMade, IsMaking, ListIsPrepared, filler_cells, gap_of, has_place, kids, made_from, room_of, size_behind}
 use Rattle.plain_stores.proofs.Levels.{made-cells}
 
 -- ---- they are made for fillers

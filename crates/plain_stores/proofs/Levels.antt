@@ -14,8 +14,9 @@ use Rattle.op_model.specs.Rows.{new_structure}
 use Rattle.op_model.specs.Limits.{most_cells}
 use Rattle.plain_run.specs.declared.facts.ProgramFacts.{ProgramFacts}
 use Rattle.plain_run.specs.Came.{IsLeft}
-use Rattle.plain_stores.specs.Changes.{filler_cells, fixed_of, kids}
-use Rattle.plain_stores.specs.Fillers.{is_there}
+use Rattle.store_tests.specs.Fillers.{fixed_of}
+use Rattle.plain_stores.specs.Changes.{filler_cells, kids}
+use Rattle.store_tests.specs.Fillers.{is_there}
 
 -- ---- levels, from the first one on
 

@@ -1,13 +1,11 @@
 pub mod Cells
 pub mod Changed
 pub mod Fitted
-pub mod Gapped
 pub mod Leaving
 pub mod Levels
 pub mod Performed
 pub mod Pushed
 pub mod Pushing
 pub mod Stored
-pub mod Tested
 pub mod Tried
 pub mod Values

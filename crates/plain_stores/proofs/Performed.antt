@@ -18,7 +18,8 @@ use Rattle.plain_run.specs.Held.{with_world, world_of}
 use Rattle.plain_structures.specs.declared.answer.Tried.{Tried}
 use Rattle.plain_structures.specs.Rows.{IsAnswerOf, IsTried}
 use Rattle.plain_structures.proofs.Doing.{tried-done}
-use Rattle.plain_stores.specs.Questions.{EntryIsBeyond, SetItemIsBeyond, SetKeyIsBeyond, StoreIsBeyond}
+use Rattle.store_tests.specs.Questions.{EntryIsBeyond, StoreIsBeyond}
+use Rattle.plain_stores.specs.Questions.{SetItemIsBeyond, SetKeyIsBeyond}
 
 module _ (facts : ProgramFacts) (caller : Caller) (vs : List Value) (old : Common) (w : World) (tried : Tried) (done : Performed) (answer : IsAnswerOf tried (with_world old w) done) where
   pub item-done : (n : ℕ) (i : ℤ) (v : Value) → vs ≡ Struct n ∷ Int i ∷ v ∷ [] → IsTried (SetsItem (own_types (facts_of facts)) (facts_of facts).fillers (world_of old.world) n i v) (StoreIsBeyond facts old.world n (place_of i) v) w tried → IsPerformed facts operation.SetItem vs caller old (with_world old w) (SetItemIsBeyond facts vs old.world) done

@@ -24,8 +24,9 @@ use Rattle.plain_structures.specs.declared.answer.Tried.TheVariants as tries
 use Rattle.plain_structures.specs.Rows.{IsTried, TriedStays}
 use Rattle.plain_stores.specs.declared.pushes.End.{End}
 use Rattle.plain_stores.specs.Changes.{IsEnd, changed_at, has_given, is_undone, taken_back}
-use Rattle.plain_stores.specs.Questions.{PlaceIsBeyond, PushesAreBeyond, StoreIsBeyond}
-use Rattle.plain_stores.specs.Tests.{StoresItem}
+use Rattle.store_tests.specs.Questions.{PlaceIsBeyond, StoreIsBeyond}
+use Rattle.plain_stores.specs.Questions.{PushesAreBeyond}
+use Rattle.store_tests.specs.Tests.{StoresItem}
 use Rattle.plain_stores.proofs.Pushed.{back-again, back-end, gave-stored, same-end}
 use Rattle.plain_stores.proofs.Stored.{list-row}
 

@@ -18,7 +18,7 @@ use Rattle.plain_structures.specs.declared.answer.Tried.{Tried}
 use Rattle.plain_structures.specs.declared.answer.Tried.TheVariants as tries
 use Rattle.plain_structures.specs.Rows.{IsRowOf, IsTried}
 use Rattle.plain_stores.specs.Changes.{tried_of}
-use Rattle.plain_stores.specs.Questions.{StoreIsBeyond}
+use Rattle.store_tests.specs.Questions.{StoreIsBeyond}
 
 -- what comes where all tests are passed is what the row says, and something comes of what the row speaks of
 pub tried-row : (row comes : model.Came → Type 0) (cause : Type 0) (w : World) (o : Option Came) → ((came : model.Came) → comes came → row came) → ((came : model.Came) → row came → (other : model.Came) × comes other) → IsRowOf comes w o → IsTried row cause w (tried_of o)

@@ -1,6 +1,6 @@
 -- The values of fillers, one after another.
 use Rattle.std.proofs.Common.{◌≡◌, ◌∙◌, ◌+◌, ◌<◌, ℕ, List, [], ◌∷◌, ◌++◌, get_or, length, take, sym, ap, arith}
-use Rattle.std.proofs.lemmas.List.{append_assoc, length-append, take_more}
+use Rattle.std.proofs.lemmas.List.{length-append, take_more}
 use Rattle.std.proofs.lemmas.List.Elements.{filter-append}
 use Rattle.value_model.specs.declared.filler.Filler.{Filler}
 use Rattle.value_model.specs.declared.filler.Filler.TheVariants.{Nothing, Nil as NilFiller, Bool as BoolFiller, Int as IntFiller, Str as StrFiller, List as NewList, Mapping as NewMapping}
@@ -18,14 +18,6 @@ new-more first fs i f next after l e n a =
     let all : length (new_ones (take (i + 1) fs)) ≡ length (new_ones (take i fs)) + length (new_ones (f ∷ [])) =
     ap (λ xs. length (new_ones xs)) (take_more fs i f l) ∙ (new-append (take i fs) (get_or fs i f ∷ []) ∙ ap (λ x. length (new_ones (take i fs)) + length (new_ones (x ∷ []))) (sym e)) in
     omega (arith, n, a, all)
-
--- the new ones, one more
-pub ones-more : (fs : List Filler) (i : ℕ) (f : Filler) (old mid new : List Filler) → i < length fs → f ≡ get_or fs i f → mid ≡ old ++ new_ones (take i fs) → new ≡ mid ++ new_ones (f ∷ []) → new ≡ old ++ new_ones (take (i + 1) fs)
-ones-more fs i f old mid new l e m h =
-    h
-    ∙ ((λ j. m j ++ new_ones (e j ∷ []))
-    ∙ (append_assoc old (new_ones (take i fs)) (new_ones (get_or fs i f ∷ []))
-    ∙ ap (λ l. old ++ l) (sym (filter-append is_new (take i fs) (get_or fs i f ∷ [])) ∙ sym (ap new_ones (take_more fs i f l)))))
 
 -- ---- values
 

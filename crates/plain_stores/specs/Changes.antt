@@ -13,13 +13,13 @@ use Rattle.op_model.specs.Fillers.{filler_structures, filler_values, fillers_fro
 use Rattle.op_model.specs.Levels.{all_of, levels}
 use Rattle.op_model.specs.Limits.{most_cells}
 use Rattle.op_model.specs.Rows.{HasEntries, HasItems, StructureAt, next_structure}
-use Rattle.op_model.specs.Stores.{fillers_of, fixed_fillers, set_entry, set_item, structures_for, with_members}
+use Rattle.op_model.specs.Stores.{fillers_of, set_entry, set_item, structures_for, with_members}
 use Rattle.plain_run.specs.declared.facts.ProgramFacts.{ProgramFacts}
 use Rattle.plain_run.specs.declared.held.Structure.{Structure as HeldStructure}
 use Rattle.plain_run.specs.Came.{IsLeft}
 use Rattle.plain_run.specs.ProgramFacts.{facts_of}
 use Rattle.plain_run.specs.Held.{structure_of}
-use Rattle.plain_stores.specs.Fillers.{is_there}
+use Rattle.store_tests.specs.Fillers.{fixed_of, is_there}
 use Rattle.plain_stores.specs.declared.making.Prepared.{Prepared}
 use Rattle.plain_stores.specs.declared.making.Prepared.TheVariants.{Absent, Passes, Makes}
 use Rattle.plain_stores.specs.declared.made.Made.{Made}
@@ -29,17 +29,7 @@ use Rattle.plain_structures.specs.declared.answer.Tried.TheVariants as tries
 use Rattle.plain_run.specs.declared.world.Came.{Came}
 use Rattle.plain_run.specs.declared.world.Came.TheVariants.{Gave, Threw, PassesCells}
 
--- ---- fillers of atoms
-
-abbrev pub atom_fillers : ProgramFacts → Option ℕ → List Filler
-atom_fillers facts (Some a) = (facts_of facts).fillers a
-atom_fillers facts None = []
-
 -- ---- structures that are made for fillers
-
--- the fillers of the fixed places of an atom of lists
-abbrev pub fixed_of : ProgramFacts → ℕ → List Filler
-fixed_of facts a = fixed_fillers (own_types (facts_of facts)) (facts_of facts).fillers a
 
 -- the structures that the members of a new one ask for
 abbrev pub kids : ProgramFacts → Filler → List Filler

@@ -1,5 +1,3 @@
 pub mod Changes
-pub mod Fillers
 pub mod Operands
 pub mod Questions
-pub mod Tests

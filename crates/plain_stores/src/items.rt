@@ -12,16 +12,17 @@ ghost use Rattle.plain_run.specs.Held.{structure_of, world_of};
 ghost use Rattle.plain_structures.specs.Rows.{IsRowOf, IsTried, RowStays, TriedStays};
 ghost use Rattle.plain_stores.specs.Changes as changes;
 ghost use Rattle.plain_stores.specs.Operands.{AreItemOperands};
-ghost use Rattle.plain_stores.specs.Questions.{SetItemIsBeyond, StoreIsBeyond};
-ghost use Rattle.plain_stores.specs.Tests as said;
+ghost use Rattle.store_tests.specs.Questions.{StoreIsBeyond};
+ghost use Rattle.plain_stores.specs.Questions.{SetItemIsBeyond};
+ghost use Rattle.store_tests.specs.Tests as said;
 
 use crate::making::{Making, Prepared, prepares};
-use crate::tests::{Test, tests_item};
 use crate::writing::set_at;
 use bal_base::Memory;
 use plain_run::{Came, Common, Performed, ProgramFacts, World, panics};
 use plain_structures::{Tried, answered, items_at};
 use std::alloc::Global;
+use store_tests::{Test, tests_item};
 use value_model::{PanicName, Value};
 
 /// Stores the item, behind what fills the gap, and holds the structures that are made.

@@ -1,8 +1,7 @@
 //! `m[k] = v`.
-ghost use Rattle.std.specs.Prelude.{◌≡◌, IfOk, OnOk, map};
+ghost use Rattle.std.specs.Prelude.{◌≡◌, IfOk};
 ghost use Rattle.operations.specs.declared.operation.Operation.TheVariants as operation;
 ghost use Rattle.op_model.specs.ProgramFacts.{own_types};
-ghost use Rattle.op_model.specs.Rows as rows;
 ghost use Rattle.op_model.specs.StructureRows.{SetsKey};
 ghost use Rattle.plain_run.specs.declared.held.Caller.{Caller as CallerOf};
 ghost use Rattle.plain_run.specs.Effects.{IsPerformed, Stays};
@@ -11,12 +10,12 @@ ghost use Rattle.plain_run.specs.Held.{structure_of, world_of};
 ghost use Rattle.plain_structures.specs.Rows.{IsRowOf, IsTried, RowStays, TriedStays};
 ghost use Rattle.plain_stores.specs.Changes as changes;
 ghost use Rattle.plain_stores.specs.Operands.{AreKeyOperands};
-ghost use Rattle.plain_stores.specs.Questions.{EntryIsBeyond, SetKeyIsBeyond};
-ghost use Rattle.plain_stores.specs.Tests as said;
+ghost use Rattle.store_tests.specs.Questions.{EntryIsBeyond};
+ghost use Rattle.plain_stores.specs.Questions.{SetKeyIsBeyond};
+ghost use Rattle.store_tests.specs.Tests as said;
 
 use crate::items::tried_of;
 use crate::room::has_room;
-use crate::tests::{Test, tests_entry};
 use crate::writing::set_key_at;
 use bal_base::{Memory, Text};
 use plain_run::{
@@ -24,6 +23,7 @@ use plain_run::{
 };
 use plain_structures::{Tried, answered, entry};
 use std::alloc::Global;
+use store_tests::{Test, tests_entry};
 use value_model::Value;
 
 /// How many entries there are behind a store at the key.

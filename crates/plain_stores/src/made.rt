@@ -6,15 +6,15 @@ ghost use Rattle.op_model.specs.Levels.{all_of, levels};
 ghost use Rattle.plain_run.specs.Came.{IsLeft};
 ghost use Rattle.plain_run.specs.Held.{structure_of};
 ghost use Rattle.plain_stores.specs.Changes as changes;
-ghost use Rattle.plain_stores.specs.Fillers.{is_there};
+ghost use Rattle.store_tests.specs.Fillers.{fixed_of, is_there};
 
 use crate::filling::values_of;
-use crate::gaps::{fixed_fillers, is_filler, push_new};
 use bal_base::Memory;
 use plain_run::{
     Entries, MOST_CELLS, Members, ProgramFacts, Structure, left_beside, new_structure,
 };
 use std::alloc::Global;
+use store_tests::{fixed_fillers, is_filler, push_new};
 use value_model::Filler;
 
 /// Fillers for which structures are made, and what these leave of the room of a heap.
@@ -26,7 +26,7 @@ pub(crate) struct Made {
 
 /// The fillers of the members of a new structure.
 fn inner_fillers<'a>(facts: &'a ProgramFacts<'_>, f: &Filler) -> &'a [Filler]
-    ensures { result.now ≡ model.inner_fillers (changes.fixed_of facts.now) f.now }
+    ensures { result.now ≡ model.inner_fillers (fixed_of facts.now) f.now }
 {
     match f {
         Filler::List(atom) => fixed_fillers(facts, *atom),
@@ -127,7 +127,7 @@ fn push_made(
     f: &Filler,
     made: &mut Vec<Structure>,
 ) -> Result<u32, Memory>
-    ensures structures { OnOk result (map structure_of made.new.items ≡ map structure_of made.old.items ++ model.filler_structures (changes.fixed_of facts.now) next (f.now ∷ [])) }
+    ensures structures { OnOk result (map structure_of made.new.items ≡ map structure_of made.old.items ++ model.filler_structures (fixed_of facts.now) next (f.now ∷ [])) }
     ensures next { IfOk result (λ n. n ≡ next + length (changes.kids facts.now f.now)) }
 {
     match f {
@@ -152,7 +152,7 @@ pub(crate) fn structures(
     first: u32,
     fillers: &[Filler],
 ) -> Result<Vec<Structure>, Memory>
-    ensures { IfOk result (λ ss. map structure_of ss.items ≡ model.filler_structures (changes.fixed_of facts.now) first fillers.now) }
+    ensures { IfOk result (λ ss. map structure_of ss.items ≡ model.filler_structures (fixed_of facts.now) first fillers.now) }
 {
     let mut made = Vec::new(alloc);
     let mut next = first;

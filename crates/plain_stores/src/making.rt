@@ -6,12 +6,12 @@ ghost use Rattle.plain_run.specs.Held.{structure_of, world_of};
 ghost use Rattle.plain_stores.specs.Changes as changes;
 
 use crate::filling::values_of;
-use crate::gaps::{fillers_from, fillers_of, push_new};
 use crate::made::{depth_for, made_for, structures};
 use crate::room::has_room;
 use bal_base::Memory;
 use plain_run::{MOST_CELLS, Members, ProgramFacts, Structure, World};
 use std::alloc::Global;
+use store_tests::{fillers_from, fillers_of, push_new};
 use value_model::{Filler, Value};
 
 /// What a store makes: what fills the gap, and the structures that are made for it.

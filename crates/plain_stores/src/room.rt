@@ -15,7 +15,7 @@ fn beyond(size: u64, greatest: u64) -> u64
 
 /// Whether there is room for a structure that was so great so far and gets so many members, and for so many cells more.
 #[tactic(auto, using(plain_run::proofs::Cells::too_many))]
-pub(crate) fn has_room(heap: &Heap, greatest: u64, size: u64, more: u64) -> bool
+pub fn has_room(heap: &Heap, greatest: u64, size: u64, more: u64) -> bool
     requires { more ≤ most_cells }
     ensures { result ≡ nat_le (cells (heap_of heap.now) + ((size - greatest) + more)) most_cells }
 {

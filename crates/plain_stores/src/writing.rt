@@ -1,5 +1,5 @@
 //! What a store changes.
-ghost use Rattle.std.specs.Prelude.{◌≡◌, ◌++◌, OnOk, map, max};
+ghost use Rattle.std.specs.Prelude.{◌≡◌, OnOk, map, max};
 ghost use Rattle.op_model.specs.Stores as stores;
 ghost use Rattle.plain_run.specs.Held.{members_of, structure_of};
 ghost use Rattle.plain_stores.specs.Changes as changes;
@@ -50,7 +50,7 @@ fn set_in(s: &mut Structure, place: usize, gap: Vec<Value>, v: Value) -> Result<
 }
 
 /// The item at the place of the list with this number is this one, behind what fills the gap.
-pub(crate) fn set_at(
+pub fn set_at(
     alloc: Global,
     structures: &mut Structures,
     n: u32,
@@ -89,7 +89,7 @@ fn set_key_in(s: &mut Structure, key: &Text, v: &Value) -> Result<(), Memory>
 }
 
 /// The entry with the key of the mapping with this number gets this value; a new key comes last.
-pub(crate) fn set_key_at(
+pub fn set_key_at(
     alloc: Global,
     structures: &mut Structures,
     n: u32,

@@ -6,7 +6,7 @@ use Rattle.op_model.specs.StructureRows.{SetsItem}
 use Rattle.plain_run.specs.ProgramFacts.{facts_of}
 use Rattle.plain_run.specs.Held.{with_world, world_of}
 use Rattle.plain_structures.specs.Rows.{IsTried}
-use Rattle.plain_stores.specs.Questions.{StoreIsBeyond}
+use Rattle.store_tests.specs.Questions.{StoreIsBeyond}
 use Rattle.plain_stores.proofs.Performed.{item-done}
 use Rattle.plain_stores.proofs.items.perform_set_item.Goals as goal
 

@@ -6,7 +6,7 @@ use Rattle.op_model.specs.Stores.{StoresAt}
 use Rattle.plain_run.specs.ProgramFacts.{facts_of}
 use Rattle.plain_run.specs.Held.{world_of}
 use Rattle.plain_run.proofs.Given.{if-ok}
-use Rattle.plain_stores.specs.Questions.{StoreIsBeyond}
+use Rattle.store_tests.specs.Questions.{StoreIsBeyond}
 use Rattle.plain_stores.proofs.Tried.{tried-cause, tried-place}
 use Rattle.plain_stores.proofs.items.sets_item.Goals as goal
 

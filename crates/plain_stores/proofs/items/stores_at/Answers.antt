@@ -6,8 +6,8 @@ use Rattle.op_model.specs.Stores.{StoresAt, item_stored}
 use Rattle.plain_run.specs.ProgramFacts.{facts_of}
 use Rattle.plain_run.specs.Held.{world_of}
 use Rattle.plain_structures.specs.Rows.{IsTried}
-use Rattle.plain_stores.specs.Questions.{StoreIsBeyond}
-use Rattle.plain_stores.specs.Tests.{IsTested, ItemComes, StoresItem}
+use Rattle.store_tests.specs.Questions.{StoreIsBeyond}
+use Rattle.store_tests.specs.Tests.{IsTested, ItemComes, StoresItem}
 use Rattle.plain_stores.proofs.Tried.{list-other, tried-row}
 use Rattle.plain_stores.proofs.items.stores_at.Goals as goal
 

@@ -6,8 +6,8 @@ use Rattle.value_model.specs.Heap.{Entries}
 use Rattle.plain_run.specs.ProgramFacts.{facts_of}
 use Rattle.plain_run.specs.Held.{world_of}
 use Rattle.plain_structures.specs.Rows.{IsTried}
-use Rattle.plain_stores.specs.Questions.{EntryIsBeyond}
-use Rattle.plain_stores.specs.Tests.{EntryComes, IsTested, StoresEntry}
+use Rattle.store_tests.specs.Questions.{EntryIsBeyond}
+use Rattle.store_tests.specs.Tests.{EntryComes, IsTested, StoresEntry}
 use Rattle.plain_stores.proofs.Tried.{mapping-other, tried-row}
 use Rattle.plain_stores.proofs.keys.sets_key.Goals as goal
 

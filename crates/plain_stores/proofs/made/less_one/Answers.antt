@@ -2,7 +2,7 @@ use Rattle.std.proofs.Common.{◌∙◌, ◌+◌, ap, subst, sym}
 use Rattle.std.specs.Prelude.{count_by}
 use Rattle.plain_run.specs.Came.{IsLeft}
 use Rattle.plain_stores.specs.Changes.{filler_cells}
-use Rattle.plain_stores.specs.Fillers.{is_there}
+use Rattle.store_tests.specs.Fillers.{is_there}
 use Rattle.plain_stores.proofs.made.less_one.Goals as goal
 
 pub returns-in-List : goal.returns-in-List

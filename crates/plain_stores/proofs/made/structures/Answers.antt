@@ -2,7 +2,7 @@ use Rattle.std.proofs.Common.{◌≡◌, ◌∙◌, ◌+◌, map, ap, arith}
 use Rattle.std.proofs.lemmas.List.{take_all}
 use Rattle.op_model.specs.Fillers.{filler_structures}
 use Rattle.plain_run.specs.Held.{structure_of}
-use Rattle.plain_stores.specs.Changes.{fixed_of}
+use Rattle.store_tests.specs.Fillers.{fixed_of}
 use Rattle.plain_stores.proofs.Levels.{kids-more, structures-more}
 use Rattle.plain_stores.proofs.made.structures.Goals as goal
 

@@ -1,7 +1,8 @@
 use Rattle.std.specs.Prelude.{◌≡◌, ◌+◌, flat_map, length, map, take}
 use Rattle.op_model.specs.Fillers.{filler_structures}
 use Rattle.plain_run.specs.Held.{structure_of}
-use Rattle.plain_stores.specs.Changes.{fixed_of, kids}
+use Rattle.store_tests.specs.Fillers.{fixed_of}
+use Rattle.plain_stores.specs.Changes.{kids}
 use Rattle.plain_stores.proofs.made.structures.Given as goal
 
 abbrev pub invariant-loop-f : goal.invariant-loop-f

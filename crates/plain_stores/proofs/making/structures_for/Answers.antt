@@ -2,7 +2,8 @@ use Rattle.std.proofs.Common.{◌≡◌, ◌∙◌, ◌++◌, length, subst, ap}
 use Rattle.op_model.specs.Fillers.{filler_structures, new_ones}
 use Rattle.op_model.specs.Levels.{all_of, levels}
 use Rattle.plain_run.specs.Held.{world_of}
-use Rattle.plain_stores.specs.Changes.{AreMade, fixed_of, kids}
+use Rattle.store_tests.specs.Fillers.{fixed_of}
+use Rattle.plain_stores.specs.Changes.{AreMade, kids}
 use Rattle.plain_stores.proofs.Fitted.{for-full, for-made, for-past}
 use Rattle.plain_stores.proofs.making.structures_for.Goals as goal
 

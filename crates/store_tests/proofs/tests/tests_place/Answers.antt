@@ -1,0 +1,35 @@
+use Rattle.std.proofs.Common.{true, false, refl, subst}
+use Rattle.std.specs.Prelude.{Some, option_and_then, option_copied}
+use Rattle.std.proofs.lemmas.Bool.{false≢true}
+use Rattle.op_model.specs.ProgramFacts.{own_types}
+use Rattle.op_model.specs.Rows.{Else}
+use Rattle.op_model.specs.Stores.{atom_of, fillers_of, type_at_place}
+use Rattle.plain_run.specs.ProgramFacts.{facts_of}
+use Rattle.plain_run.specs.Held.{structure_of, world_of}
+use Rattle.store_tests.specs.Questions.{PlaceIsBeyond}
+use Rattle.store_tests.specs.Tests.{GapRow, IsTested}
+use Rattle.store_tests.proofs.Tested.{held-not, held-tested, hold-told}
+use Rattle.store_tests.proofs.tests.tests_place.Goals as goal
+
+pub returns-in-Some-true : goal.returns-in-Some-true
+returns-in-Some-true c =
+    let facts = c.args.facts.now in
+    let w = c.args.world.now in
+    let s = structure_of c.args.s.now in
+    let k = c.args.place in
+    let v = c.args.v.now in
+    let t = option_and_then (type_at_place k) (atom_of (own_types (facts_of facts)) s) in
+    let hold = hold-told facts w.heap s.mutable (option_copied c.place_type-wanted.result) t v c.in_ok-may_hold.field-0 c.in-Some-true.field-0 true c.place_type-wanted.ensures c.in-Some-true.is c.in-Some-true.field-0-test c.in_ok-may_hold.ensures in
+    λ final. held-tested facts w s t v (GapRow (world_of w) (fillers_of (own_types (facts_of facts)) (facts_of facts).fillers s) c.args.size k final) (Else final) (PlaceIsBeyond facts w s (Some k) v) c.tests_gap.result (hold.0 refl)
+    (subst (λ fs. IsTested (GapRow (world_of w) fs c.args.size k final) (Else final) (world_of w) ⊥ c.tests_gap.result) c.fillers_of.ensures (c.tests_gap.ensures (world_of w) final))
+
+pub returns-in-Some-false : goal.returns-in-Some-false
+returns-in-Some-false c =
+    let facts = c.args.facts.now in
+    let w = c.args.world.now in
+    let s = structure_of c.args.s.now in
+    let k = c.args.place in
+    let v = c.args.v.now in
+    let t = option_and_then (type_at_place k) (atom_of (own_types (facts_of facts)) s) in
+    let hold = hold-told facts w.heap s.mutable (option_copied c.place_type-wanted.result) t v c.in_ok-may_hold.field-0 c.in-Some-false.field-0 false c.place_type-wanted.ensures c.in-Some-false.is c.in-Some-false.field-0-test c.in_ok-may_hold.ensures in
+    λ final. held-not facts w s t v (GapRow (world_of w) (fillers_of (own_types (facts_of facts)) (facts_of facts).fillers s) c.args.size k final) (λ may. false≢true (hold.1 may))

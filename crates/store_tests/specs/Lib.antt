@@ -1,0 +1,3 @@
+pub mod Fillers
+pub mod Questions
+pub mod Tests
