@@ -92,7 +92,7 @@ fn step_turn<'a>(alloc: Global, made: &Made<'a>, run: &mut Run) -> Result<Turned
     requires running { run.old.running ≡ true }
     ensures { IfOk result (λ t. (words : List TextOf) (input : List ℕ) (ticks seed : ℕ) → HasCome (machine_of made.now.program) words input ticks seed run.old → IsTurned (machine_of made.now.program) words input ticks seed (output_in run.old) run.new t) }
 {
-    hurry(made, &mut run.state);
+    hurry(alloc, made, &mut run.state)?;
     let stepped = step(alloc, &made.program, &mut run.state)?;
     run.running = runs_on(&stepped);
     Ok(said_by(stepped))

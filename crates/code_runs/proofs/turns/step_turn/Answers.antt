@@ -12,7 +12,7 @@ returns c = λ words input ticks seed come.
     let old = c.args.run.now in
     let mid : Run = record { state = c.hurry.new.state; running = old.running; turn = old.turn } in
     let new : Run = record { state = c.step.new.state; running = c.runs_on-run.result; turn = old.turn } in
-    let h = c.hurry.ensures in
+    let h = c.in_ok-hurry.ensures in
     subst (IsTurned (machine_of p) words input ticks seed (output_in old) new) (sym c.said_by.ensures)
     (turned-behind (machine_of p) words input ticks seed old mid new _ h
     (stepped-on p words input ticks seed mid new c.in_ok-stepped.stepped c.requires.running c.runs_on-run.ensures refl c.in_ok-stepped.ensures
