@@ -2,7 +2,7 @@
 #![tactic(auto, using(crate::proofs::Filling::filling))]
 
 ghost use Rattle.std.specs.Prelude.{◌≡◌, ◌++◌, IfOk, None, OnOk, Some, map, replicate};
-ghost use Rattle.machine_model.specs.Machine.{first_slots as first_slots_of};
+ghost use Rattle.machine_model.specs.Machine.{first_slots};
 ghost use Rattle.code_frames.specs.Frames.{standing_of};
 ghost use Rattle.code_frames.specs.Programs.{begins};
 
@@ -31,27 +31,43 @@ fn unset(slots: &mut Vec<Option<Value>>, count: u64) -> Result<(), Memory>
     Ok(())
 }
 
-/// The slots of a call: the arguments stand in the first ones, and the others have no value yet.
-fn first_slots(alloc: Global, count: u64, args: &[Value]) -> Result<Vec<Option<Value>>, Memory>
-    ensures { IfOk result (λ v. v.items ≡ first_slots_of count args.now) }
+/// The slots of a call: the arguments stand in the first ones, and the others have no value yet. What stood there is gone.
+fn fill(slots: &mut Vec<Option<Value>>, count: u64, args: &[Value]) -> Result<(), Memory>
+    ensures { OnOk result (slots.new.items ≡ first_slots count args.now) }
 {
-    let mut slots = Vec::with_capacity(alloc, count as usize)?;
-    set(&mut slots, args)?;
-    unset(&mut slots, count.saturating_sub(args.len() as u64))?;
-    Ok(slots)
+    slots.clear();
+    set(slots, args)?;
+    unset(slots, count.saturating_sub(args.len() as u64))?;
+    Ok(())
+}
+
+/// A call of the unit with these arguments, and what it captured behind them, in the room of a call that is over. It takes time
+/// that grows with its slots, and no more room where there is enough.
+pub fn enter_again(
+    alloc: Global,
+    unit: &UnitCode,
+    args: &[Value],
+    held: Held,
+) -> Result<Frame, Memory>
+    ensures { IfOk result (λ f. standing_of f ≡ begins args.now unit.now) }
+{
+    let mut local = held;
+    fill(&mut local.slots, unit.slots, args)?;
+    local.stack.clear();
+    Ok(Frame {
+        place: unit.first,
+        traps: Vec::new(alloc),
+        local,
+    })
 }
 
 /// A call of the unit with these arguments, and what it captured behind them. It takes time and room that grow with its slots.
 pub fn enter(alloc: Global, unit: &UnitCode, args: &[Value]) -> Result<Frame, Memory>
     ensures { IfOk result (λ f. standing_of f ≡ begins args.now unit.now) }
 {
-    let local = Held {
-        slots: first_slots(alloc, unit.slots, args)?,
+    let held = Held {
+        slots: Vec::with_capacity(alloc, unit.slots as usize)?,
         stack: Vec::new(alloc),
     };
-    Ok(Frame {
-        place: unit.first,
-        traps: Vec::new(alloc),
-        local,
-    })
+    enter_again(alloc, unit, args, held)
 }

@@ -5,7 +5,7 @@
 //! - [`Asked`]: what a frame is about to do. [`look`] says it; [`operands`] lends the operands of an operation and [`taken`] drops
 //!   them once it is done; [`capture`], with [`Captures`], gives what named workers capture.
 //! - [`push`], [`load`], [`store`] and [`act`]: what single operations make of what a frame has at hand.
-//! - [`resume`], [`catch`] and [`enter`]: how a frame goes on, where a panic lands in it, and how it begins.
+//! - [`resume`], [`catch`], [`enter`] and [`enter_again`]: how a frame goes on, where a panic lands in it, and how it begins.
 //! - [`decode`] and [`tested_types`]: the program that a code is, over its tested types, to be shared.
 //! - [`machines_that_run_alike`]: such machines have the same starts, steps, states and outcomes.
 //!
@@ -25,7 +25,7 @@ mod tested;
 
 pub use captures::{Captures, capture};
 pub use decoding::decode;
-pub use entering::enter;
+pub use entering::{enter, enter_again};
 pub use frame::{Asked, catch, look, operands, resume, taken};
 pub use held::{Frame, Held, Launch, OpenTrap, Program, Step, UnitCode};
 pub use laws::machines_that_run_alike;

@@ -3,6 +3,7 @@ use Rattle.std.proofs.Common.{◌≡◌, ◌+◌, ℕ, suc, List, [], ◌∷◌,
 use Rattle.std.specs.Prelude.{IfOk, option_map}
 use Rattle.operations.specs.declared.operation.Operation.{Operation}
 use Rattle.value_model.specs.declared.value.Value.{Value}
+use Rattle.op_model.specs.Common.{Common}
 use Rattle.op_model.specs.Effects.{Effect}
 use Rattle.op_model.specs.Library.{LibraryAnswers}
 use Rattle.op_model.specs.Performs.{Performs}
@@ -57,14 +58,23 @@ stuck-operands p f s new op vs k e none = λ next h. by next (subst (λ x. Takes
 pub undecided : (p : Program) (f : Frame Standing) (s new : State) (op : Op) (vs : List Value) (k : Standing) → (machine_of p).look f.unit f.control ≡ Does (operation_of op) vs k → IsUndecided p.facts vs s.common op → IsStepped p (over f s) Undecided new
 undecided p f s new op vs k e cause = (op, vs, s.common, ap does_in e, refl, cause)
 
+abbrev top : Frame Standing → Common → List (Frame Standing) → List (List (Frame Standing)) → machine.State Standing
+top f c fs os = record { common = c; frames = f ∷ fs; others = os }
+
+done-so : (p : Program) (f : Frame Standing) (c : Common) (fs : List (Frame Standing)) (os : List (List (Frame Standing))) (op : Operation) (vs : List Value) (k : Standing) (next : machine.Next Standing) → (machine_of p).look f.unit f.control ≡ Does op vs k → Takes LibraryAnswers (machine_of p) (top f c fs os) f fs (Does op vs k) next → TakesTop LibraryAnswers (machine_of p) (top f c fs os) (f ∷ fs) next
+done-so p f c fs os op vs k next e h = subst (λ x. Takes LibraryAnswers (machine_of p) (top f c fs os) f fs x next) (sym e) h
+
+pub done-at : (p : Program) (f : Frame Standing) (c : Common) (fs : List (Frame Standing)) (os : List (List (Frame Standing))) (new : State) (op : Operation) (vs : List Value) (k : Standing) (effect : Effect) (d : Stepped) → (machine_of p).look f.unit f.control ≡ Does op vs k → Performs (facts_of p.facts) LibraryAnswers op vs (caller f fs) c effect → IsCarried d new (carried (machine_of p) (top f c fs os) f k fs effect) → StopsSame d c (common_of new.common) → IsStepped p (top f c fs os) d new
+done-at p f c fs os new op vs k effect (Did n) e performs is same = done-so p f c fs os op vs k (next_of n new) e (effect, performs, sym is)
+done-at p f c fs os new op vs k effect NeedsTick e performs is same = (done-so p f c fs os op vs k machine.NeedsTick e (effect, performs, is), same)
+done-at p f c fs os new op vs k effect (Limit kind) e performs is same = (done-so p f c fs os op vs k (machine.Limit kind) e (effect, performs, is), same)
+done-at p f c fs os new op vs k effect NoUnit e performs is same =
+    record { f = f; fs = fs; op = op; vs = vs; k = k; effect = effect; frames = refl; asks = e; performs = performs; none = is }
+done-at p f c fs os new op vs k effect Stuck e performs is same = absurd is
+done-at p f c fs os new op vs k effect Undecided e performs is same = absurd is
+
 pub done : (p : Program) (f : Frame Standing) (s new : State) (op : Operation) (vs : List Value) (k : Standing) (effect : Effect) (d : Stepped) → (machine_of p).look f.unit f.control ≡ Does op vs k → Performs (facts_of p.facts) LibraryAnswers op vs (caller f (calls_of s.calls.items)) (common_of s.common) effect → IsCarried d new (carried (machine_of p) (over f s) f k (calls_of s.calls.items) effect) → StopsSame d (common_of s.common) (common_of new.common) → IsStepped p (over f s) d new
-done p f s new op vs k effect (Did n) e performs c same = takes p f s (Does op vs k) (next_of n new) e (effect, performs, sym c)
-done p f s new op vs k effect NeedsTick e performs c same = (takes p f s (Does op vs k) machine.NeedsTick e (effect, performs, c), same)
-done p f s new op vs k effect (Limit kind) e performs c same = (takes p f s (Does op vs k) (machine.Limit kind) e (effect, performs, c), same)
-done p f s new op vs k effect NoUnit e performs c same =
-    record { f = f; fs = calls_of s.calls.items; op = op; vs = vs; k = k; effect = effect; frames = refl; asks = e; performs = performs; none = c }
-done p f s new op vs k effect Stuck e performs c same = absurd c
-done p f s new op vs k effect Undecided e performs c same = absurd c
+done p f s new = done-at p f (common_of s.common) (calls_of s.calls.items) (others_of s) new
 
 -- what an operation left as it was, in the words of states
 pub stays-so : (effect : HeldEffect) (old new : HeldCommon) → EffectStays old new effect → Stays effect (common_of old) (common_of new)

@@ -2,6 +2,8 @@ pub mod Answered
 pub mod Beginning
 pub mod Calling
 pub mod Endings
+pub mod LastCalls
+pub mod LastSteps
 pub mod Leaving
 pub mod Ringing
 pub mod Spawning

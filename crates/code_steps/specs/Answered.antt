@@ -63,7 +63,7 @@ caller_over call calls = record { unit = call.unit; role = call.role; depth = le
 
 -- the state, where this was shared
 abbrev pub with_common : Common → State → State
-with_common c s = record { common = c; calls = s.calls; others = s.others }
+with_common c s = record { common = c; calls = s.calls; others = s.others; spare = s.spare }
 
 -- whichever operation the call asked for, when this was shared: if that came to what was done, and left the state so, the answer is that for
 -- the step

@@ -2,6 +2,7 @@ pub mod Answered
 pub mod Begins
 pub mod Ended
 pub mod Ends
+pub mod inner
 pub mod Picks
 pub mod Rings
 pub mod States

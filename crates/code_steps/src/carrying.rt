@@ -1,7 +1,7 @@
 //! What the effect of an operation makes of a state.
 #![tactic(auto, using(crate::proofs::Calling::calling, crate::proofs::Spawning::spawning))]
 
-ghost use Rattle.std.specs.Prelude.{◌≡◌, ◌∷◌, ◌++◌, [], IfOk, None, OnOk, Some, map, option_map, option_to_list};
+ghost use Rattle.std.specs.Prelude.{◌≡◌, ◌∷◌, ◌++◌, [], IfOk, None, OnOk, Some, map, option_map, option_to_list, ℕ};
 ghost use Rattle.machine_model.specs.Machine as machine;
 ghost use Rattle.machine_model.specs.Machine.{State as StateOf, carried, goes_to};
 ghost use Rattle.op_model.specs.Common as model;
@@ -20,7 +20,7 @@ use crate::ends::{give, goes_on, stop, unwind};
 use crate::held::{Asking, Call, State};
 use bal_base::{LimitKind, Memory};
 use code_frames::{Program, resume, taken};
-use plain_run::{Effect, End, Need, Spawned, block, end_worker};
+use plain_run::{Effect, End, Need, Role, Spawned, block, end_worker};
 use std::alloc::Global;
 use value_model::Value;
 
@@ -123,6 +123,22 @@ fn enters<'a>(
     }
 }
 
+/// A call with this role, which is taken off, ends with the value.
+pub(crate) fn ends_with<'a>(
+    alloc: Global,
+    program: &Program<'a>,
+    role: Option<Role>,
+    running: u64,
+    v: Value,
+    state: &mut State,
+) -> Result<Option<Next>, Memory>
+    ensures { IfOk result (λ n. (s : StateOf Standing) (unit : ℕ) (was k : Standing) → s.common.running ≡ running → s.others ≡ others_of state.old → s.common ≡ common_of state.old.common → came n state.new ≡ carried (machine_of program.now) s (record { unit = unit; role = option_map role_of role; control = was }) k (calls_of state.old.calls.items) (effects.Leaves v)) }
+{
+    end_worker(&mut state.common, role, End::Returned(v.share()));
+    give(program, v.share(), state)?;
+    goes_on(alloc, program, running, End::Returned(v), state)
+}
+
 /// The call ends with the value.
 fn leaves<'a>(
     alloc: Global,
@@ -133,9 +149,7 @@ fn leaves<'a>(
 ) -> Result<Option<Next>, Memory>
     ensures { IfOk result (λ n. (s : StateOf Standing) → s.common.running ≡ asked.running → s.others ≡ others_of state.old → s.common ≡ common_of state.old.common → came n state.new ≡ carried (machine_of program.now) s (call_of asked.call) (awaiting asked) (calls_of state.old.calls.items) (effects.Leaves v)) }
 {
-    end_worker(&mut state.common, asked.call.role, End::Returned(v.share()));
-    give(program, v.share(), state)?;
-    goes_on(alloc, program, asked.running, End::Returned(v), state)
+    ends_with(alloc, program, asked.call.role, asked.running, v, state)
 }
 
 /// A strand with this call stands behind the others.
@@ -190,7 +204,7 @@ fn spawns<'a>(
 }
 
 /// The answer for what came.
-fn answered(next: Option<Next>) -> Stepped
+pub(crate) fn answered(next: Option<Next>) -> Stepped
     ensures carries { (new : StateHeld) → IsCarried result new (came next new) }
     ensures stays { (old new : model.Common) → StopsSame result old new }
 {

@@ -161,13 +161,8 @@ pub(crate) fn give<'a>(program: &Program<'a>, v: Value, state: &mut State) -> Re
     ensures common { OnOk result (common_of state.new.common ≡ common_of state.old.common) }
     ensures others { OnOk result (others_of state.new ≡ others_of state.old) }
 {
-    match take_last(&mut state.calls) {
+    match state.calls.last_mut() {
         None => Ok(()),
-        Some(call) => {
-            let mut call = call;
-            resume(&mut call.frame, Some(v))?;
-            push(&mut state.calls, call)?;
-            Ok(())
-        }
+        Some(call) => resume(&mut call.frame, Some(v)),
     }
 }

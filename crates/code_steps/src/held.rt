@@ -1,6 +1,6 @@
 //! How a run stands.
 
-use code_frames::Frame;
+use code_frames::{Frame, Held};
 use plain_run::{Common, Role};
 
 /// A call that isn't over: of which unit, and which worker of which activation it is, if it is one.
@@ -19,6 +19,8 @@ pub struct State {
     pub calls: Vec<Call>,
     /// Those of the strands that don't run, by number.
     pub others: Vec<Vec<Call>>,
+    /// The room of calls that are over, for others to begin in.
+    pub spare: Vec<Held>,
 }
 
 /// A call, taken off those of the running strand with this number, that asked for an operation on the last values that wait in it, so

@@ -4,7 +4,7 @@
 //! - [`Call`] and [`State`]: a call that isn't over, and how a run stands. [`Asking`]: a call that asked for an operation.
 //! - [`begin`]: the first frame of a call; [`carry`]: what the effect of an operation makes of a state, with [`Next`] and
 //!   [`Stepped`].
-//! - [`step`]: one step of the running strand; [`pick`]: the choice of a ready one.
+//! - [`step`]: one step of the running strand, whose last call is changed where it stands; [`pick`]: the choice of a ready one.
 //! - [`start`]: the state before the first pick; [`what_comes`]: what comes of a run that stops by a [`Halt`]; [`Short`]: why one is
 //!   not followed any further.
 //!
@@ -18,11 +18,13 @@ mod carrying;
 mod ends;
 mod halts;
 mod held;
+mod lasts;
 mod outcome;
 mod picks;
 mod stalls;
 mod starting;
 mod stepping;
+mod workers;
 
 pub use begins::begin;
 pub use carrying::{Next, Stepped, carry};

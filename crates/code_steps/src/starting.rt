@@ -182,6 +182,7 @@ fn state_with(alloc: Global, common: Common, call: Call) -> Result<State, Memory
         common,
         calls: Vec::new(alloc),
         others,
+        spare: Vec::new(alloc),
     })
 }
 

@@ -1,189 +1,199 @@
-//! One step of the running strand.
-#![tactic(auto, using(crate::proofs::Calling::calling, crate::proofs::Answered::answering))]
+//! One step of the running strand: its last call is changed where it stands, and is taken off only where it ends, stops or starts
+//! strands.
+#![tactic(auto, using(crate::proofs::Calling::calling))]
 
-ghost use Rattle.std.specs.Prelude.{◌≡◌, ◌+◌, ◌<◌, ◌^◌, [], IfOk, OnOk, length};
-ghost use Rattle.operations.specs.declared.operation.Operation.TheVariants.{Workers};
-ghost use Rattle.op_model.specs.Local.{captures};
-ghost use Rattle.machine_model.specs.Machine.{Does, asks};
-ghost use Rattle.stack_code.specs.CodeMachine.{standing};
-ghost use Rattle.held_operations.specs.Operation.{operation_of};
-ghost use Rattle.plain_operations.specs.Parts.{IsUndecided};
-ghost use Rattle.plain_run.specs.Effects as effects;
-ghost use Rattle.plain_run.specs.Effects.{IsPerformed};
-ghost use Rattle.code_frames.specs.Asking.{last_values};
-ghost use Rattle.code_frames.specs.Frames.{standing_of};
-ghost use Rattle.code_frames.specs.Programs.{captured_in, machine_of};
-ghost use Rattle.code_steps.specs.States.{call_of, state_of};
-ghost use Rattle.code_steps.specs.Steps.{HasOperands, awaiting};
-ghost use Rattle.code_steps.specs.Answered.{IsFinished, IsStepped, caller_over, over};
+ghost use Rattle.std.specs.Prelude.{◌≡◌, ◌∷◌, [], IfOk, ℕ};
+ghost use Rattle.held_operations.specs.declared.op.Op.TheVariants as ops;
+ghost use Rattle.code_steps.specs.Answered.{IsStepped};
+ghost use Rattle.code_steps.specs.inner.Lasts.{AsksLast, CapturesLast, EnoughLast, StepsFor, values_last};
+ghost use Rattle.code_steps.specs.States.{calls_of, state_of};
 
-use crate::calls::{push, take_last};
-use crate::carrying::{Next, Stepped, carry};
-use crate::held::{Asking, Call, State};
+use crate::calls::take_last;
+use crate::carrying::{Next, Stepped, answered, carry, ends_with};
+use crate::held::{Asking, State};
+use crate::lasts::{ask_last, enters_last, gives_last, look_last, value_last};
+use crate::workers::starts;
 use bal_base::Memory;
-use code_frames::{Asked, Captures, Program, capture, look, operands};
+use code_frames::{Asked, Frame, Held, Program};
 use held_operations::Op;
-use plain_operations::perform;
-use plain_run::{Caller, Performed};
+use plain_run::{Effect, Performed};
 use std::alloc::Global;
 use value_model::Value;
 
-/// The operation is done on these operands, for the call over those of the state.
-fn ask<'a>(
+/// What the effect makes of the state, where the last call is taken off.
+fn carries_off<'a>(
     alloc: Global,
     program: &Program<'a>,
-    op: Op<'a>,
-    operands: &[Value],
-    call: &Call,
-    state: &mut State,
-) -> Result<Performed, Memory>
-    requires { length state.old.calls.items + 1 < 2 ^ 64 }
-    ensures row { IfOk result (IsPerformed program.now.facts (operation_of op.entry) operands.now (caller_over call.now state.new.calls.items) state.old.common state.new.common (IsUndecided program.now.facts operands.now state.old.common op.entry)) }
-    ensures stays { IfOk result (effects.Stays state.old.common state.new.common) }
-    ensures calls { OnOk result (state.new.calls ≡ state.old.calls) }
-    ensures others { OnOk result (state.new.others ≡ state.old.others) }
-{
-    let caller = Caller {
-        unit: call.unit,
-        role: call.role,
-        depth: state.calls.len() as u64 + 1,
-    };
-    perform(
-        alloc,
-        &program.facts,
-        op,
-        operands,
-        &caller,
-        &mut state.common,
-    )
-}
-
-/// What was done makes of the state, in which this call asked for it.
-fn finish<'a>(
-    alloc: Global,
-    program: &Program<'a>,
-    asked: Asking,
-    done: Performed,
+    count: usize,
+    running: u64,
+    effect: Effect,
     state: &mut State,
 ) -> Result<Stepped, Memory>
-    requires { HasOperands asked }
-    ensures { IfOk result (λ d. IsFinished program.now asked done state.old d state.new) }
+    requires { EnoughLast count (calls_of state.old.calls.items) }
+    ensures { IfOk result (λ d. StepsFor program.now count running effect state.old d state.new) }
 {
-    match done {
-        Performed::Stuck => Ok(Stepped::Stuck),
-        Performed::Undecided => Ok(Stepped::Undecided),
-        Performed::Done(effect) => carry(alloc, program, asked, effect, state),
-    }
-}
-
-/// The call asked for this operation on the last values that wait in it.
-fn does<'a>(
-    alloc: Global,
-    program: &Program<'a>,
-    op: Op<'a>,
-    asked: Asking,
-    state: &mut State,
-) -> Result<Stepped, Memory>
-    requires asks { (machine_of program.now).look asked.call.unit (standing_of asked.call.frame) ≡ Does (operation_of op) (last_values asked.count (standing_of asked.call.frame).local) (awaiting asked) }
-    requires enough { HasOperands asked }
-    requires running { asked.running ≡ state.old.common.running }
-    requires room { length state.old.calls.items + 1 < 2 ^ 64 }
-    ensures { IfOk result (λ d. IsStepped program.now (over (call_of asked.call) state.old) d state.new) }
-{
-    let values = operands(&asked.call.frame, asked.count);
-    let done = ask(alloc, program, op, values, &asked.call, state)?;
-    finish(alloc, program, asked, done, state)
-}
-
-/// The call asked for this operation on these operands, which don't wait in it.
-fn does_on<'a>(
-    alloc: Global,
-    program: &Program<'a>,
-    op: Op<'a>,
-    operands: &[Value],
-    asked: Asking,
-    state: &mut State,
-) -> Result<Stepped, Memory>
-    requires asks { (machine_of program.now).look asked.call.unit (standing_of asked.call.frame) ≡ Does (operation_of op) operands.now (awaiting asked) }
-    requires enough { HasOperands asked }
-    requires running { asked.running ≡ state.old.common.running }
-    requires room { length state.old.calls.items + 1 < 2 ^ 64 }
-    ensures { IfOk result (λ d. IsStepped program.now (over (call_of asked.call) state.old) d state.new) }
-{
-    let done = ask(alloc, program, op, operands, &asked.call, state)?;
-    finish(alloc, program, asked, done, state)
-}
-
-/// The slots that the named workers of the unit capture.
-fn captured<'b>(program: &'b Program<'_>, unit: u32) -> &'b [u32]
-    ensures { result.now ≡ captured_in program.now.units.items unit }
-{
-    match program.units.get(unit as usize) {
-        None => &[],
-        Some(found) => found.captured.as_slice(),
-    }
-}
-
-/// The call asked for the start of its unit's named workers.
-fn starts<'a>(
-    alloc: Global,
-    program: &Program<'a>,
-    asked: Asking,
-    state: &mut State,
-) -> Result<Stepped, Memory>
-    requires asks { (machine_of program.now).look asked.call.unit (standing_of asked.call.frame) ≡ asks (standing (asked.call.frame.place + 1) (standing_of asked.call.frame).traps) (captures Workers (standing_of asked.call.frame).local (captured_in program.now.units.items asked.call.unit) []) }
-    requires none { asked.count ≡ 0 }
-    requires running { asked.running ≡ state.old.common.running }
-    requires room { length state.old.calls.items + 1 < 2 ^ 64 }
-    ensures { IfOk result (λ d. IsStepped program.now (over (call_of asked.call) state.old) d state.new) }
-{
-    let slots = captured(program, asked.call.unit);
-    match capture(alloc, slots, &asked.call.frame.local)? {
-        Captures::Missing => Ok(Stepped::Stuck),
-        Captures::Unset(slot) => does(alloc, program, Op::Load(slot as u64), asked, state),
-        Captures::Values(values) => {
-            does_on(alloc, program, Op::Workers, values.as_slice(), asked, state)
-        }
-    }
-}
-
-/// The step of this call, over those of the state.
-fn take<'a>(
-    alloc: Global,
-    program: &Program<'a>,
-    call: Call,
-    state: &mut State,
-) -> Result<Stepped, Memory>
-    ensures { IfOk result (λ d. IsStepped program.now (over (call_of call) state.old) d state.new) }
-{
-    let mut call = call;
-    let running = state.common.running;
-    match look(alloc, program.steps.as_slice(), &mut call.frame)? {
-        Asked::On => {
-            push(&mut state.calls, call)?;
-            Ok(Stepped::Did(Next::Moved))
-        }
-        Asked::Stuck => Ok(Stepped::Stuck),
-        Asked::Does(op, count) => {
+    match take_last(&mut state.calls) {
+        None => Ok(Stepped::Stuck),
+        Some(call) => {
             let asked = Asking {
                 call,
                 count,
                 running,
             };
-            does(alloc, program, op, asked, state)
+            carry(alloc, program, asked, effect, state)
         }
-        Asked::Captures => {
+    }
+}
+
+/// What the effect makes of the state, in which the last call asked for the operation.
+fn carries<'a>(
+    alloc: Global,
+    program: &Program<'a>,
+    count: usize,
+    running: u64,
+    effect: Effect,
+    state: &mut State,
+) -> Result<Stepped, Memory>
+    requires { EnoughLast count (calls_of state.old.calls.items) }
+    ensures { IfOk result (λ d. StepsFor program.now count running effect state.old d state.new) }
+{
+    match effect {
+        Effect::Gives(given) => {
+            gives_last(count, given, &mut state.calls)?;
+            Ok(Stepped::Did(Next::Moved))
+        }
+        other => carries_off(alloc, program, count, running, other, state),
+    }
+}
+
+/// The last call asked for this operation on the last values that wait in it.
+fn performs<'a>(
+    alloc: Global,
+    program: &Program<'a>,
+    op: Op<'a>,
+    count: usize,
+    state: &mut State,
+) -> Result<Stepped, Memory>
+    requires { AsksLast program.now op count (calls_of state.old.calls.items) }
+    ensures { IfOk result (λ d. IsStepped program.now (state_of state.old) d state.new) }
+{
+    let running = state.common.running;
+    match ask_last(alloc, program, op, count, state)? {
+        Performed::Stuck => Ok(Stepped::Stuck),
+        Performed::Undecided => Ok(Stepped::Undecided),
+        Performed::Done(effect) => carries(alloc, program, count, running, effect, state),
+    }
+}
+
+/// The last call asked for a call of this unit.
+fn enters<'a>(
+    alloc: Global,
+    program: &Program<'a>,
+    unit: u32,
+    count: usize,
+    state: &mut State,
+) -> Result<Stepped, Memory>
+    requires { EnoughLast count (calls_of state.old.calls.items) }
+    ensures { IfOk result (λ d. (k : ℕ) → AsksLast program.now (ops.Call unit k) count (calls_of state.old.calls.items) → IsStepped program.now (state_of state.old) d state.new) }
+{
+    let spare = state.spare.pop();
+    if enters_last(alloc, program, unit, count, spare, &mut state.calls)? {
+        Ok(Stepped::Did(Next::Moved))
+    } else {
+        Ok(Stepped::NoUnit)
+    }
+}
+
+/// How many rooms of calls that are over are kept, at most.
+const MOST_SPARE: usize = 64;
+
+/// The room of a call that is over is kept for another one, while there are few.
+fn keep(frame: Frame, spare: &mut Vec<Held>) -> Result<(), Memory> {
+    if spare.len() >= MOST_SPARE {
+        return Ok(());
+    }
+    let mut held = frame.local;
+    held.slots.clear();
+    held.stack.clear();
+    spare.push(held)?;
+    Ok(())
+}
+
+/// The last call ends with this value, which it asked with.
+fn ends<'a>(
+    alloc: Global,
+    program: &Program<'a>,
+    count: usize,
+    v: Value,
+    state: &mut State,
+) -> Result<Stepped, Memory>
+    ensures { IfOk result (λ d. AsksLast program.now ops.Return count (calls_of state.old.calls.items) → values_last count (calls_of state.old.calls.items) ≡ v ∷ [] → IsStepped program.now (state_of state.old) d state.new) }
+{
+    let running = state.common.running;
+    match take_last(&mut state.calls) {
+        None => Ok(Stepped::Stuck),
+        Some(call) => {
+            let role = call.role;
+            keep(call.frame, &mut state.spare)?;
+            Ok(answered(ends_with(alloc, program, role, running, v, state)?))
+        }
+    }
+}
+
+/// The last call asked to end.
+fn goes_back<'a>(
+    alloc: Global,
+    program: &Program<'a>,
+    count: usize,
+    state: &mut State,
+) -> Result<Stepped, Memory>
+    requires { AsksLast program.now ops.Return count (calls_of state.old.calls.items) }
+    ensures { IfOk result (λ d. IsStepped program.now (state_of state.old) d state.new) }
+{
+    match value_last(count, &state.calls) {
+        None => performs(alloc, program, Op::Return, count, state),
+        Some(v) => ends(alloc, program, count, v, state),
+    }
+}
+
+/// The last call asked for this operation on the last values that wait in it.
+fn does<'a>(
+    alloc: Global,
+    program: &Program<'a>,
+    op: Op<'a>,
+    count: usize,
+    state: &mut State,
+) -> Result<Stepped, Memory>
+    requires { AsksLast program.now op count (calls_of state.old.calls.items) }
+    ensures { IfOk result (λ d. IsStepped program.now (state_of state.old) d state.new) }
+{
+    match op {
+        Op::Call { unit, .. } => enters(alloc, program, unit, count, state),
+        Op::Return => goes_back(alloc, program, count, state),
+        _ => performs(alloc, program, op, count, state),
+    }
+}
+
+/// The named workers of the last call are to start.
+fn starts_last<'a>(
+    alloc: Global,
+    program: &Program<'a>,
+    state: &mut State,
+) -> Result<Stepped, Memory>
+    requires { CapturesLast program.now (calls_of state.old.calls.items) }
+    ensures { IfOk result (λ d. IsStepped program.now (state_of state.old) d state.new) }
+{
+    let running = state.common.running;
+    match take_last(&mut state.calls) {
+        None => Ok(Stepped::Stuck),
+        Some(call) => {
             let count = 0;
-            starts(
-                alloc,
-                program,
-                Asking {
-                    call,
-                    count,
-                    running,
-                },
-                state,
-            )
+            let asked = Asking {
+                call,
+                count,
+                running,
+            };
+            starts(alloc, program, asked, state)
         }
     }
 }
@@ -193,8 +203,10 @@ fn take<'a>(
 pub fn step<'a>(alloc: Global, program: &Program<'a>, state: &mut State) -> Result<Stepped, Memory>
     ensures { IfOk result (λ d. IsStepped program.now (state_of state.old) d state.new) }
 {
-    match take_last(&mut state.calls) {
-        None => Ok(Stepped::Stuck),
-        Some(call) => take(alloc, program, call, state),
+    match look_last(alloc, program, &mut state.calls)? {
+        Asked::On => Ok(Stepped::Did(Next::Moved)),
+        Asked::Stuck => Ok(Stepped::Stuck),
+        Asked::Does(op, count) => does(alloc, program, op, count, state),
+        Asked::Captures => starts_last(alloc, program, state),
     }
 }

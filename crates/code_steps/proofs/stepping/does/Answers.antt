@@ -1,15 +1,18 @@
-use Rattle.std.proofs.Common.{ap, sym, ◌∙◌}
-use Rattle.machine_model.specs.Machine.{Does}
-use Rattle.held_operations.specs.Operation.{operation_of}
+use Rattle.std.proofs.Common.{subst}
 use Rattle.plain_run.proofs.Given.{if-ok}
-use Rattle.code_steps.specs.Steps.{awaiting}
-use Rattle.code_steps.proofs.Answered.{finished}
+use Rattle.code_steps.specs.inner.Lasts.{AsksLast}
+use Rattle.code_steps.specs.States.{calls_of}
+use Rattle.code_steps.proofs.LastSteps.{enough-of}
 use Rattle.code_steps.proofs.stepping.does.Goals as goal
 
-pub returns : goal.returns
-returns c =
-    let seen = c.in_ok-done.ensures in
-    let asks = c.requires.asks ∙ ap (λ vs. Does (operation_of c.args.op) vs (awaiting c.args.asked)) (sym c.operands-values.ensures) in
-    if-ok _ _ c.finish.result
-    (λ d h. finished c.args.program.now c.args.asked c.args.state.now c.ask.new.state _ c.in_ok-done.done c.args.op c.operands-values.result.now d h seen.calls seen.others asks seen.row seen.stays (sym c.requires.running))
-    c.finish.ensures
+pub enters-requires : goal.enters-requires
+enters-requires c = enough-of c.args.program.now c.args.op c.args.count (calls_of c.args.state.now.calls.items) c.requires
+
+pub returns-in-Call : goal.returns-in-Call
+returns-in-Call c =
+    let calls = calls_of c.args.state.now.calls.items in
+    if-ok _ _ c.enters.result (λ d h. h _ (subst (λ o. AsksLast c.args.program.now o c.args.count calls) c.in-Call.is c.requires)) c.enters.ensures
+
+pub goes_back-requires : goal.goes_back-requires
+goes_back-requires c =
+    subst (λ o. AsksLast c.args.program.now o c.args.count (calls_of c.args.state.now.calls.items)) c.in-Return.is c.requires

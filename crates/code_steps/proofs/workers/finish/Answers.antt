@@ -7,7 +7,7 @@ use Rattle.code_steps.specs.Answered.{caller_over, over, with_common}
 use Rattle.code_steps.specs.States.{call_of}
 use Rattle.code_steps.specs.Steps.{awaiting}
 use Rattle.code_steps.proofs.Answered.{done, if-both, performed-by, stays-so, stuck-by, stuck-operands, undecided}
-use Rattle.code_steps.proofs.stepping.finish.Goals as goal
+use Rattle.code_steps.proofs.workers.finish.Goals as goal
 
 pub returns-in-Stuck : goal.returns-in-Stuck
 returns-in-Stuck c = λ old op vs asks row stays running.

@@ -1,7 +1,7 @@
 use Rattle.std.proofs.Common.{sym}
 use Rattle.plain_run.proofs.Given.{if-ok}
 use Rattle.code_steps.proofs.Answered.{finished}
-use Rattle.code_steps.proofs.stepping.does_on.Goals as goal
+use Rattle.code_steps.proofs.workers.does_on.Goals as goal
 
 pub returns : goal.returns
 returns c =
