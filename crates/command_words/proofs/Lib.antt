@@ -1,0 +1,11 @@
+pub mod Alike
+pub mod Asking
+pub mod Cases
+pub mod Digits
+pub mod OneKind
+pub mod One
+pub mod Reading
+pub mod Sayings
+pub mod Setting
+pub mod Texts
+pub mod WordLists

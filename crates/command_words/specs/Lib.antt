@@ -1,0 +1,5 @@
+pub mod Cases
+pub mod Commands
+pub mod Laws
+pub mod Words
+pub mod inner
