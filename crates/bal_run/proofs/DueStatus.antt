@@ -1,19 +1,22 @@
 -- The cause of a status that is due, and another answer of the same run.
-use Rattle.std.proofs.Common.{◌≡◌, List, Bool, true, false, refl, sym, ap, ◌∙◌, inl, inr, ⊎_elim}
+use Rattle.std.proofs.Common.{◌≡◌, ◌⊎◌, ℕ, List, Bool, true, false, refl, sym, ap, subst, ◌∙◌, inl, inr, ⊎_elim}
 use Rattle.std.specs.Prelude.{String}
 use Rattle.std.specs.Global.{Global}
+use Rattle.bal_base.specs.declared.text.Text.{Text}
 use Rattle.bal_tree.specs.declared.package.SourceFile.{SourceFile}
+use Rattle.command_words.specs.Commands.{Purpose, Request}
+use Rattle.command_words.specs.Commands as command
+use Rattle.command_words.proofs.One.{command-one}
 use Rattle.machine_model.specs.Outcomes as model
 use Rattle.machine_model.specs.Outcomes.{Ending, ReturnsNil, ReturnsError, Panics, Stalls, Passes}
 use Rattle.bal_run.specs.declared.status.Run.{Run}
 use Rattle.bal_run.specs.declared.status.Status.{Status}
 use Rattle.bal_run.specs.declared.status.Status.TheVariants.{Done, ErrorReturned, Panicked, Refused, GoesOn, Stalled, FolderFault, InputFault, OutFault, Memory, Words, Limit, DiagFault}
-use Rattle.bal_run.specs.Due.{BadFolder, BadWords, FolderFails, FolderRefused, HasNoAnswer, IsAnswered, IsCut, IsWhole, NoMemoryToBuild, NoMemoryToWrite, NothingRan, ProgramRan, QuestionRefused, Questioned, StatusIsDue}
+use Rattle.bal_run.specs.Due.{BadFolder, BadWords, CommandObeyed, FolderFails, FolderRefused, HasNoAnswer, IsAnswered, IsCut, IsWhole, NoMemoryForWords, NoMemoryToBuild, NoMemoryToWrite, NothingRan, Obeyed, ProgramChecked, ProgramRan, QuestionEnded, QuestionRefused, StatusIsDue, StayedIdle, WasBuilt, ok_bytes}
 use Rattle.bal_run.specs.Outside.{Outside, sides}
 use Rattle.bal_run.specs.Questions.{answer_bytes}
 use Rattle.bal_run.specs.Runs.{CameTo, InputFailed, IsTypesLimit, NoMemoryToRun, OutputFailed, status_of}
-use Rattle.bal_run.specs.Words.{IsRun}
-use Rattle.bal_run.proofs.QuestionWords.{run-alone, run-good}
+use Rattle.bal_run.specs.Words.{AsksFor}
 
 -- ---- statuses of ends
 
@@ -32,16 +35,16 @@ is_end Memory = false
 is_end Words = false
 is_end DiagFault = false
 
-ends-are-ends : (end : Ending) → is_end (status_of end) ≡ true
-ends-are-ends ReturnsNil = refl
-ends-are-ends (ReturnsError m) = refl
-ends-are-ends (Panics m) = refl
-ends-are-ends (Stalls ring) = refl
-ends-are-ends model.GoesOn = refl
-ends-are-ends (Passes limit) = refl
+ends-are-ends : (ticks : ℕ) (end : Ending) → is_end (status_of ticks end) ≡ true
+ends-are-ends ticks ReturnsNil = refl
+ends-are-ends ticks (ReturnsError m) = refl
+ends-are-ends ticks (Panics m) = refl
+ends-are-ends ticks (Stalls ring) = refl
+ends-are-ends ticks model.GoesOn = refl
+ends-are-ends ticks (Passes limit) = refl
 
-pub not-end : (due status : Status) (end : Ending) → is_end status ≡ false → due ≡ status → due ≡ status_of end → ⊥
-not-end due status end other e k = let both : true ≡ false = sym (ends-are-ends end) ∙ (ap is_end (sym k ∙ e) ∙ other) in let bad : ⊥ = cc in bad
+pub not-end : (due status : Status) (ticks : ℕ) (end : Ending) → is_end status ≡ false → due ≡ status → due ≡ status_of ticks end → ⊥
+not-end due status ticks end other e k = let both : true ≡ false = sym (ends-are-ends ticks end) ∙ (ap is_end (sym k ∙ e) ∙ other) in let bad : ⊥ = cc in bad
 
 -- the end that a status is of
 abbrev end_back : Status → Ending
@@ -59,55 +62,104 @@ end_back Memory = ReturnsNil
 end_back Words = ReturnsNil
 end_back DiagFault = ReturnsNil
 
-end-back : (end : Ending) → end_back (status_of end) ≡ end
-end-back ReturnsNil = refl
-end-back (ReturnsError m) = refl
-end-back (Panics m) = refl
-end-back (Stalls ring) = refl
-end-back model.GoesOn = refl
-end-back (Passes limit) = refl
+end-back : (ticks : ℕ) (end : Ending) → end_back (status_of ticks end) ≡ end
+end-back ticks ReturnsNil = refl
+end-back ticks (ReturnsError m) = refl
+end-back ticks (Panics m) = refl
+end-back ticks (Stalls ring) = refl
+end-back ticks model.GoesOn = refl
+end-back ticks (Passes limit) = refl
 
-pub one-end : (end other : Ending) → status_of end ≡ status_of other → end ≡ other
-one-end end other e = sym (end-back end) ∙ (ap end_back e ∙ end-back other)
+pub one-end : (ticks : ℕ) (end other : Ending) → status_of ticks end ≡ status_of ticks other → end ≡ other
+one-end ticks end other e = sym (end-back ticks end) ∙ (ap end_back e ∙ end-back ticks other)
 
-module _ (words : List (String Global)) (before after : Outside) (run : Run) (files : List SourceFile) (due : Status) (d : StatusIsDue words before after run files due) where
-  pub by-stage : {P : Type 0} → (BadWords words before after run files due → P) → (BadFolder words before after run files due → P) → (ProgramRan words before after run files due → P) → (Questioned words before after run files due → P) → P
-  by-stage f g h k = ⊎_elim f (λ r. ⊎_elim g (λ q. ⊎_elim h k q) r) d
+module _ (before after : Outside) (run : Run) (files : List SourceFile) (due : Status) where
+  -- where memory ran out over the words, it did so before all that they may ask for
+  bare-folder : NoMemoryForWords before after run files due → BadFolder before after run files due
+  bare-folder m = record { cause = inr (inr (m.due, m.folder)); nothing = m.nothing }
 
-  -- the cause of what comes of a question
+  bare-obeyed : (p : Purpose) (ticks seed : ℕ) → NoMemoryForWords before after run files due → Obeyed p ticks seed before after run files due
+  bare-obeyed (command.Run texts) ticks seed m = inl (bare-folder m)
+  bare-obeyed command.Check ticks seed m = inl (bare-folder m)
+  bare-obeyed (command.Subtype s t) ticks seed m =
+      record {
+        ended = inr (record { cause = inr (inr (m.due, m.folder)); faults = m.nothing.faults; written = m.nothing.written });
+        built = m.nothing.built;
+        idle = record { turns = m.nothing.turns; spent = m.nothing.spent; input = m.nothing.input };
+        shows = m.shows;
+      }
+
+  -- ---- causes
+
+  -- of a folder that comes to no program
+  by-folder :
+      {P : Type 0} (b : BadFolder before after run files due) →
+      (FolderFails before.folder after.folder due → P) →
+      (FolderRefused before.folder after.folder files due → P) →
+      (NoMemoryToBuild before.folder after.folder due → P) →
+      P
+  by-folder b f g h = ⊎_elim f (λ r. ⊎_elim g h r) b.cause
+
+  -- of a text that is written
+  by-text :
+      {P : Type 0} (text : List ℕ) →
+      (IsWhole text before.out after.out due → P) →
+      (IsCut text before.out after.out due → P) →
+      (NoMemoryToWrite text before.out after.out due → P) →
+      IsWhole text before.out after.out due ⊎ (IsCut text before.out after.out due ⊎ NoMemoryToWrite text before.out after.out due) →
+      P
+  by-text text f g h w = ⊎_elim f (λ r. ⊎_elim g h r) w
+
+  -- of what comes of a question
   pub by-answer :
-      {P : Type 0} (q : Questioned words before after run files due) →
-      ((a : IsAnswered q.s q.t before after due) → IsWhole (answer_bytes a.answer) before.out after.out due → P) →
-      ((a : IsAnswered q.s q.t before after due) → IsCut (answer_bytes a.answer) before.out after.out due → P) →
-      ((a : IsAnswered q.s q.t before after due) → NoMemoryToWrite (answer_bytes a.answer) before.out after.out due → P) →
-      (HasNoAnswer q.s q.t before after due → FolderFails before.folder after.folder due → P) →
-      (HasNoAnswer q.s q.t before after due → QuestionRefused q.s q.t before.folder after.folder due → P) →
-      (HasNoAnswer q.s q.t before after due → NoMemoryToBuild before.folder after.folder due → P) →
+      {P : Type 0} (s t : List ℕ) → QuestionEnded s t before after due →
+      ((a : IsAnswered s t before after due) → IsWhole (answer_bytes a.answer) before.out after.out due → P) →
+      ((a : IsAnswered s t before after due) → IsCut (answer_bytes a.answer) before.out after.out due → P) →
+      ((a : IsAnswered s t before after due) → NoMemoryToWrite (answer_bytes a.answer) before.out after.out due → P) →
+      (HasNoAnswer s t before after due → FolderFails before.folder after.folder due → P) →
+      (HasNoAnswer s t before after due → QuestionRefused s t before.folder after.folder due → P) →
+      (HasNoAnswer s t before after due → NoMemoryToBuild before.folder after.folder due → P) →
       P
-  by-answer q f g h k l m =
+  by-answer s t ended f g h k l m =
       ⊎_elim
-      (λ a. ⊎_elim (f a) (λ r. ⊎_elim (g a) (h a) r) a.written)
+      (λ a. by-text (answer_bytes a.answer) (f a) (g a) (h a) a.written)
       (λ n. ⊎_elim (k n) (λ r. ⊎_elim (l n) (m n) r) n.cause)
-      q.ended
+      ended
 
-  -- the cause of what comes of a program that is run
-  pub by-cause :
-      {P : Type 0} → IsRun words →
-      (BadFolder words before after run files due → FolderFails before.folder after.folder due → P) →
-      (BadFolder words before after run files due → FolderRefused before.folder after.folder files due → P) →
-      (BadFolder words before after run files due → NoMemoryToBuild before.folder after.folder due → P) →
-      ((c : ProgramRan words before after run files due) → CameTo c.atoms c.built.typed (sides before.input before.out) (sides after.input after.out) run due → P) →
-      ((c : ProgramRan words before after run files due) → InputFailed c.atoms c.built.typed (sides before.input before.out) (sides after.input after.out) due → P) →
-      ((c : ProgramRan words before after run files due) → OutputFailed c.atoms c.built.typed (sides before.input before.out) (sides after.input after.out) due → P) →
-      ((c : ProgramRan words before after run files due) → IsTypesLimit c.atoms c.built.typed (sides before.input before.out) (sides after.input after.out) due → P) →
-      ((c : ProgramRan words before after run files due) → NoMemoryToRun c.atoms c.built.typed (sides before.input before.out) (sides after.input after.out) due → P) →
+  -- of what comes of a program that is checked
+  pub by-check :
+      {P : Type 0} (ticks seed : ℕ) → Obeyed command.Check ticks seed before after run files due →
+      (BadFolder before after run files due → FolderFails before.folder after.folder due → P) →
+      (BadFolder before after run files due → FolderRefused before.folder after.folder files due → P) →
+      (BadFolder before after run files due → NoMemoryToBuild before.folder after.folder due → P) →
+      (ProgramChecked before after run files due → IsWhole ok_bytes before.out after.out due → P) →
+      (ProgramChecked before after run files due → IsCut ok_bytes before.out after.out due → P) →
+      (ProgramChecked before after run files due → NoMemoryToWrite ok_bytes before.out after.out due → P) →
       P
-  by-cause good f g h k l m n o =
-      by-stage
-      (λ b. absurd (b.bad (run-good words good)))
-      (λ b. ⊎_elim (f b) (λ r. ⊎_elim (g b) (h b) r) b.cause)
-      (λ c. ⊎_elim (k c) (λ r. ⊎_elim (l c) (λ q. ⊎_elim (m c) (λ p. ⊎_elim (n c) (o c) p) q) r) c.cause)
-      (λ q. absurd (run-alone words good q.s q.t q.is))
+  by-check ticks seed o f g h k l m =
+      ⊎_elim (λ b. by-folder b (f b) (g b) (h b)) (λ c. by-text ok_bytes (k c) (l c) (m c) c.written) o
+
+  -- of what comes of a program that is run
+  module _ (texts : List Text) (ticks seed : ℕ) where
+    abbrev Ran : Type 0
+    Ran = ProgramRan texts ticks seed before after run files due
+
+    pub by-cause :
+        {P : Type 0} → Obeyed (command.Run texts) ticks seed before after run files due →
+        (BadFolder before after run files due → FolderFails before.folder after.folder due → P) →
+        (BadFolder before after run files due → FolderRefused before.folder after.folder files due → P) →
+        (BadFolder before after run files due → NoMemoryToBuild before.folder after.folder due → P) →
+        ((c : Ran) → CameTo c.program.atoms c.program.built.typed texts ticks seed (sides before.input before.out) (sides after.input after.out) run due → P) →
+        ((c : Ran) → InputFailed c.program.atoms c.program.built.typed texts ticks seed (sides before.input before.out) (sides after.input after.out) due → P) →
+        ((c : Ran) → OutputFailed c.program.atoms c.program.built.typed texts ticks seed (sides before.input before.out) (sides after.input after.out) due → P) →
+        ((c : Ran) → IsTypesLimit c.program.atoms c.program.built.typed texts ticks seed (sides before.input before.out) (sides after.input after.out) due → P) →
+        ((c : Ran) → NoMemoryToRun c.program.atoms c.program.built.typed texts ticks seed (sides before.input before.out) (sides after.input after.out) due → P) →
+        P
+    by-cause o f g h k l m n q =
+        ⊎_elim
+        (λ b. by-folder b (f b) (g b) (h b))
+        (λ c. ⊎_elim (k c) (λ u. ⊎_elim (l c) (λ v. ⊎_elim (m c) (λ w. ⊎_elim (n c) (q c) w) v) u) c.cause)
+        o
 
   -- ---- another answer of the same run
 
@@ -117,27 +169,55 @@ module _ (words : List (String Global)) (before after : Outside) (run : Run) (fi
   nothing-again : (status : Status) → NothingRan before after run → NothingRan before after (answered status)
   nothing-again status n = record { built = n.built; turns = n.turns; spent = n.spent; input = n.input; faults = n.faults; written = n.written }
 
-  came-again : (status : Status) (c : ProgramRan words before after run files due) → CameTo c.atoms c.built.typed (sides before.input before.out) (sides after.input after.out) run due → CameTo c.atoms c.built.typed (sides before.input before.out) (sides after.input after.out) (answered status) due
-  came-again status c f = record { outcome = f.outcome; ran = f.ran; status = f.status; turns = f.turns; spent = f.spent; fine = f.fine }
+  idle-again : (status : Status) → StayedIdle before after run → StayedIdle before after (answered status)
+  idle-again status n = record { turns = n.turns; spent = n.spent; input = n.input }
 
-  ran-again : (status : Status) → ProgramRan words before after run files due → ProgramRan words before after (answered status) files due
-  ran-again status c =
-      record {
-        built = c.built;
-        atoms = c.atoms;
-        compiled = c.compiled;
-        cause = ⊎_elim (λ f. inl (came-again status c f)) (λ r. inr r) c.cause;
-        good = c.good;
-        folder = c.folder;
-        kept = c.kept;
-        untouched = c.untouched;
-        shows = c.shows;
-      }
+  built-again : (status : Status) → WasBuilt before after run → WasBuilt before after (answered status)
+  built-again status w = record { built = w.built; atoms = w.atoms; compiled = w.compiled; folder = w.folder; kept = w.kept }
 
-  pub due-again : (status : Status) → StatusIsDue words before after (answered status) files due
+  folder-again : (status : Status) → BadFolder before after run files due → BadFolder before after (answered status) files due
+  folder-again status b = record { cause = b.cause; nothing = nothing-again status b.nothing }
+
+  module _ (texts : List Text) (ticks seed : ℕ) (status : Status) (c : ProgramRan texts ticks seed before after run files due) where
+    came-again : CameTo c.program.atoms c.program.built.typed texts ticks seed (sides before.input before.out) (sides after.input after.out) run due
+        → CameTo c.program.atoms c.program.built.typed texts ticks seed (sides before.input before.out) (sides after.input after.out) (answered status) due
+    came-again f = record { outcome = f.outcome; ran = f.ran; status = f.status; turns = f.turns; spent = f.spent; fine = f.fine }
+
+    ran-again : ProgramRan texts ticks seed before after (answered status) files due
+    unfolding built-again
+    ran-again =
+        record {
+          program = built-again status c.program;
+          cause = ⊎_elim (λ f. inl (came-again f)) (λ r. inr r) c.cause;
+          untouched = c.untouched;
+          shows = c.shows;
+        }
+
+  obeyed-again : (status : Status) (p : Purpose) (ticks seed : ℕ) → Obeyed p ticks seed before after run files due → Obeyed p ticks seed before after (answered status) files due
+  obeyed-again status (command.Run texts) ticks seed (inl b) = inl (folder-again status b)
+  obeyed-again status (command.Run texts) ticks seed (inr c) = inr (ran-again texts ticks seed status c)
+  obeyed-again status command.Check ticks seed (inl b) = inl (folder-again status b)
+  obeyed-again status command.Check ticks seed (inr c) =
+      inr (record { program = built-again status c.program; written = c.written; idle = idle-again status c.idle; shows = c.shows })
+  obeyed-again status (command.Subtype s t) ticks seed q =
+      record { ended = q.ended; built = q.built; idle = idle-again status q.idle; shows = q.shows }
+
+module _ (words : List (String Global)) (before after : Outside) (run : Run) (files : List SourceFile) (due : Status) (d : StatusIsDue words before after run files due) where
+  pub by-stage : {P : Type 0} → (BadWords words before after run files due → P) → (NoMemoryForWords before after run files due → P) → (CommandObeyed words before after run files due → P) → P
+  by-stage f g h = ⊎_elim f (λ r. ⊎_elim g h r) d
+
+  -- what comes of words that ask for this
+  pub asked-for : (p : Purpose) (ticks seed : ℕ) → AsksFor words p ticks seed → Obeyed p ticks seed before after run files due
+  asked-for p ticks seed (dir, is) =
+      by-stage
+      (λ b. absurd (b.bad (_, is)))
+      (λ m. bare-obeyed before after run files due p ticks seed m)
+      (λ x. subst (λ (q : Request). Obeyed q.purpose q.ticks q.seed before after run files due)
+      (command-one words x.request (record { dir = dir; purpose = p; ticks = ticks; seed = seed }) x.is is) x.obeyed)
+
+  pub due-again : (status : Status) → StatusIsDue words before after (answered before after run files due status) files due
   due-again status =
       by-stage
-      (λ b. inl (record { due = b.due; bad = b.bad; folder = b.folder; shows = b.shows; nothing = nothing-again status b.nothing }))
-      (λ b. inr (inl (record { cause = b.cause; good = b.good; nothing = nothing-again status b.nothing })))
-      (λ c. inr (inr (inl (ran-again status c))))
-      (λ q. inr (inr (inr (record { s = q.s; t = q.t; is = q.is; ended = q.ended; built = q.built; turns = q.turns; spent = q.spent; input = q.input; shows = q.shows }))))
+      (λ b. inl (record { due = b.due; bad = b.bad; folder = b.folder; shows = b.shows; nothing = nothing-again before after run files due status b.nothing }))
+      (λ m. inr (inl (record { due = m.due; folder = m.folder; shows = m.shows; nothing = nothing-again before after run files due status m.nothing })))
+      (λ x. inr (inr (record { request = x.request; is = x.is; obeyed = obeyed-again before after run files due status x.request.purpose x.request.ticks x.request.seed x.obeyed })))

@@ -3,6 +3,7 @@ use Rattle.std.proofs.Common.{ℕ, List, [], Option, Some, None, refl, sym, subs
 use Rattle.std.specs.Prelude.{Result, Ok, Err}
 use Rattle.bal_base.specs.declared.stop.Stop.{Stop}
 use Rattle.bal_base.specs.declared.stop.Stop.TheVariants.{Memory as OutOfMemory, Fault}
+use Rattle.bal_base.specs.declared.text.Text.{Text}
 use Rattle.bal_io.specs.Content.{LosesFront, Told}
 use Rattle.bal_tree.specs.declared.package.Package.{Package}
 use Rattle.descriptors.specs.Described.{Atoms}
@@ -20,7 +21,6 @@ use Rattle.type_model.specs.declared.answers.TypeLimit.{TypeLimit}
 use Rattle.typed_tree.specs.declared.package.TypedPackage.{TypedPackage}
 use Rattle.bal_run.specs.Report.{CanReport}
 use Rattle.bal_run.specs.Runs.{IsRunOf, IsStatusOfStop, RunEnded, status_of}
-use Rattle.bal_run.specs.declared.running.TheConstants.{MOST_TICKS, SEED}
 use Rattle.bal_run.specs.declared.status.Run.{Run}
 use Rattle.bal_run.specs.declared.status.Status.{Status}
 
@@ -36,8 +36,8 @@ large-unbegun atoms typed before after limit h =
       input = record { untouched = λ no. h.unread; part = subst (Told LosesFront before.rest) (sym h.unread) (loses-nothing before.rest) };
     }
 
-module _ (atoms : Atoms) (source : Package) (typed : TypedPackage) (before after : run.Outside) where
-  pub ran-so : (result : Result Outcome (Stop RunFault)) (run : Run) → Ended PassesLimit atoms typed [] MOST_TICKS SEED before after result → CountsRunFaults before after result → IsRunOf source result run → RunEnded atoms typed before after run run.status
+module _ (atoms : Atoms) (source : Package) (typed : TypedPackage) (words : List Text) (ticks seed : ℕ) (before after : run.Outside) where
+  pub ran-so : (result : Result Outcome (Stop RunFault)) (run : Run) → Ended PassesLimit atoms typed words ticks seed before after result → CountsRunFaults before after result → IsRunOf source ticks result run → RunEnded atoms typed words ticks seed before after run run.status
   ran-so (Ok o) run h fine is =
       ⊎_elim
       (λ e. inl (record { outcome = outcome_of o; ran = h; status = e; turns = is.2; spent = is.3; fine = fine }))
@@ -55,13 +55,13 @@ module _ (atoms : Atoms) (source : Package) (typed : TypedPackage) (before after
 
 -- ---- it has a text
 
-end-can-report : (e : Ending) → CanReport (status_of e)
-end-can-report ReturnsNil = tt
-end-can-report (ReturnsError m) = tt
-end-can-report (Panics m) = tt
-end-can-report (Stalls ring) = tt
-end-can-report model.GoesOn = tt
-end-can-report (Passes limit) = tt
+end-can-report : (ticks : ℕ) (e : Ending) → CanReport (status_of ticks e)
+end-can-report ticks ReturnsNil = tt
+end-can-report ticks (ReturnsError m) = tt
+end-can-report ticks (Panics m) = tt
+end-can-report ticks (Stalls ring) = tt
+end-can-report ticks model.GoesOn = tt
+end-can-report ticks (Passes limit) = tt
 
 stop-can-report : (stop : Stop RunFault) (status : Status) → IsStatusOfStop stop status → CanReport status
 stop-can-report OutOfMemory status e = subst CanReport (sym e) tt
@@ -69,7 +69,7 @@ stop-can-report (Fault fault.Input) status e = subst CanReport (sym e) tt
 stop-can-report (Fault fault.Output) status e = subst CanReport (sym e) tt
 stop-can-report (Fault (fault.Types limit)) status h = ⊎_elim (λ e. subst CanReport (sym e) tt) (λ e. subst CanReport (sym e) tt) h
 
-pub run-can-report : (source : Package) (result : Result Outcome (Stop RunFault)) (run : Run) → IsRunOf source result run → CanReport run.status
-run-can-report source (Ok o) run is =
-    ⊎_elim (λ e. subst CanReport (sym e) (end-can-report (ending_of o.ending))) (λ m. subst CanReport (sym m) tt) is.1
-run-can-report source (Err stop) run is = stop-can-report stop run.status is.1
+pub run-can-report : (source : Package) (ticks : ℕ) (result : Result Outcome (Stop RunFault)) (run : Run) → IsRunOf source ticks result run → CanReport run.status
+run-can-report source ticks (Ok o) run is =
+    ⊎_elim (λ e. subst CanReport (sym e) (end-can-report ticks (ending_of o.ending))) (λ m. subst CanReport (sym m) tt) is.1
+run-can-report source ticks (Err stop) run is = stop-can-report stop run.status is.1

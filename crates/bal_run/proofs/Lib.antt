@@ -1,4 +1,7 @@
 pub mod AsciiWords
+pub mod BuildFacts
+pub mod CheckFacts
+pub mod CommandFacts
 pub mod DueStatus
 pub mod Ending
 pub mod FileWritten
@@ -8,7 +11,6 @@ pub mod ProgramAnswers
 pub mod QuestionAnswers
 pub mod QuestionEnds
 pub mod QuestionFacts
-pub mod QuestionWords
 pub mod Reporting
 pub mod RunFacts
 pub mod SourceReadings

@@ -8,12 +8,11 @@ use Rattle.bal_run.specs.declared.load.LoadFault.{LoadFault}
 use Rattle.bal_run.specs.declared.load.LoadFault.TheVariants.{Folder, Source}
 use Rattle.bal_run.specs.declared.status.Status.{Status}
 use Rattle.bal_run.specs.declared.top.Worked.{Worked}
-use Rattle.bal_run.specs.Due.{IsWritten, QuestionEnded, StatusIsDue}
+use Rattle.bal_run.specs.Due.{IsWritten, QuestionEnded, Questioned}
 use Rattle.bal_run.specs.Files.{CountsFolderFaults}
 use Rattle.bal_run.specs.Outside.{IsAsBefore, Outside}
 use Rattle.bal_run.specs.Packages.{source_files}
 use Rattle.bal_run.specs.Questions.{Answers}
-use Rattle.bal_run.specs.Words.{IsQuestion}
 use Rattle.bal_run.specs.Work.{IsStatusOfLoad, not_run}
 use Rattle.bal_run.proofs.Texts.{bytes-written}
 
@@ -35,17 +34,12 @@ module _ (s t : List ℕ) (before after : Outside) (status : Status) where
   ends-without (Fault (Source r)) h counts is faults written =
       inr (record { cause = inr (inl (r, is, h, counts)); faults = faults; written = written })
 
--- the status of a question that ended so
-pub asked-so : (words : List (String Global)) (before after : Outside) (work : Worked) (status : Status) (s t : List ℕ) → IsQuestion words s t → QuestionEnded s t before after status → IsAsBefore before.input after.input → work ≡ record { run = not_run status; source = None } → StatusIsDue words before after work.run (source_files work.source) work.run.status
-asked-so words before after work status s t is ended input made =
-    inr (inr (inr (record {
-      s = s;
-      t = t;
-      is = is;
+-- the question that ended so was asked, and nothing ran
+pub asked-so : (s t : List ℕ) (before after : Outside) (work : Worked) (status : Status) → QuestionEnded s t before after status → IsAsBefore before.input after.input → work ≡ record { run = not_run status; source = None } → Questioned s t before after work.run (source_files work.source) work.run.status
+asked-so s t before after work status ended input made =
+    record {
       ended = subst (λ (x : Status). QuestionEnded s t before after x) (sym (ap (λ (w : Worked). w.run.status) made)) ended;
       built = ap (λ (w : Worked). w.run.built) made;
-      turns = ap (λ (w : Worked). w.run.turns) made;
-      spent = ap (λ (w : Worked). w.run.spent) made;
-      input = input;
+      idle = record { turns = ap (λ (w : Worked). w.run.turns) made; spent = ap (λ (w : Worked). w.run.spent) made; input = input };
       shows = ap (λ (w : Worked). source_files w.source) made;
-    })))
+    }

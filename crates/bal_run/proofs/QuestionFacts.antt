@@ -1,12 +1,10 @@
 -- What is so of a call whose words are a question.
-use Rattle.std.proofs.Common.{◌≡◌, ◌⊎◌, ℕ, ◌<◌, List, [], Option, Some, None, sym, ap, subst, ◌∙◌, inl, inr, ⊎_elim, arith}
-use Rattle.std.specs.Prelude.{All, String}
-use Rattle.std.specs.Global.{Global}
-use Rattle.std.proofs.lemmas.List.{append-nil}
+use Rattle.std.proofs.Common.{◌≡◌, ◌⊎◌, ℕ, ◌<◌, List, [], Option, Some, sym, ap, subst, ◌∙◌, inl, inr, ⊎_elim, arith}
+use Rattle.std.specs.Prelude.{All}
 use Rattle.std.proofs.lemmas.List.Elements.{All-head}
 use Rattle.bal_base.specs.declared.fault.Fault.{Fault}
 use Rattle.bal_base.specs.declared.fault.Refusal.{Refusal}
-use Rattle.bal_io.specs.Content.{Told, Appends, AppendsFront, IsPrefixOf}
+use Rattle.bal_io.specs.Content.{Told, Appends}
 use Rattle.bal_io.specs.Faults.{Rises}
 use Rattle.bal_tree.specs.declared.package.SourceFile.{SourceFile}
 use Rattle.package_questions.specs.PackageAnswers.{home_files}
@@ -15,28 +13,19 @@ use Rattle.type_model.specs.declared.answers.Answer.TheVariants.{Yes, No}
 use Rattle.bal_run.specs.declared.status.Run.{Run}
 use Rattle.bal_run.specs.declared.status.Status.{Status}
 use Rattle.bal_run.specs.declared.status.Status.TheVariants.{Done, Refused, FolderFault, OutFault, Memory, DiagFault}
-use Rattle.bal_run.specs.Due.{NothingRan, QuestionEnded, StatusIsDue}
+use Rattle.bal_run.specs.Due.{NothingRan, QuestionEnded, Questioned}
 use Rattle.bal_run.specs.Files.{Files, MainHas}
 use Rattle.bal_run.specs.OfQuestions.{QuestionIsTold}
-use Rattle.bal_run.specs.Outside.{IsAsBefore, Outside, SinkTells}
+use Rattle.bal_run.specs.Outside.{Outside, SinkTells}
 use Rattle.bal_run.specs.Packages.{ImportsIo, package_of}
 use Rattle.bal_run.specs.Questions.{HasNoAnswerOf, ImportsMore, IsAnswerOf, IsFaulty, IsNeverRefused, IsQuestionRefused, SaidFront, SaidNo, SaidYes, answer_bytes}
 use Rattle.bal_run.specs.Readings.{IsMainSource, IsSource, IsUnread, TellsMain}
 use Rattle.bal_run.specs.Report.{ComesTo, ComesToRefusal, Reports}
 use Rattle.bal_run.specs.Source.{HasNoTree, not_built, refusal_of}
-use Rattle.bal_run.specs.Words.{IsQuestion}
-use Rattle.bal_run.proofs.DueStatus.{by-stage}
 use Rattle.bal_run.proofs.MainFiles.{its-file, its-main}
-use Rattle.bal_run.proofs.QuestionWords.{one-question, question-good, run-alone}
-use Rattle.bal_run.proofs.Reporting.{come-or-cut, come-or-fail, come-or-memory, comes-from, due-is}
+use Rattle.bal_run.proofs.Reporting.{come-or-cut, come-or-fail, come-or-memory, comes-from, due-is, whole-front}
 
 -- ---- what was written
-
-appended-front : (xs o : List ℕ) (w v : Option (List ℕ)) → IsPrefixOf xs o → Told (Appends xs) w v → Told (AppendsFront o) w v
-appended-front xs o (Some a) (Some b) p e = (xs, p, e)
-appended-front xs o None None p e = tt
-appended-front xs o (Some a) None p e = absurd e
-appended-front xs o None (Some b) p e = absurd e
 
 module _ (files : Option Files) (s t : List ℕ) (w v : Option (List ℕ)) where
   said-so : (answer : Answer) → IsAnswerOf files s t answer → Told (Appends (answer_bytes answer)) w v → SaidYes files s t w v ⊎ SaidNo files s t w v
@@ -44,33 +33,16 @@ module _ (files : Option Files) (s t : List ℕ) (w v : Option (List ℕ)) where
   said-so (No x) has told = inr (x, has, told)
 
   said-whole : (answer : Answer) → IsAnswerOf files s t answer → Told (Appends (answer_bytes answer)) w v → SaidFront files s t w v
-  said-whole answer has told =
-      inr (answer, has, appended-front (answer_bytes answer) (answer_bytes answer) w v ([], append-nil (answer_bytes answer)) told)
+  said-whole answer has told = inr (answer, has, whole-front (answer_bytes answer) w v told)
 
-module _ (words : List (String Global)) (before after : Outside) (run : Run) (files : List SourceFile) (due : Status) (d : StatusIsDue words before after run files due) (diag told : SinkTells) (r : Reports files due run.status diag told) (s t : List ℕ) (is : IsQuestion words s t) where
-  ended : QuestionEnded s t before after due
-  ended =
-      by-stage words before after run files due d
-      (λ b. absurd (b.bad (question-good words s t is)))
-      (λ b. absurd (run-alone words b.good s t is))
-      (λ c. absurd (run-alone words c.good s t is))
-      (λ q. let same = one-question words q.s q.t s t q.is is in
-      subst (λ a. QuestionEnded a t before after due) same.0 (subst (λ b. QuestionEnded q.s b before after due) same.1 q.ended))
-
-  -- nothing was built, and the input wasn't touched
-  nothing-built : run.built ≡ None
-  nothing-built =
-      by-stage words before after run files due d (λ b. b.nothing.built) (λ b. b.nothing.built) (λ c. absurd (run-alone words c.good s t is)) (λ q. q.built)
-
-  unread-input : IsAsBefore before.input after.input
-  unread-input =
-      by-stage words before after run files due d (λ b. b.nothing.input) (λ b. b.nothing.input) (λ c. absurd (run-alone words c.good s t is)) (λ q. q.input)
+module _ (s t : List ℕ) (before after : Outside) (run : Run) (files : List SourceFile) (due : Status) (q : Questioned s t before after run files due) (diag told : SinkTells) (r : Reports files due run.status diag told) where
+  abbrev ended : QuestionEnded s t before after due
+  ended = q.ended
 
   -- where nothing was written either, nothing ran
   nothing-ran : after.out.faults ≡ before.out.faults → after.out.written ≡ before.out.written → NothingRan before after run
   nothing-ran faults written =
-      by-stage words before after run files due d (λ b. b.nothing) (λ b. b.nothing) (λ c. absurd (run-alone words c.good s t is))
-      (λ q. record { built = q.built; turns = q.turns; spent = q.spent; input = q.input; faults = faults; written = written })
+      record { built = q.built; turns = q.idle.turns; spent = q.idle.spent; input = q.idle.input; faults = faults; written = written }
 
   said : due ≡ Done → SaidYes before.folder.files s t before.out.written after.out.written ⊎ SaidNo before.folder.files s t before.out.written after.out.written
   said e =
@@ -224,8 +196,8 @@ module _ (words : List (String Global)) (before after : Outside) (run : Run) (fi
   pub question-told : QuestionIsTold s t before after run
   question-told =
       record {
-        built = nothing-built;
-        input = unread-input;
+        built = q.built;
+        input = q.idle.input;
         answered = λ e. said (due-so Done (λ f. let bad : ⊥ = cc in bad) (λ f. let bad : ⊥ = cc in bad) e);
         answer_due = answer-due;
         front = said-front;

@@ -27,6 +27,17 @@ pub told-nothing : (w : Option (List ℕ)) → Told (Appends []) w w
 told-nothing (Some a) = sym (append-nil a)
 told-nothing None = tt
 
+-- a text whose whole was written, or nothing, as a first part of it
+pub whole-front : (text : List ℕ) (w v : Option (List ℕ)) → Told (Appends text) w v → Told (AppendsFront text) w v
+whole-front text (Some a) (Some b) e = (text, ([], append-nil text), e)
+whole-front text None None e = tt
+whole-front text (Some a) None e = absurd e
+whole-front text None (Some b) e = absurd e
+
+pub same-front : (text : List ℕ) (w v : Option (List ℕ)) → v ≡ w → Told (AppendsFront text) w v
+same-front text (Some a) v e = subst (λ o. Told (AppendsFront text) (Some a) o) (sym e) ([], (text, refl), sym (append-nil a))
+same-front text None v e = subst (λ o. Told (AppendsFront text) None o) (sym e) tt
+
 front-behind-nothing : (text other : List ℕ) (w v : Option (List ℕ)) → Told (AppendsFront other) w v → Told (AppendsFronts text other) w v
 front-behind-nothing text other (Some a) (Some b) (front, p, e) = ([], front, (text, refl), p, e)
 front-behind-nothing text other None None h = tt

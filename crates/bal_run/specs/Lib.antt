@@ -2,6 +2,8 @@ pub mod Compiling
 pub mod Due
 pub mod Files
 pub mod Mains
+pub mod OfBuilds
+pub mod OfChecks
 pub mod OfDiagnostics
 pub mod OfInput
 pub mod OfQuestions

@@ -9,13 +9,13 @@ use Rattle.bal_run.specs.Outside.{SinkTells}
 use Rattle.bal_run.specs.Programs.{IsRefusalOf}
 use Rattle.bal_run.specs.Report.{CountsDiagFaults, IsToldWhole, WroteFrontOfText, WroteFrontsOfTexts, WroteText}
 use Rattle.bal_run.specs.Runs.{too_large}
-use Rattle.bal_run.specs.Words.{IsRun}
+use Rattle.bal_run.specs.Words.{Builds}
 
 module _ (words : List (String Global)) (folder : Option Files) where
   -- the files in which the events are found that a status shows: for a program that is refused for its source those of that, and else
   -- none; a status that is no refusal shows no events
   abbrev pub AreShown : Status → List SourceFile → Type 0
-  AreShown (Refused r) files = (IsRun words × IsRefusalOf folder r files) ⊎ (((r ≡ too_large) ⊎ ¬ (IsRun words)) × (files ≡ []))
+  AreShown (Refused r) files = (Builds words × IsRefusalOf folder r files) ⊎ (((r ≡ too_large) ⊎ ¬ (Builds words)) × (files ≡ []))
   AreShown Done files = ⊤
   AreShown (ErrorReturned m) files = ⊤
   AreShown (Panicked m) files = ⊤

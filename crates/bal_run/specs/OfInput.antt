@@ -3,7 +3,7 @@ use Rattle.descriptors.specs.Described.{Atoms}
 use Rattle.input_calls.specs.Calls.{CallsReadln}
 use Rattle.bal_run.specs.declared.compile.Built.{Built}
 use Rattle.bal_run.specs.declared.status.Run.{Run}
-use Rattle.bal_run.specs.OfRuns.{OfBuilt}
+use Rattle.bal_run.specs.OfBuilds.{OfBuilt}
 use Rattle.bal_run.specs.Outside.{IsAsBefore, Outside}
 
 -- the program calls `io:readln` somewhere

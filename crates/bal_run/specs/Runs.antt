@@ -4,6 +4,7 @@ use Rattle.bal_base.specs.declared.fault.FaultCode.TheVariants.{TypeLimit as Too
 use Rattle.bal_base.specs.declared.fault.Refusal.{Refusal}
 use Rattle.bal_base.specs.declared.stop.Stop.{Stop}
 use Rattle.bal_base.specs.declared.stop.Stop.TheVariants.{Memory as OutOfMemory, Fault}
+use Rattle.bal_base.specs.declared.text.Text.{Text}
 use Rattle.bal_io.specs.Faults.{Rises}
 use Rattle.bal_tree.specs.declared.package.Package.{Package}
 use Rattle.descriptors.specs.Described.{Atoms}
@@ -21,34 +22,33 @@ use Rattle.type_diagrams.specs.Reach.{Passes as PassesLimit}
 use Rattle.type_model.specs.declared.answers.TypeLimit.{TypeLimit}
 use Rattle.typed_tree.specs.declared.package.TypedPackage.{TypedPackage}
 use Rattle.bal_run.specs.Source.{fault_of, refusal_of}
-use Rattle.bal_run.specs.declared.running.TheConstants.{MOST_TICKS, SEED}
 use Rattle.bal_run.specs.declared.status.Run.{Run}
 use Rattle.bal_run.specs.declared.status.Status.{Status}
 use Rattle.bal_run.specs.declared.status.Status.TheVariants.{Done, ErrorReturned, Panicked, Refused, GoesOn, Stalled, InputFault, OutFault, Memory, Limit}
 
--- the status of a run that ends so
-abbrev pub status_of : Ending → Status
-status_of ReturnsNil = Done
-status_of (ReturnsError message) = ErrorReturned message
-status_of (Panics message) = Panicked message
-status_of (Stalls ring) = Stalled ring
-status_of model.GoesOn = GoesOn MOST_TICKS
-status_of (Passes limit) = Limit limit
+-- the status of a run that ends so, which had so many ticks
+abbrev pub status_of : ℕ → Ending → Status
+status_of ticks ReturnsNil = Done
+status_of ticks (ReturnsError message) = ErrorReturned message
+status_of ticks (Panics message) = Panicked message
+status_of ticks (Stalls ring) = Stalled ring
+status_of ticks model.GoesOn = GoesOn ticks
+status_of ticks (Passes limit) = Limit limit
 
 -- a question about types, to which the program's lists lead, is too large: it has no place
 abbrev pub too_large : Refusal
 too_large = refusal_of [] (fault_of TooLarge)
 
--- ---- causes: of the package that was built, over these atoms
+-- ---- causes: of the package that was built, over these atoms, with these words for main, so many ticks and this seed
 
-module _ (atoms : Atoms) (typed : TypedPackage) (before after : run.Outside) where
-  -- without words, with so many ticks and by the picks of the seed, the run came to this outcome, and all its output was written
+module _ (atoms : Atoms) (typed : TypedPackage) (words : List Text) (ticks seed : ℕ) (before after : run.Outside) where
+  -- by the picks of the seed the run came to this outcome, and all its output was written
   abbrev pub RanTo : model.Outcome → Type 0
-  RanTo o = HasRun atoms typed [] MOST_TICKS SEED before after o
+  RanTo o = HasRun atoms typed words ticks seed before after o
 
   -- it was cut short, and a first part of its output was written
   abbrev pub WasCut : Type 0
-  WasCut = IsCutShort atoms typed [] MOST_TICKS SEED before after
+  WasCut = IsCutShort atoms typed words ticks seed before after
 
   -- what of a run was written where nothing more is said: nothing, a first part, or all
   abbrev pub WrotePart : Type 0
@@ -58,7 +58,7 @@ module _ (atoms : Atoms) (typed : TypedPackage) (before after : run.Outside) whe
   pub record CameTo (run : Run) (due : Status) : Type 0 where
     pub outcome : model.Outcome
     pub ran : RanTo outcome
-    pub status : due ≡ status_of outcome.ending
+    pub status : due ≡ status_of ticks outcome.ending
     pub turns : run.turns ≡ outcome.picks
     pub spent : run.spent ≡ outcome.spent
     pub fine : NoneFailed before after
@@ -94,9 +94,9 @@ module _ (atoms : Atoms) (typed : TypedPackage) (before after : run.Outside) whe
 
 -- ---- the steps
 
--- the status of a run that ends so, if there is memory for it
-abbrev pub IsStatusOf : Ending → Status → Type 0
-IsStatusOf ending status = (status ≡ status_of ending) ⊎ (status ≡ Memory)
+-- the status of a run that ends so, which had so many ticks, if there is memory for it
+abbrev pub IsStatusOf : ℕ → Ending → Status → Type 0
+IsStatusOf ticks ending status = (status ≡ status_of ticks ending) ⊎ (status ≡ Memory)
 
 -- that of a stall in this ring
 abbrev pub IsStalledBy : List ℕ → Status → Type 0
@@ -113,8 +113,8 @@ IsStatusOfStop (Fault fault.Input) status = status ≡ InputFault
 IsStatusOfStop (Fault fault.Output) status = status ≡ OutFault
 IsStatusOfStop (Fault (fault.Types limit)) status = IsLargeOr status
 
--- the run of what was built of this package, by what became of it
-abbrev pub IsRunOf : Package → Result Outcome (Stop RunFault) → Run → Type 0
-IsRunOf source (Ok o) run =
-    (run.built ≡ Some source) × IsStatusOf (ending_of o.ending) run.status × (run.turns ≡ o.picks) × (run.spent ≡ o.spent)
-IsRunOf source (Err stop) run = (run.built ≡ Some source) × IsStatusOfStop stop run.status
+-- the run of what was built of this package, with so many ticks, by what became of it
+abbrev pub IsRunOf : Package → ℕ → Result Outcome (Stop RunFault) → Run → Type 0
+IsRunOf source ticks (Ok o) run =
+    (run.built ≡ Some source) × IsStatusOf ticks (ending_of o.ending) run.status × (run.turns ≡ o.picks) × (run.spent ≡ o.spent)
+IsRunOf source ticks (Err stop) run = (run.built ≡ Some source) × IsStatusOfStop stop run.status

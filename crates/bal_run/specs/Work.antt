@@ -1,11 +1,15 @@
 -- The steps of the work.
-use Rattle.std.specs.Prelude.{◌≡◌, ℕ, List, Result, Ok, Err, IfOk, None}
+use Rattle.std.specs.Prelude.{◌≡◌, ◌≤◌, ⊤, ℕ, List, Result, Ok, Err, IfOk, None, length}
 use Rattle.bal_base.specs.Stops.{IfFault}
 use Rattle.bal_base.specs.declared.fault.Fault.{Fault as FaultOf}
 use Rattle.bal_base.specs.declared.fault.Refusal.{Refusal}
 use Rattle.bal_base.specs.declared.stop.Memory.{Memory as NoMemory}
 use Rattle.bal_base.specs.declared.stop.Stop.{Stop}
 use Rattle.bal_base.specs.declared.stop.Stop.TheVariants.{Memory as OutOfMemory, Fault}
+use Rattle.command_words.specs.Commands.{Purpose}
+use Rattle.command_words.specs.Commands as command
+use Rattle.command_words.specs.declared.command.TheConstants.{MOST_WORD_BYTES}
+use Rattle.machine_model.specs.Runs.{AreWords}
 use Rattle.bal_run.specs.declared.load.LoadFault.{LoadFault}
 use Rattle.bal_run.specs.declared.load.LoadFault.TheVariants.{Folder, Source}
 use Rattle.bal_run.specs.declared.compile.CompileFault.{CompileFault}
@@ -17,6 +21,12 @@ use Rattle.bal_run.specs.declared.status.Status.TheVariants.{Refused, FolderFaul
 use Rattle.bal_run.specs.Source.{HasNoTree, IsPlaced, ReadsAs}
 use Rattle.bal_tree.specs.declared.def.FileTree.{FileTree}
 use Rattle.parse_stmt.specs.Starts.{IsNotRefused, IsRefused}
+
+-- what a good command asks for is fit to be done: words for main, or two types
+abbrev pub IsFit : Purpose → Type 0
+IsFit (command.Run texts) = AreWords texts
+IsFit command.Check = ⊤
+IsFit (command.Subtype s t) = (length s ≤ MOST_WORD_BYTES) × (length t ≤ MOST_WORD_BYTES)
 
 -- the status of a folder in which a question has no answer
 abbrev pub IsStatusOfLoad : Stop LoadFault → Status → Type 0

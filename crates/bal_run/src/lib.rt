@@ -1,7 +1,7 @@
 //! The top call: from a folder's bytes to output bytes.
 //!
-//! - [`bal_run`] compiles a folder and runs it, or answers a question about types. It answers with a [`Run`], which keeps the package
-//!   that was compiled.
+//! - [`bal_run`] compiles a folder and runs it or says that it is accepted, or answers a question about types, as the words of the
+//!   command say (`command_words`). It answers with a [`Run`], which keeps the package that was compiled.
 //! - [`Status`] and [`status_number`]: how a call ended, and the exit status of a program that ends so.
 //! - [`dir_of`]: the folder that the words of a command name.
 //!

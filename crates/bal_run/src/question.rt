@@ -1,10 +1,10 @@
 //! The question whether one type is below another: from the folder's file and two words to the text of the answer.
 ghost use Rattle.std.specs.Prelude.{◌≤◌, length, chars};
+ghost use Rattle.command_words.specs.declared.command.TheConstants.{MOST_WORD_BYTES};
 ghost use Rattle.bal_run.specs.Files.{CountsFolderFaults, main_name};
 ghost use Rattle.bal_run.specs.Packages.{package_of as package_with};
 ghost use Rattle.bal_run.specs.Questions.{Answers, AnswersBytes, AnswersPackage, IsLoaded};
 ghost use Rattle.bal_run.specs.Source.{IsText};
-ghost use Rattle.bal_run.specs.declared.words.TheConstants.{MOST_WORD_BYTES};
 ghost use Rattle.package_questions.specs.PackageAnswers.{home_files as files_at_home};
 
 use crate::load::{LoadFault, main_front, refusal, stop};

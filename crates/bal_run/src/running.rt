@@ -1,5 +1,6 @@
 //! Running what was compiled, against the input and the output.
 ghost use Rattle.std.specs.Prelude.{◌≡◌, IfOk, Ok, Some};
+ghost use Rattle.machine_model.specs.Runs.{AreWords};
 ghost use Rattle.input_calls.specs.Calls.{CallsReadln};
 ghost use Rattle.bal_run.specs.Outside.{IsAsBefore, sides, sink_tells, source_tells};
 ghost use Rattle.bal_run.specs.Report.{CanReport};
@@ -17,16 +18,17 @@ use code_steps::{Ending, Outcome};
 use package_runs::{Bounds, RunFault, run_accepted};
 use std::alloc::Global;
 
-/// How many ticks a run may spend.
-pub const MOST_TICKS: u64 = 1_000_000_000_000;
-
-/// By which the strands that run are picked: always the first one that is ready.
-pub const SEED: u64 = 0;
-
-/// Runs the program that was compiled.
-pub fn execute<I: Source, O: Sink>(alloc: Global, ready: Ready, input: &mut I, out: &mut O) -> Run
+/// Runs the program that was compiled, by these words for its `main`, so many ticks and this seed.
+pub fn execute<I: Source, O: Sink>(
+    alloc: Global,
+    ready: Ready,
+    bounds: Bounds<'_>,
+    input: &mut I,
+    out: &mut O,
+) -> Run
+    requires words { AreWords bounds.words.now }
     ensures kept { result.built ≡ Some ready.built.source }
-    ensures ended { RunEnded ready.types.atoms ready.built.typed
+    ensures ended { RunEnded ready.types.atoms ready.built.typed bounds.entry.words.now bounds.entry.ticks bounds.entry.seed
         (sides (source_tells (I.faults input.old) (I.rest input.old)) (sink_tells (O.faults out.old) (O.written out.old)))
         (sides (source_tells (I.faults input.new) (I.rest input.new)) (sink_tells (O.faults out.new) (O.written out.new)))
         result result.status }
@@ -37,21 +39,16 @@ pub fn execute<I: Source, O: Sink>(alloc: Global, ready: Ready, input: &mut I, o
     let Built { source, typed } = built;
     let mut types = types;
     let mut typed = typed;
-    let bounds = Bounds {
-        words: &[],
-        ticks: MOST_TICKS,
-        seed: SEED,
-    };
     let ended = run_accepted(alloc, &mut types, &mut typed, bounds, input, out);
-    run_of(alloc, source, ended)
+    run_of(alloc, source, bounds.ticks, ended)
 }
 
-/// The run of a program of this package that ended so.
-fn run_of(alloc: Global, source: Package, ended: Result<Outcome, Stop<RunFault>>) -> Run
-    ensures { IsRunOf source ended result }
+/// The run of a program of this package that had so many ticks and ended so.
+fn run_of(alloc: Global, source: Package, ticks: u64, ended: Result<Outcome, Stop<RunFault>>) -> Run
+    ensures { IsRunOf source ticks ended result }
 {
     match ended {
-        Ok(outcome) => came(alloc, source, outcome),
+        Ok(outcome) => came(alloc, source, ticks, outcome),
         Err(stop) => Run {
             status: stopped(alloc, stop),
             built: Some(source),
@@ -62,29 +59,29 @@ fn run_of(alloc: Global, source: Package, ended: Result<Outcome, Stop<RunFault>>
 }
 
 /// The run of a program that came to this outcome.
-fn came(alloc: Global, source: Package, outcome: Outcome) -> Run
-    ensures { IsRunOf source (Ok outcome) result }
+fn came(alloc: Global, source: Package, ticks: u64, outcome: Outcome) -> Run
+    ensures { IsRunOf source ticks (Ok outcome) result }
 {
     let turns = outcome.picks;
     let spent = outcome.spent;
     Run {
-        status: status_of(alloc, outcome.ending),
+        status: status_of(alloc, ticks, outcome.ending),
         built: Some(source),
         turns,
         spent,
     }
 }
 
-/// The status of a run that ends so, if there is memory for it.
-fn status_of(alloc: Global, ending: Ending) -> Status
-    ensures { IsStatusOf (ending_of ending) result }
+/// The status of a run that had so many ticks and ends so, if there is memory for it.
+fn status_of(alloc: Global, ticks: u64, ending: Ending) -> Status
+    ensures { IsStatusOf ticks (ending_of ending) result }
 {
     match ending {
         Ending::ReturnsNil => Status::Done,
         Ending::ReturnsError(message) => Status::ErrorReturned(message),
         Ending::Panics(message) => Status::Panicked(message),
         Ending::Stalls(strands) => stalled(alloc, strands.as_slice()),
-        Ending::GoesOn => Status::GoesOn { ticks: MOST_TICKS },
+        Ending::GoesOn => Status::GoesOn { ticks },
         Ending::Passes(limit) => Status::Limit(limit),
     }
 }

@@ -21,7 +21,7 @@ pub struct Run {
 /// How a call of the top ended.
 #[derive(Drop)]
 pub enum Status {
-    /// Main returned nil, and no strand can run; or a question was answered.
+    /// Main returned nil, and no strand can run; or a program that is only checked is accepted, or a question was answered.
     Done,
     /// Main or an initialiser returned an error with this message.
     ErrorReturned(Text),

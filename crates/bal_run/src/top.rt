@@ -1,7 +1,13 @@
 //! The top call.
-ghost use Rattle.std.specs.Prelude.{◌≡◌, ◌≤◌, ℕ, List, None, length};
+ghost use Rattle.std.specs.Prelude.{◌≡◌, ◌≤◌, ℕ, List, None, Some, length};
+ghost use Rattle.bal_base.specs.declared.text.Text.{Text};
+ghost use Rattle.command_words.specs.Commands as command;
+ghost use Rattle.command_words.specs.Commands.{request_of};
+ghost use Rattle.command_words.specs.declared.command.TheConstants.{MOST_WORD_BYTES};
+ghost use Rattle.machine_model.specs.Runs.{AreWords};
 ghost use Rattle.bal_tree.specs.declared.package.SourceFile.{SourceFile as FileOf};
-ghost use Rattle.bal_run.specs.Due.{IsWritten, QuestionEnded, StatusIsDue};
+ghost use Rattle.bal_run.specs.Due.{IsWritten, Obeyed, QuestionEnded, StatusIsDue, ok_bytes};
+ghost use Rattle.bal_run.specs.OfChecks.{CheckIsTold};
 ghost use Rattle.bal_run.specs.OfDiagnostics.{AreDiagnosticsTold};
 ghost use Rattle.bal_run.specs.OfInput.{IsInputTold};
 ghost use Rattle.bal_run.specs.OfQuestions.{QuestionIsTold};
@@ -10,31 +16,31 @@ ghost use Rattle.bal_run.specs.OfWords.{AreJudged};
 ghost use Rattle.bal_run.specs.Outside.{SourceTells, folder_tells, outside, sink_tells, source_tells};
 ghost use Rattle.bal_run.specs.Packages.{source_files};
 ghost use Rattle.bal_run.specs.Report.{CanReport, Reports};
-ghost use Rattle.bal_run.specs.Words.{IsQuestion, IsRun, NoQuestion};
-ghost use Rattle.bal_run.specs.Work.{IsStatusOfLoad, IsWorkOf};
+ghost use Rattle.bal_run.specs.Words.{AsksFor};
+ghost use Rattle.bal_run.specs.Work.{IsFit, IsStatusOfLoad, IsWorkOf};
 ghost use Rattle.bal_run.specs.declared.status.Status.{Status as AnyStatus};
-ghost use Rattle.bal_run.specs.declared.words.TheConstants.{MOST_WORD_BYTES};
 
-use crate::compile::{CompileFault, compile};
+use crate::compile::{Built, CompileFault, Ready, compile};
 use crate::load::LoadFault;
 use crate::question::answer;
 use crate::report::report;
 use crate::running::execute;
 use crate::status::{Run, Status};
-use crate::words::{is_run, question_of};
-use bal_base::{Failed, Stop};
+use bal_base::{Failed, Memory, Stop};
 use bal_io::{Folder, Sink, Source};
 use bal_tree::{Package, SourceFile};
+use command_words::{Command, Mode, command_of};
 use package_questions::home_files;
+use package_runs::Bounds;
 use std::alloc::Global;
 
-/// Compiles the folder's `main.bal` and runs it, or answers whether one type is below another in its package, as the
-/// words say.
+/// Compiles the folder's `main.bal` and runs it, or only says that it is accepted, or answers whether one type is below another in its
+/// package, as the words say.
 ///
-/// The program's output goes to `out`, one call for each line that it prints, and so does the answer to a question. The
-/// text of a status other than `Done` goes to `diag`. The input is read to its end before the program runs, where that calls
-/// `io:readln`, and else it isn't touched. Each failure of an object of the outside ends the call, and nothing is written
-/// to `out` after it.
+/// The program's output goes to `out`, one call for each line that it prints, and so does the answer to a question, and the word `ok` for
+/// a program that is only checked. The text of a status other than `Done` goes to `diag`. The input is read to its end before the program
+/// runs, where that calls `io:readln`, and else it isn't touched. Each failure of an object of the outside ends the call, and nothing is
+/// written to `out` after it.
 pub fn bal_run<F: Folder, I: Source, O: Sink, E: Sink>(
     alloc: Global,
     words: &[String],
@@ -57,14 +63,20 @@ pub fn bal_run<F: Folder, I: Source, O: Sink, E: Sink>(
         (outside (folder_tells (F.faults folder.new) (F.files folder.new)) (source_tells (I.faults input.new) (I.rest input.new)) (sink_tells (O.faults out.new) (O.written out.new)))
         result }
 
-    // A program: its faults, its run, its output and its status.
-    ensures run { IsRun words.now → RunIsTold
+    // A program that is run: its faults, its run, its output and its status.
+    ensures run { (texts : List Text) (ticks seed : ℕ) → AsksFor words.now (command.Run texts) ticks seed → RunIsTold texts ticks seed
+        (outside (folder_tells (F.faults folder.old) (F.files folder.old)) (source_tells (I.faults input.old) (I.rest input.old)) (sink_tells (O.faults out.old) (O.written out.old)))
+        (outside (folder_tells (F.faults folder.new) (F.files folder.new)) (source_tells (I.faults input.new) (I.rest input.new)) (sink_tells (O.faults out.new) (O.written out.new)))
+        result }
+
+    // A program that is checked: its faults, or that it is accepted.
+    ensures check { (ticks seed : ℕ) → AsksFor words.now command.Check ticks seed → CheckIsTold
         (outside (folder_tells (F.faults folder.old) (F.files folder.old)) (source_tells (I.faults input.old) (I.rest input.old)) (sink_tells (O.faults out.old) (O.written out.old)))
         (outside (folder_tells (F.faults folder.new) (F.files folder.new)) (source_tells (I.faults input.new) (I.rest input.new)) (sink_tells (O.faults out.new) (O.written out.new)))
         result }
 
     // A question of types: its answer, or why it has none.
-    ensures subtype { (s t : List ℕ) → IsQuestion words.now s t → QuestionIsTold s t
+    ensures subtype { (s t : List ℕ) (ticks seed : ℕ) → AsksFor words.now (command.Subtype s t) ticks seed → QuestionIsTold s t
         (outside (folder_tells (F.faults folder.old) (F.files folder.old)) (source_tells (I.faults input.old) (I.rest input.old)) (sink_tells (O.faults out.old) (O.written out.old)))
         (outside (folder_tells (F.faults folder.new) (F.files folder.new)) (source_tells (I.faults input.new) (I.rest input.new)) (sink_tells (O.faults out.new) (O.written out.new)))
         result }
@@ -119,34 +131,99 @@ fn work<F: Folder, I: Source, O: Sink>(
         result.run (source_files result.source) result.run.status }
     ensures text { CanReport result.run.status }
 {
-    match question_of(words) {
-        Some((s, t)) => work_of(not_run(ask(alloc, s, t, folder, out))),
-        None => compile_and_run(alloc, words, folder, input, out),
+    match command_of(alloc, words) {
+        Ok(Some(command)) => obey(alloc, &command, folder, input, out),
+        Ok(None) => work_of(not_run(Status::Words)),
+        Err(Memory) => work_of(not_run(Status::Memory)),
     }
 }
 
-/// Compiles and runs, where the words are no question.
-fn compile_and_run<F: Folder, I: Source, O: Sink>(
+/// Does what a good command asks for.
+fn obey<F: Folder, I: Source, O: Sink>(
     alloc: Global,
-    words: &[String],
+    command: &Command<'_>,
     folder: &mut F,
     input: &mut I,
     out: &mut O,
 ) -> Worked
-    requires { NoQuestion words.now }
-    ensures due { StatusIsDue words.now
+    requires { IsFit (request_of command.now).purpose }
+    ensures due { Obeyed (request_of command.now).purpose command.now.ticks command.now.seed
         (outside (folder_tells (F.faults folder.old) (F.files folder.old)) (source_tells (I.faults input.old) (I.rest input.old)) (sink_tells (O.faults out.old) (O.written out.old)))
         (outside (folder_tells (F.faults folder.new) (F.files folder.new)) (source_tells (I.faults input.new) (I.rest input.new)) (sink_tells (O.faults out.new) (O.written out.new)))
         result.run (source_files result.source) result.run.status }
     ensures text { CanReport result.run.status }
 {
-    if !is_run(words) {
-        return work_of(not_run(Status::Words));
+    match &command.mode {
+        Mode::Run { words } => {
+            let bounds = Bounds {
+                words: words.as_slice(),
+                ticks: command.ticks,
+                seed: command.seed,
+            };
+            compile_and_run(alloc, bounds, folder, input, out)
+        }
+        Mode::Check => compile_and_check(alloc, folder, out),
+        Mode::Subtype { left, right } => work_of(not_run(ask(alloc, left, right, folder, out))),
     }
+}
+
+/// Compiles and runs.
+fn compile_and_run<F: Folder, I: Source, O: Sink>(
+    alloc: Global,
+    bounds: Bounds<'_>,
+    folder: &mut F,
+    input: &mut I,
+    out: &mut O,
+) -> Worked
+    requires words { AreWords bounds.words.now }
+    ensures due { Obeyed (command.Run bounds.entry.words.now) bounds.entry.ticks bounds.entry.seed
+        (outside (folder_tells (F.faults folder.old) (F.files folder.old)) (source_tells (I.faults input.old) (I.rest input.old)) (sink_tells (O.faults out.old) (O.written out.old)))
+        (outside (folder_tells (F.faults folder.new) (F.files folder.new)) (source_tells (I.faults input.new) (I.rest input.new)) (sink_tells (O.faults out.new) (O.written out.new)))
+        result.run (source_files result.source) result.run.status }
+    ensures text { CanReport result.run.status }
+{
     match compile(alloc, folder) {
-        Ok(ready) => work_of(execute(alloc, ready, input, out)),
+        Ok(ready) => work_of(execute(alloc, ready, bounds, input, out)),
         Err(stop) => not_compiled(stop),
     }
+}
+
+/// Compiles, and says that the program is accepted. The input, whatever it tells, isn't touched.
+fn compile_and_check<F: Folder, O: Sink>(alloc: Global, folder: &mut F, out: &mut O) -> Worked
+    ensures due { (ticks seed : ℕ) (i : SourceTells) → Obeyed command.Check ticks seed
+        (outside (folder_tells (F.faults folder.old) (F.files folder.old)) i (sink_tells (O.faults out.old) (O.written out.old)))
+        (outside (folder_tells (F.faults folder.new) (F.files folder.new)) i (sink_tells (O.faults out.new) (O.written out.new)))
+        result.run (source_files result.source) result.run.status }
+    ensures text { CanReport result.run.status }
+{
+    match compile(alloc, folder) {
+        Ok(ready) => work_of(checked(ready, out)),
+        Err(stop) => not_compiled(stop),
+    }
+}
+
+/// Says that a program is accepted.
+fn checked<O: Sink>(ready: Ready, out: &mut O) -> Run
+    ensures kept { result.built ≡ Some ready.built.source }
+    ensures counts { (result.turns ≡ 0) × (result.spent ≡ 0) }
+    ensures written { IsWritten ok_bytes (sink_tells (O.faults out.old) (O.written out.old)) (sink_tells (O.faults out.new) (O.written out.new)) result.status }
+    ensures text { CanReport result.status }
+{
+    Run {
+        status: tell("ok\n", out),
+        built: Some(source_of(ready)),
+        turns: 0,
+        spent: 0,
+    }
+}
+
+/// The package that was read.
+fn source_of(ready: Ready) -> Package
+    ensures { result ≡ ready.built.source }
+{
+    let Ready { built, .. } = ready;
+    let Built { source, .. } = built;
+    source
 }
 
 /// What was done of a folder that does not compile.

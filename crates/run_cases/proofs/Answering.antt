@@ -4,10 +4,11 @@ use Rattle.std.specs.Global.{Global}
 use Rattle.std.specs.Prelude.{IfOk, IfSome, IsSome, ◌↔◌, string_bytes}
 use Rattle.bal_io.specs.Held.{HeldFolder, HeldInput, HeldOutput}
 use Rattle.bal_tree.specs.declared.package.SourceFile.{SourceFile}
+use Rattle.command_words.specs.Commands.{IsGood}
 use Rattle.bal_run.specs.Due.{StatusIsDue}
 use Rattle.bal_run.specs.Outside.{FolderTells, SinkTells, SourceTells, folder_tells, outside, source_tells}
 use Rattle.bal_run.specs.Report.{Reports}
-use Rattle.bal_run.specs.Words.{IsCommand, IsGood}
+use Rattle.bal_run.specs.Words.{IsOfFolder}
 use Rattle.bal_run.specs.declared.status.Run.{Run}
 use Rattle.bal_run.specs.declared.status.Status.{Status}
 use Rattle.run_cases.specs.Came.{IsAnswerTo, IsNamed, folder_told, nothing_told, sink_told, source_told}
@@ -42,7 +43,7 @@ answer-to call words before source out diag run folder' input' out' diag' w b i 
 -- the words, as they are passed, are those of the case, and so is the folder that is kept
 pub named : (words words' : List (String Global)) (dir dir' : Option (String Global))
     → words ≡ words' → dir' ≡ dir
-    → IfSome dir (λ name. IsCommand words (string_bytes name))
+    → IfSome dir (λ name. IsOfFolder words (string_bytes name))
     → IsSome dir ↔ IsGood words
     → IsNamed words' dir'
 named words words' dir dir' w d name good =

@@ -3,11 +3,12 @@ use Rattle.std.specs.Prelude.{◌≡◌, ◌↔◌, [], List, Option, Some, IfSo
 use Rattle.std.specs.Global.{Global}
 use Rattle.bal_io.specs.Held.{HeldFolder, HeldInput, HeldOutput}
 use Rattle.bal_tree.specs.declared.package.SourceFile.{SourceFile}
+use Rattle.command_words.specs.Commands.{IsGood}
 use Rattle.bal_run.specs.Due.{StatusIsDue}
 use Rattle.bal_run.specs.Outside.{FolderTells, SinkTells, SourceTells, folder_tells, outside, sink_tells, source_tells}
 use Rattle.bal_run.specs.Report.{Reports}
 use Rattle.bal_run.specs.Status.{exit_status}
-use Rattle.bal_run.specs.Words.{IsCommand, IsGood}
+use Rattle.bal_run.specs.Words.{IsOfFolder}
 use Rattle.bal_run.specs.declared.status.Run.{Run}
 use Rattle.bal_run.specs.declared.status.Status.{Status}
 use Rattle.run_cases.specs.declared.came.Came.{Came}
@@ -50,7 +51,7 @@ pub record IsAnswerTo (call : Call) (run : Run) (out diag : HeldOutput) : Type 0
 
 -- the folder that the words name, if they are a good command
 pub record IsNamed (words : List (String Global)) (dir : Option (String Global)) : Type 0 where
-  pub name : IfSome dir (λ name. IsCommand words (string_bytes name))
+  pub name : IfSome dir (λ name. IsOfFolder words (string_bytes name))
   pub good : IsSome dir ↔ IsGood words
 
 -- what is seen of some such answer, and the folder that the words name

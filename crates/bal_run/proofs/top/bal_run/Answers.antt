@@ -1,5 +1,6 @@
 use Rattle.bal_run.specs.Packages.{source_files}
-use Rattle.bal_run.proofs.DueStatus.{due-again}
+use Rattle.bal_run.proofs.CheckFacts.{check-told}
+use Rattle.bal_run.proofs.DueStatus.{asked-for, due-again}
 use Rattle.bal_run.proofs.QuestionFacts.{question-told}
 use Rattle.bal_run.proofs.Reporting.{diagnostics-told, told-of}
 use Rattle.bal_run.proofs.RunFacts.{run-told}
@@ -15,12 +16,16 @@ returns-clause-words g c =
     words-told _ _ _ _ _ _ (due-again _ _ _ _ _ _ c.work-run.ensures.due c.report-status.result) _ _ (told-of _ _ _ _ _ _ c.files_of.ensures c.report-status.ensures)
 
 pub returns-clause-run : goal.returns-clause-run
-returns-clause-run g c = λ good.
-    run-told _ _ _ _ _ _ (due-again _ _ _ _ _ _ c.work-run.ensures.due c.report-status.result) _ _ (told-of _ _ _ _ _ _ c.files_of.ensures c.report-status.ensures) good
+returns-clause-run g c = λ texts ticks seed asks.
+    run-told texts ticks seed _ _ _ _ _ (asked-for _ _ _ _ _ _ (due-again _ _ _ _ _ _ c.work-run.ensures.due c.report-status.result) _ ticks seed asks) _ _ (told-of _ _ _ _ _ _ c.files_of.ensures c.report-status.ensures)
+
+pub returns-clause-check : goal.returns-clause-check
+returns-clause-check g c = λ ticks seed asks.
+    check-told ticks seed _ _ _ _ _ (asked-for _ _ _ _ _ _ (due-again _ _ _ _ _ _ c.work-run.ensures.due c.report-status.result) _ ticks seed asks) _ _ (told-of _ _ _ _ _ _ c.files_of.ensures c.report-status.ensures)
 
 pub returns-clause-subtype : goal.returns-clause-subtype
-returns-clause-subtype g c = λ s t is.
-    question-told _ _ _ _ _ _ (due-again _ _ _ _ _ _ c.work-run.ensures.due c.report-status.result) _ _ (told-of _ _ _ _ _ _ c.files_of.ensures c.report-status.ensures) s t is
+returns-clause-subtype g c = λ s t ticks seed asks.
+    question-told s t _ _ _ _ _ (asked-for _ _ _ _ _ _ (due-again _ _ _ _ _ _ c.work-run.ensures.due c.report-status.result) _ ticks seed asks) _ _ (told-of _ _ _ _ _ _ c.files_of.ensures c.report-status.ensures)
 
 pub returns-clause-diag : goal.returns-clause-diag
 returns-clause-diag g c =

@@ -1,21 +1,13 @@
-use Rattle.std.proofs.Common.{refl, sym, ap, subst}
-use Rattle.bal_run.specs.declared.top.Worked.{Worked}
-use Rattle.bal_run.specs.Report.{CanReport}
-use Rattle.bal_run.proofs.QuestionEnds.{asked-so}
-use Rattle.bal_run.proofs.QuestionWords.{question-small}
-use Rattle.bal_run.proofs.TopFacts.{work-is}
+use Rattle.std.proofs.Common.{refl, subst}
+use Rattle.std.specs.Prelude.{MatchOption}
+use Rattle.command_words.specs.Commands.{IsCommand, NoCommand, request_of}
+use Rattle.bal_run.specs.declared.status.Status.TheVariants.{Words}
+use Rattle.bal_run.proofs.CommandFacts.{none-good}
+use Rattle.bal_run.proofs.TopFacts.{bad-words, work-is}
 use Rattle.bal_run.proofs.top.work.Goals as goal
 
-pub ask-requires-clause-left : goal.ask-requires-clause-left
-ask-requires-clause-left g c = (question-small c.args.words.now c.in-Some.s.now c.in-Some.t.now c.in-Some.ensures).0
-
-pub ask-requires-clause-right : goal.ask-requires-clause-right
-ask-requires-clause-right g c = (question-small c.args.words.now c.in-Some.s.now c.in-Some.t.now c.in-Some.ensures).1
-
-pub returns-in-Some-clause-due : goal.returns-in-Some-clause-due
-returns-in-Some-clause-due g c =
-    asked-so c.args.words.now _ _ c.work_of.result c.ask.result c.in-Some.s.now c.in-Some.t.now c.in-Some.ensures (c.ask.ensures.ended _ _) (refl, refl) (work-is c.not_run.result c.ask.result c.work_of.result c.not_run.ensures c.work_of.ensures)
-
-pub returns-in-Some-clause-text : goal.returns-in-Some-clause-text
-returns-in-Some-clause-text g c =
-    subst CanReport (sym (ap (λ (w : Worked). w.run.status) (work-is c.not_run.result c.ask.result c.work_of.result c.not_run.ensures c.work_of.ensures))) c.ask.ensures.text
+pub returns-in-Ok-None-clause-due : goal.returns-in-Ok-None-clause-due
+returns-in-Ok-None-clause-due g c =
+    bad-words _ _ c.work_of.result c.args.words.now
+    (none-good c.args.words.now (subst (λ o. MatchOption o (NoCommand c.args.words.now) (λ x. IsCommand c.args.words.now (request_of x))) c.in-Ok-None.field-0-is c.in-Ok-None.ensures.command))
+    (work-is c.not_run.result Words c.work_of.result c.not_run.ensures c.work_of.ensures) refl (refl, refl) refl refl
