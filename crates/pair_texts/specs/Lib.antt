@@ -1,0 +1,3 @@
+pub mod PairText
+pub mod Worked
+pub mod inner
