@@ -63,7 +63,7 @@ module _ (first : ℕ) (rows : List (Option ℕ)) where
   head-before s bound [] h b = absurd h
   head-before s bound (t ∷ ts) (e, le, more) (a, b, c) = subst (λ (n : ℕ). n < bound) (sym e) b
 
-  unique : (o : Option ℕ) (ts us : List ℕ) → IsChain first rows o ts → IsChain first rows o us → ts ≡ us
+  pub unique : (o : Option ℕ) (ts us : List ℕ) → IsChain first rows o ts → IsChain first rows o us → ts ≡ us
   unique None [] [] a b = refl
   unique None [] (u ∷ us) a b = absurd b
   unique None (t ∷ ts) us a b = absurd a
@@ -74,7 +74,7 @@ module _ (first : ℕ) (rows : List (Option ℕ)) where
       let rest = unique o ts us more (subst (λ (x : Option ℕ). IsChain first rows x us) same others) in
       λ i. (sym e ∙ f) i ∷ rest i
 
-  ended : (ts : List ℕ) → IsChain first rows None ts → ts ≡ []
+  pub ended : (ts : List ℕ) → IsChain first rows None ts → ts ≡ []
   ended [] h = refl
   ended (t ∷ ts) h = absurd h
 
@@ -90,7 +90,7 @@ module _ (first : ℕ) (rows : List (Option ℕ)) where
   size (Some s) = suc s
   size None = 0
 
-  smaller-by : (trap : ℕ) (o : Option ℕ) → first ≤ trap → Descends first rows → slice_get rows (trap - first) ≡ Some o → size o < suc trap
+  pub smaller-by : (trap : ℕ) (o : Option ℕ) → first ≤ trap → Descends first rows → slice_get rows (trap - first) ≡ Some o → size o < suc trap
   smaller-by trap None le d at = omega arith
   smaller-by trap (Some s) le d at =
       let less : s < first + (trap - first) = d (trap - first) s at in
@@ -149,7 +149,7 @@ module _ (first : ℕ) (rows : List (Option ℕ)) where
 -- ---- a place
 
 -- where more traps are closed than were opened, it is so from there on
-none-on : (code : Code) (first n d : ℕ) → traps_from code first n ≡ None → traps_from code first (n + d) ≡ None
+pub none-on : (code : Code) (first n d : ℕ) → traps_from code first n ≡ None → traps_from code first (n + d) ≡ None
 none-on code first n zero e =
     let same : n + zero ≡ n = omega arith in
     ap (traps_from code first) same ∙ e
@@ -157,7 +157,7 @@ none-on code first n (suc d) e =
     let next : n + suc d ≡ suc (n + d) = omega arith in
     ap (traps_from code first) next ∙ ap (λ o. traps_then (first + (n + d)) (command_at code (first + (n + d))) o) (none-on code first n d e)
 
-out-of : {A : Type 0} (xs : List A) (k : ℕ) → slice_get xs k ≡ None → length xs ≤ k
+pub out-of : {A : Type 0} (xs : List A) (k : ℕ) → slice_get xs k ≡ None → length xs ≤ k
 out-of [] k e = omega arith
 out-of (x ∷ xs) zero e = absurd (let bad : Some x ≡ None = e in let bot : ⊥ = cc in bot)
 out-of (x ∷ xs) (suc k) e =

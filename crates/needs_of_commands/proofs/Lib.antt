@@ -1,9 +1,9 @@
 mod Commanded
-mod Descent
+pub mod Descent
 mod MayAsk
 mod MayPlaces
 mod MayQuestions
 mod MayRows
-mod Numbered
+pub mod Numbered
 mod Parts
 mod PassedDefined

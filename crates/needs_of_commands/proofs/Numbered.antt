@@ -18,7 +18,7 @@ use Rattle.needs_of_commands.specs.inner.Counted.{ends_so, gives_so, params_in, 
 
 module _ {X : Type 0} (g : Operation → X) (o : Operation) where
   -- what it is of a command's operation
-  abbrev of_command : X → Option Command → X
+  abbrev pub of_command : X → Option Command → X
   of_command d (Some (Do p)) = g p
   of_command d (Some (GoTo to)) = d
   of_command d (Some (GoToIfNot to)) = d
@@ -32,18 +32,18 @@ module _ {X : Type 0} (g : Operation → X) (o : Operation) where
   no-op : {A : Type 0} → None ≡ Some (Do o) → A
   no-op e = absurd (let bad : None ≡ Some (Do o) = e in let bot : ⊥ = cc in bot)
 
-  mapped : {A : Type 0} (f : A → Operation) (x : X) → ((a : A) → x ≡ g (f a)) → (q : Option A) → option_map (λ a. Do (f a)) q ≡ Some (Do o) → x ≡ g o
+  pub mapped : {A : Type 0} (f : A → Operation) (x : X) → ((a : A) → x ≡ g (f a)) → (q : Option A) → option_map (λ a. Do (f a)) q ≡ Some (Do o) → x ≡ g o
   mapped f x all (Some a) e = all a ∙ same-op (f a) e
   mapped f x all None e = no-op e
 
-  named : (f : Text → Operation) (x : X) → ((a : Text) → x ≡ g (f a)) → (q : Option Constant) → of_name f q ≡ Some (Do o) → x ≡ g o
+  pub named : (f : Text → Operation) (x : X) → ((a : Text) → x ≡ g (f a)) → (q : Option Constant) → of_name f q ≡ Some (Do o) → x ≡ g o
   named f x all (Some (Str name)) e = all name ∙ same-op (f name) e
   named f x all (Some Nil) e = no-op e
   named f x all (Some (Truth b)) e = no-op e
   named f x all (Some (Int i)) e = no-op e
   named f x all None e = no-op e
 
-  called : (x : X) (atom count : ℕ) → ((call : LibraryCall) (a : Option ℕ) → x ≡ g (op.Library call a count)) → (q : Option LibraryCall) → of_call atom count q ≡ Some (Do o) → x ≡ g o
+  pub called : (x : X) (atom count : ℕ) → ((call : LibraryCall) (a : Option ℕ) → x ≡ g (op.Library call a count)) → (q : Option LibraryCall) → of_call atom count q ≡ Some (Do o) → x ≡ g o
   called x atom count all None e = no-op e
   called x atom count all (Some call) e = by (makes_list call) (atom == 0) e
     where

@@ -23,7 +23,7 @@ fn begins_below<'c>(found: &mut Found<'c>, types: &'c [SemType], below: &'c [Sem
 }
 
 /// The innermost trap in whose reach a place is, by its row. Nothing where there is no row.
-fn row_at(rows: &[Option<u32>], first: u32, place: u32) -> Option<Option<u32>>
+pub fn row_at(rows: &[Option<u32>], first: u32, place: u32) -> Option<Option<u32>>
     requires { first ≤ place }
     ensures { result ≡ slice_get rows.now (place - first) }
 {
@@ -31,7 +31,7 @@ fn row_at(rows: &[Option<u32>], first: u32, place: u32) -> Option<Option<u32>>
 }
 
 /// The innermost trap in whose reach the trap's own place is.
-fn outside(rows: &[Option<u32>], first: u32, trap: u32) -> Option<u32>
+pub fn outside(rows: &[Option<u32>], first: u32, trap: u32) -> Option<u32>
     requires { first ≤ trap }
     ensures { (o : Option ℕ) → slice_get rows.now (trap - first) ≡ Some o → result ≡ o }
 {

@@ -5,7 +5,8 @@
 //! - [`Always`], [`always_lent`]: what the questions of all places name that stands in no code; [`Loan`], [`loan_at`]: what those of one
 //!   place do; [`lend`]: both, lent.
 //! - [`command`]: what the instruction at a place needs: its operation by its typing row, the next place, and where it may go on.
-//! - [`traps`]: what the traps in whose reach a place is need of its types.
+//! - [`instr_at`], [`map_at`], [`stack_at`]: what stands at a place; [`row_at`], [`outside`]: the traps in whose reach it is, by rows.
+//! - [`traps`]: what they need of its types.
 //! - [`place_needs`]: both.
 //! - [`traps_stand_before`], [`questions_may_be_asked`], [`place_needs_may_be_asked`]: laws of traps and of questions.
 //!
@@ -22,8 +23,9 @@ mod laws;
 mod loans;
 mod stacks;
 
-pub use chains::traps;
+pub use chains::{outside, row_at, traps};
 pub use commands::{command, place_needs};
 pub use counts::{ends, gives, operand_count};
 pub use laws::{place_needs_may_be_asked, questions_may_be_asked, traps_stand_before};
 pub use loans::{Always, Loan, always_lent, lend, loan_at};
+pub use stacks::{instr_at, map_at, stack_at};

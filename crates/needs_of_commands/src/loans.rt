@@ -85,7 +85,7 @@ pub fn loan_at<'c>(alloc: Global, code: &'c Code, place: u32) -> Result<Loan<'c>
 }
 
 /// The pairs, where there are some.
-fn pairs_of<'c>(pairs: &'c Option<Vec<Pair<'c>>>) -> Option<&'c [Pair<'c>]>
+fn pairs_of<'l, 'c: 'l>(pairs: &'l Option<Vec<Pair<'c>>>) -> Option<&'l [Pair<'l>]>
     ensures { option_copied result ≡ option_map (λ v. v.items) pairs.now }
 {
     match pairs {
@@ -94,8 +94,9 @@ fn pairs_of<'c>(pairs: &'c Option<Vec<Pair<'c>>>) -> Option<&'c [Pair<'c>]>
     }
 }
 
-/// What the questions of a place name, with what those of all places do.
-pub fn lend<'c>(always: &'c Always, loan: &'c Loan<'c>) -> Lent<'c>
+/// What the questions of a place name, with what those of all places do, for as long as both are kept: what they have of the code may
+/// live longer.
+pub fn lend<'l, 'c: 'l>(always: &'l Always, loan: &'l Loan<'c>) -> Lent<'l>
     ensures { (code : AnyCode) (place : ℕ) → IsAlways always.now → IsLoanAt code place loan.now → AreLentAt code place result }
 {
     Lent {

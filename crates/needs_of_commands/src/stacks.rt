@@ -9,7 +9,7 @@ use stack_code::{Code, Instr, StackMap};
 use type_model::SemType;
 
 /// The instruction at a place.
-pub(crate) fn instr_at<'c>(code: &'c Code, place: u32) -> Option<&'c Instr>
+pub fn instr_at<'c>(code: &'c Code, place: u32) -> Option<&'c Instr>
     ensures { option_copied result ≡ slice_get code.now.instrs place }
 {
     code.instrs.as_slice().get(place as usize)
@@ -26,14 +26,14 @@ fn types_of<'c>(map: Option<&'c StackMap>) -> &'c [SemType]
 }
 
 /// The map at a place.
-fn map_at<'c>(code: &'c Code, place: usize) -> Option<&'c StackMap>
+pub fn map_at<'c>(code: &'c Code, place: usize) -> Option<&'c StackMap>
     ensures { option_copied result ≡ slice_get code.now.maps place }
 {
     code.maps.as_slice().get(place)
 }
 
 /// The types at a place, and none where there is no such place.
-pub(crate) fn stack_at<'c>(code: &'c Code, place: usize) -> &'c [SemType]
+pub fn stack_at<'c>(code: &'c Code, place: usize) -> &'c [SemType]
     ensures { result.now ≡ types_at code.now place }
 {
     types_of(map_at(code, place))

@@ -10,8 +10,12 @@ use Rattle.type_model.specs.declared.basic.Ty.{Ty}
 use Rattle.type_model.specs.Calls.{KeepsTypes}
 use Rattle.type_model.specs.Defined.{IsDefined}
 use Rattle.type_model.specs.Inclusion.{HasExactly}
+use Rattle.stack_code.specs.declared.code.Code.{Code}
+use Rattle.stack_code.specs.declared.code.Unit.{Unit as CodeUnit}
+use Rattle.stack_code.specs.Places.{Station}
 use Rattle.code_needs.specs.Combining.{AreMet, Needs, ◌&◌, nothing}
 use Rattle.code_needs.specs.Needs.{IsMet, Need, Below, Within, Has, HasConstant, HasBoth, HasMade, PartIn, PartHas, ItemIn, ItemHas, MemberIn, MemberHas, HasField, Ordered, Applies, Gives, GivesFuture, FitsFields, Names, HasErrorsOf}
+use Rattle.code_needs.specs.PlaceNeeds.{place_needs}
 use Rattle.code_verifier.specs.declared.kind_types.KnownTypes.{KnownTypes}
 use Rattle.code_verifier.specs.Asked.{IsAgainst}
 use Rattle.code_verifier.specs.KindSets.{AreKnown}
@@ -20,8 +24,8 @@ use Rattle.need_questions.specs.declared.question.NeedQuestion.{NeedQuestion}
 use Rattle.need_questions.specs.NeedsAsked.{AnswersNeeds, AreAnswered, IsAskableNeed, NeedsMet, needs_of}
 use Rattle.needs_of_rows.specs.declared.found.Found.{Found}
 use Rattle.needs_of_rows.specs.Finding.{Finds, needs_in}
-use Rattle.needs_of_commands.specs.Askable.{MayBeAsked}
-use Rattle.needs_of_commands.specs.Laws.{QuestionsMayBeAsked}
+use Rattle.needs_of_commands.specs.Askable.{HasDefined, MakesCallable, MayBeAsked}
+use Rattle.needs_of_commands.specs.Laws.{PlaceNeedsMayBeAsked, QuestionsMayBeAsked}
 
 -- ---- what was found
 
@@ -115,6 +119,10 @@ module _ (env new : List AtomDef) (keeps : KeepsTypes env new) where
   pub askable : QuestionsMayBeAsked → (qs : List NeedQuestion) → All (MayBeAsked env) (flat_map needs_of qs) → All (IsAskableNeed new) qs
   askable law qs h = law new qs (λ k need lt. (defined-kept (get_or (flat_map needs_of qs) k need) (h k need lt).0, (h k need lt).1))
 
+  pub may-kept : (needs : Needs) → IfSome needs (All (MayBeAsked env)) → IfSome needs (All (MayBeAsked new))
+  may-kept (Some ns) h = λ k need lt. (defined-kept (get_or ns k need) (h k need lt).0, (h k need lt).1)
+  may-kept None h = tt
+
   -- ---- what is answered
 
   module _ (kept : AnswersKept) (qs : List NeedQuestion) (may : All (MayBeAsked env) (flat_map needs_of qs)) where
@@ -144,6 +152,13 @@ module _ (env new : List AtomDef) (keeps : KeepsTypes env new) where
         let there = is-there (flat_map needs_of qs) i need is in
         let back = (kept env new keeps need (All-contains (MayBeAsked env) (flat_map needs_of qs) need may there).0 (No x)).1 (against, unmet) in
         (need, there, back.0, back.1)
+
+-- ---- the needs of a place
+
+pub may-here : PlaceNeedsMayBeAsked → (code : Code) (u : CodeUnit) (station : Station) (p : ℕ) → HasDefined code → (n : ℕ) × (slice_get code.units n ≡ Some u) → MakesCallable code p → (needs : Needs) → needs ≡ place_needs code u station p
+    → IfSome needs (All (MayBeAsked code.atoms))
+may-here law code u station p defined (n, there) callable (Some ns) e = law code n u station p ns defined there callable (sym e)
+may-here law code u station p defined there callable None e = tt
 
 -- ---- types that stay as they are
 

@@ -1,3 +1,3 @@
-mod Asking
+pub mod Asking
 mod Deciding
 mod Telling

@@ -1,0 +1,5 @@
+mod Carried
+mod Counted
+mod Rowing
+mod Walking
+mod Whole

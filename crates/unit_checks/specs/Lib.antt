@@ -1,0 +1,4 @@
+pub mod Calling
+pub mod inner
+pub mod Ready
+pub mod Telling
