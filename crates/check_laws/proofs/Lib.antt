@@ -11,7 +11,7 @@ mod Lines
 mod Setting
 mod Stacks
 mod Statements
-mod Still
+pub mod Still
 mod StmtLaw
 mod StmtLines
 mod StmtTrees

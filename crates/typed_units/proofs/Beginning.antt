@@ -11,7 +11,7 @@ use Rattle.bal_tree.specs.declared.def.Worker.{Worker}
 use Rattle.bal_tree.specs.declared.name.Word.{Word}
 use Rattle.check_words.specs.Actions.{known_result, result_of}
 use Rattle.check_words.specs.Calls.{Capture, captures, closes_unit, new_number}
-use Rattle.check_words.specs.State.{BlockAtWork, IsLast, State, UnitAtWork, all_but}
+use Rattle.check_words.specs.State.{BlockAtWork, IsLast, Site, State, UnitAtWork, all_but}
 use Rattle.check_words.specs.Units.{begins_worker, ends_by, ends_worker, in_worker, is_worker_new, typed_worker, worker_unit}
 use Rattle.check_words.specs.Words.{by_handles, done, fails, unless}
 use Rattle.type_model.specs.Places.{is_same_text}
@@ -22,6 +22,7 @@ use Rattle.type_model.specs.Calls.{Asked}
 use Rattle.type_model.specs.declared.answers.TypeLimit.{TypeLimit}
 use Rattle.type_model.specs.declared.atoms.AtomDef.{AtomDef}
 use Rattle.type_model.specs.declared.basic.SemType.{SemType}
+use Rattle.type_model.specs.declared.basic.Ty.{Ty}
 use Rattle.typed_functions.proofs.Begun.{AreIn, by-handles}
 use Rattle.typed_functions.proofs.Captures.{InSlots}
 use Rattle.typed_needs.proofs.Placed.{get-behind}
@@ -58,6 +59,16 @@ known-leaves None = all-some _
 result-leaves : (number : ℕ) → LeavesAll (result_of number)
 result-leaves number = all-then _ _ (all-some _) (λ site. known-leaves (slice_get site.results number))
 
+known-told : (r : Option (Result Shared Fault)) (t : Shared) (old new : State) → known_result r old (Gives t) new → r ≡ Some (Ok t)
+unfolding gives_some refuses
+known-told (Some (Ok u)) t old new (is, e) = ap (λ (x : Shared). Some (Ok x)) (sym is)
+known-told (Some (Err fault)) t old new x = absurd x
+known-told None t old new (x, e) = absurd x
+
+result-told : (number : ℕ) (old new : State) (t : Shared) → result_of number old (Gives t) new → slice_get old.site.results number ≡ Some (Ok t)
+unfolding ◌▷◌ gives_some
+result-told number old new t (site, a, (is, e), known) = subst (λ (x : Site). slice_get x.results number ≡ Some (Ok t)) is (known-told (slice_get site.results number) t a new known)
+
 pub ends-leaves : (passes : List AtomDef → Asked → TypeLimit → Type 0) (ends : Bool) (u : UnitAtWork) (close : Place) → LeavesAll (ends_by passes ends u close)
 ends-leaves passes false u close = all-some _
 ends-leaves passes true u close =
@@ -88,6 +99,10 @@ pub record WorkerBegun (place : Surroundings) (number : ℕ) (old new : State) :
   pub unit : UnitAtWork
   pub units : new.units ≡ old.units ++ unit ∷ []
   pub worker : unit.worker ≡ number
+  -- its result, as it is told
+  pub result : Shared
+  pub told : slice_get old.site.results number ≡ Some (Ok result)
+  pub gives : sem_of unit.result ≡ sem_of result
   pub stored : AreIn place unit
   pub ways : new.ways ≡ None
   pub atoms : new.atoms ≡ old.atoms
@@ -96,8 +111,11 @@ pub record WorkerBegun (place : Surroundings) (number : ℕ) (old new : State) :
   pub blocks : new.blocks ≡ old.blocks
   pub matches : new.matches ≡ old.matches
   pub workers : new.done.workers ≡ old.done.workers
+  pub functions : new.done.functions ≡ old.done.functions
+  pub initialisers : new.done.initialisers ≡ old.done.initialisers
+  pub variables : new.done.variables ≡ old.done.variables
 
-number-taken : (n : ℕ) (old new : State) → new_number old (Gives n) new → (k : ℕ) × (new ≡ record old { done = record old.done { next_unit = k } })
+pub number-taken : (n : ℕ) (old new : State) → new_number old (Gives n) new → (k : ℕ) × (new ≡ record old { done = record old.done { next_unit = k } })
 unfolding ◌▷◌ gives_some does
 number-taken n old new (m, a, (is, ea), (u, b, eb, (same, ec))) =
     (suc m, ec ∙ eb ∙ ap (λ (s : State). record s { done = record s.done { next_unit = suc m } }) ea)
@@ -116,6 +134,9 @@ worker-begun place w number uses old new (u0, s1, fresh, (result, s2, resulted, 
       unit = v;
       units = ap (λ (s : State). s.units) all;
       worker = same.worker;
+      result = result;
+      told = subst (λ (s : State). slice_get s.site.results number ≡ Some (Ok result)) e1 (result-told number s1 s2 result resulted);
+      gives = ap (λ (t : Ty). t.sem) same.result;
       stored = by-handles place unit v same (worker-in place [] cs);
       ways = ap (λ (s : State). s.ways) all;
       atoms = ap (λ (s : State). s.atoms) all;
@@ -124,6 +145,9 @@ worker-begun place w number uses old new (u0, s1, fresh, (result, s2, resulted, 
       blocks = ap (λ (s : State). s.blocks) all;
       matches = ap (λ (s : State). s.matches) all;
       workers = ap (λ (s : State). s.done.workers) all;
+      functions = ap (λ (s : State). s.done.functions) all;
+      initialisers = ap (λ (s : State). s.done.initialisers) all;
+      variables = ap (λ (s : State). s.done.variables) all;
     }
 
 -- ---- where it ends
@@ -138,6 +162,9 @@ pub record WorkerEnded (passes : List AtomDef → Asked → TypeLimit → Type 0
   pub is : typed_worker w unit unit.flow.reached worker
   pub stmts : worker.stmts.items ≡ block.stmts
   pub workers : new.done.workers ≡ old.done.workers ++ worker ∷ []
+  pub functions : new.done.functions ≡ old.done.functions
+  pub initialisers : new.done.initialisers ≡ old.done.initialisers
+  pub variables : new.done.variables ≡ old.done.variables
   pub atoms : new.atoms ≡ old.atoms
   pub found : new.found ≡ old.found
   pub blocks : new.blocks ≡ all_but 1 old.blocks
@@ -175,6 +202,9 @@ worker-ended passes w close old new (u, s1, closed, (v, s2, ended, (b, s3, block
       is = is;
       stmts = stmts;
       workers = ap (λ (s : State). s.done.workers) all;
+      functions = ap (λ (s : State). s.done.functions) all;
+      initialisers = ap (λ (s : State). s.done.initialisers) all;
+      variables = ap (λ (s : State). s.done.variables) all;
       atoms = ap (λ (s : State). s.atoms) all;
       found = ap (λ (s : State). s.found) all;
       blocks = ap (λ (s : State). s.blocks) all;

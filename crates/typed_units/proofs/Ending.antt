@@ -4,7 +4,7 @@ use Rattle.bal_base.specs.declared.place.Place.{Place}
 use Rattle.bal_tree.specs.declared.def.FunctionDef.{FunctionDef}
 use Rattle.check_words.specs.Calls.{typed_unit}
 use Rattle.check_words.specs.State.{BlockAtWork, IsLast, State, UnitAtWork, all_but}
-use Rattle.check_words.specs.Units.{IsBlockBody, ends_by, ends_function}
+use Rattle.check_words.specs.Units.{IsBlockBody, ends_by, ends_function, outside_functions}
 use Rattle.checks.specs.Checks.{Gives, gives_some, ◌▷◌}
 use Rattle.needs.specs.Needs.{does}
 use Rattle.type_model.specs.Calls.{Asked}
@@ -25,6 +25,12 @@ pub record FunctionEnded (passes : List AtomDef → Asked → TypeLimit → Type
   pub rest : BlockAtWork
   pub blocks : old.blocks ≡ (kept ++ initial ∷ []) ++ rest ∷ []
   pub workers : List TypedWorker
+  pub workers_are : workers ≡ old.done.workers
+  pub none_left : new.done.workers ≡ []
+  pub initialisers : new.done.initialisers ≡ old.done.initialisers
+  pub variables : new.done.variables ≡ old.done.variables
+  pub site : new.site ≡ outside_functions old.site
+  pub units_left : new.units ≡ all_but 1 old.units
   pub function : TypedFunction
   pub unit_is : function.unit ≡ typed_unit unit unit.arrow unit.future
   pub body : IsBlockBody passes workers unit.flow.reached close initial.stmts rest.stmts function.body
@@ -64,6 +70,12 @@ function-ended passes d close old new
       rest = rest;
       blocks = outer ∙ ap (λ bs. bs ++ rest ∷ []) front;
       workers = workers;
+      workers_are = wis ∙ ap (λ (s : State). s.done.workers) to-4;
+      initialisers = ap (λ (s : State). s.done.initialisers) e9 ∙ ap (λ (s : State). s.done.initialisers) e8 ∙ ap (λ (s : State). s.done.initialisers) (to-7 ∙ to-4);
+      variables = ap (λ (s : State). s.done.variables) e9 ∙ ap (λ (s : State). s.done.variables) e8 ∙ ap (λ (s : State). s.done.variables) (to-7 ∙ to-4);
+      site = ap (λ (s : State). s.site) e9 ∙ ap (λ (s : State). outside_functions s.site) e8 ∙ ap (λ (s : State). outside_functions s.site) (to-7 ∙ to-4);
+      none_left = ap (λ (s : State). s.done.workers) e9 ∙ ap (λ (s : State). s.done.workers) e8;
+      units_left = ap (λ (s : State). s.units) e9 ∙ ap (λ (s : State). s.units) e8 ∙ ap (λ (s : State). s.units) (to-7 ∙ to-4);
       function = f;
       unit_is = fis.unit;
       body = body;

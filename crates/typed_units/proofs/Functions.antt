@@ -71,7 +71,7 @@ use Rattle.typed_units.specs.Peers.{ActsOnPeers}
 -- ---- workers that come between
 
 -- the unit at hand, the parts, the blocks and the matches are as they were
-record Beside (old new : State) : Type 0 where
+pub record Beside (old new : State) : Type 0 where
   pub stays : StaysIn old new
   pub units : new.units ≡ old.units
   pub found : new.found ≡ old.found
@@ -79,10 +79,10 @@ record Beside (old new : State) : Type 0 where
   pub matches : new.matches ≡ old.matches
   pub kept : (place : Surroundings) → IsKept place old → IsKept place new
 
-beside-itself : (s : State) → Beside s s
+pub beside-itself : (s : State) → Beside s s
 beside-itself s = record { stays = in-same s; units = refl; found = refl; blocks = refl; matches = refl; kept = λ p h. h }
 
-beside-on : (r s t : State) → Beside r s → Beside s t → Beside r t
+pub beside-on : (r s t : State) → Beside r s → Beside s t → Beside r t
 beside-on r s t f g =
     record {
       stays = in-on r s t f.stays g.stays;
@@ -97,7 +97,7 @@ module _ (passes : List AtomDef → Asked → TypeLimit → Type 0) (positions :
   abbrev Besides : Listed Need → Type 0
   Besides needs = (old new : State) → HasUnit old → Run passes names env needs old new → Beside old new
 
-  worker-beside : (x : Worker) (number : ℕ) → Besides (worker_needs number x)
+  pub worker-beside : (x : Worker) (number : ℕ) → Besides (worker_needs number x)
   worker-beside x number old new unit run =
       let begins : Listed Need = one (BeginsWorker x number (members (used_in_block x.body))) in
       let body : Listed Need = (read_block x.body).needs (in_block false) in
@@ -134,7 +134,7 @@ module _ (passes : List AtomDef → Asked → TypeLimit → Type 0) (positions :
   unfolding gives_some
   none-beside old new unit (is, same) = subst (λ (s : State). Beside old s) (sym same) (beside-itself old)
 
-  all-beside : (xs : List Worker) → Besides (numbered worker_needs 1 xs)
+  pub all-beside : (xs : List Worker) → Besides (numbered worker_needs 1 xs)
   all-beside xs = workers-beside xs 1 nothing none-beside
 
 -- ---- the body
@@ -167,7 +167,7 @@ module _ (made : MadeStatementsAreTyped) (bodies : AllBodiesMakeTyped) (passes :
     OnWay = IsOnTheWay env inside
 
     -- a part of a body: a block that begins, with its statements
-    record Part (old new : State) : Type 0 where
+    pub record Part (old new : State) : Type 0 where
       pub first : State
       pub block : BlockAtWork
       pub begun : first.blocks ≡ old.blocks ++ block ∷ []
@@ -179,7 +179,7 @@ module _ (made : MadeStatementsAreTyped) (bodies : AllBodiesMakeTyped) (passes :
       pub back : OnWay new → OnWay old
       pub comes : Can old → IsKept inside old → OnWay new → IsKept inside new × AreDone env inside false now.stmts
 
-    part : (ss : List Stmt) (w : Within) → w.loop ≡ false → All (Contains actions) (members (actions_in_stmts ss)) → (old new : State) → HasUnit old
+    pub part : (ss : List Stmt) (w : Within) → w.loop ≡ false → All (Contains actions) (members (actions_in_stmts ss)) → (old new : State) → HasUnit old
         → Run passes names env (one BeginsBlock & stmts_needs w (read_stmts ss)) old new → Part old new
     part ss w outside h old new unit run =
         let (a, rb, rs) = parted passes names env (one BeginsBlock) (stmts_needs w (read_stmts ss)) old new run in
@@ -367,7 +367,7 @@ module _ (made : MadeStatementsAreTyped) (bodies : AllBodiesMakeTyped) (passes :
               (All-append (IsTypedUnit env place) (units_of_stmts made-of.first.items) (units_of_stmts made-of.second.items) typed-first.units typed-second.units);
         }
 
-  join-runs : (p q : Listed Need) (s m t : State) → Run passes names env p s m → Run passes names env q m t → Run passes names env (p & q) s t
+  pub join-runs : (p q : Listed Need) (s m t : State) → Run passes names env p s m → Run passes names env q m t → Run passes names env (p & q) s t
   unfolding ◌▷◌
   join-runs p q s m t x y = (tt, m, x, y)
 

@@ -1,7 +1,7 @@
-mod Beginning
-mod Bodies
-mod Ending
-mod Functions
-mod Parts
-mod ValueBodies
-mod Workers
+pub mod Beginning
+pub mod Bodies
+pub mod Ending
+pub mod Functions
+pub mod Parts
+pub mod ValueBodies
+pub mod Workers

@@ -10,7 +10,7 @@ use Rattle.check_laws.specs.StmtLaws.{HasUnit}
 use Rattle.check_words.proofs.Standing.{last-has}
 use Rattle.check_words.specs.Calls.{typed_unit}
 use Rattle.check_words.specs.State.{IsLast, Site, State, UnitAtWork, all_but}
-use Rattle.check_words.specs.Units.{IsValueBody, ends_value_function}
+use Rattle.check_words.specs.Units.{IsValueBody, ends_value_function, outside_functions}
 use Rattle.checks.specs.Checks.{Gives, gives_some, ◌▷◌}
 use Rattle.descriptors.specs.declared.names.Names.{Names}
 use Rattle.expr_needs.specs.ExprTable.{as_wanted, read_expr}
@@ -58,7 +58,7 @@ use Rattle.typed_units.proofs.Parts.{ValueBodyIsTyped}
 use Rattle.typed_units.specs.Functions.{ComesToFunction, HasFunctions, inside_of, unit_of_function, units_in_body}
 
 -- the unit and the last part are gone, and a function is made of them
-record ValueEnded (d : FunctionDef) (old new : State) : Type 0 where
+pub record ValueEnded (d : FunctionDef) (old new : State) : Type 0 where
   pub unit : UnitAtWork
   pub at_hand : IsLast old.units unit
   pub value : TypedExpr
@@ -67,10 +67,15 @@ record ValueEnded (d : FunctionDef) (old new : State) : Type 0 where
   pub unit_is : function.unit ≡ typed_unit unit unit.arrow unit.future
   pub body : IsValueBody value function.body
   pub functions : new.done.functions ≡ old.done.functions ++ function ∷ []
+  pub none_left : new.done.workers ≡ []
+  pub initialisers : new.done.initialisers ≡ old.done.initialisers
+  pub variables : new.done.variables ≡ old.done.variables
+  pub site : new.site ≡ outside_functions old.site
+  pub units_left : new.units ≡ all_but 1 old.units
   pub atoms : new.atoms ≡ old.atoms
   pub found : new.found ≡ all_but 1 old.found
 
-value-ended : (d : FunctionDef) (old new : State) → ends_value_function d old (Gives tt) new → ValueEnded d old new
+pub value-ended : (d : FunctionDef) (old new : State) → ends_value_function d old (Gives tt) new → ValueEnded d old new
 unfolding ◌▷◌ gives_some does
 value-ended d old new (value, s1, taken, (v, s2, dropped, (u, s3, closed, (site, s4, (sis, e4), (f, s5, ((fis, body), e5), (x, s6, e6, e7)))))) =
     let (last, e1) = part-taken value old s1 taken in
@@ -86,6 +91,14 @@ value-ended d old new (value, s1, taken, (v, s2, dropped, (u, s3, closed, (site,
       function = f;
       unit_is = fis.unit;
       body = body;
+      initialisers = ap (λ (s : State). s.done.initialisers) e7 ∙ ap (λ (s : State). s.done.initialisers) e6 ∙ ap (λ (s : State). s.done.initialisers) (to-5 ∙ e3)
+          ∙ ap (λ (s : State). s.done.initialisers) e2 ∙ ap (λ (s : State). s.done.initialisers) e1;
+      variables = ap (λ (s : State). s.done.variables) e7 ∙ ap (λ (s : State). s.done.variables) e6 ∙ ap (λ (s : State). s.done.variables) (to-5 ∙ e3)
+          ∙ ap (λ (s : State). s.done.variables) e2 ∙ ap (λ (s : State). s.done.variables) e1;
+      site = ap (λ (s : State). s.site) e7 ∙ ap (λ (s : State). outside_functions s.site) e6 ∙ ap (λ (s : State). outside_functions s.site) (to-5 ∙ e3)
+          ∙ ap (λ (s : State). outside_functions s.site) e2 ∙ ap (λ (s : State). outside_functions s.site) e1;
+      none_left = ap (λ (s : State). s.done.workers) e7 ∙ ap (λ (s : State). s.done.workers) e6;
+      units_left = ap (λ (s : State). s.units) e7 ∙ ap (λ (s : State). s.units) e6 ∙ ap (λ (s : State). s.units) (to-5 ∙ e3) ∙ ap (λ us. all_but 1 us) units-2;
       functions = ap (λ (s : State). s.done.functions) e7 ∙ ap (λ (s : State). s.done.functions) e6
           ∙ ap (λ (s : State). s.done.functions ++ f ∷ []) (to-5 ∙ e3) ∙ ap (λ (s : State). s.done.functions ++ f ∷ []) e2 ∙ ap (λ (s : State). s.done.functions ++ f ∷ []) e1;
       atoms = ap (λ (s : State). s.atoms) e7 ∙ ap (λ (s : State). s.atoms) e6 ∙ ap (λ (s : State). s.atoms) (to-5 ∙ e3) ∙ ap (λ (s : State). s.atoms) e2 ∙ ap (λ (s : State). s.atoms) e1;

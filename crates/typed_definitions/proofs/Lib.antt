@@ -1,0 +1,10 @@
+pub mod Begun
+pub mod InitialValues
+pub mod Initials
+pub mod Joined
+pub mod Outline
+pub mod Parameters
+pub mod Results
+pub mod Values
+pub mod Whole
+pub mod Workers
