@@ -11,7 +11,7 @@ use Rattle.bal_tree.specs.ExprRules.{expr_facts}
 use Rattle.bal_tree.specs.Spells.{Heads, Spells, onto, kinds_of}
 use Rattle.bal_tree.proofs.Spelling.{spells-onto}
 use Rattle.parse_types.specs.Reaches.{colon_word}
-use Rattle.parse_types.specs.Tokens.{Kinds, take_word, take_key}
+use Rattle.token_steps.specs.Tokens.{Kinds, take_word, take_key}
 use Rattle.parse_types.proofs.Readings.{heads-kinds}
 use Rattle.parse_expr.specs.Reaches.{take_function, trap_or, function_or, level, loosest, up_to}
 use Rattle.parse_expr.proofs.Law.{up_to-level}

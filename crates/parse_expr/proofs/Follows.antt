@@ -9,7 +9,7 @@ use Rattle.bal_base.specs.declared.token.Sign.TheVariants.{Question, Colon, Open
 use Rattle.bal_tree.specs.Pieces.{Pieces}
 use Rattle.bal_tree.specs.Spells.{onto}
 use Rattle.parse_types.specs.Loops.{◌>>=◌}
-use Rattle.parse_types.specs.Tokens.{Kinds, take_sign, take_key, take_word}
+use Rattle.token_steps.specs.Tokens.{Kinds, take_sign, take_key, take_word}
 use Rattle.parse_types.specs.Reaches.{colon_word}
 use Rattle.parse_types.proofs.Follows.{Stays as TypeStays, Ends as TypeStops, Closes as TypeCloses, closes-stay}
 use Rattle.parse_expr.specs.Operators.{is_chain}

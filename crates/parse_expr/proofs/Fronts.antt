@@ -12,10 +12,10 @@ use Rattle.bal_tree.specs.ExprRules.{name_begins_with_word}
 use Rattle.bal_tree.specs.NamePieces.{name_pieces}
 use Rattle.bal_tree.specs.Spells.{onto, kinds_of}
 use Rattle.bal_tree.specs.TypeRules.{name_fits}
-use Rattle.parse_types.specs.declared.steps.Missing.{Missing}
+use Rattle.token_steps.specs.declared.steps.Missing.{Missing}
 use Rattle.parse_types.specs.Reaches.{name}
 use Rattle.parse_types.specs.Starts.{Leaves, IfMissing}
-use Rattle.parse_types.specs.Tokens.{Kinds}
+use Rattle.token_steps.specs.Tokens.{Kinds}
 use Rattle.parse_types.proofs.Readings.{length-kinds}
 use Rattle.parse_expr.specs.Reaches.{primary, inside, params}
 use Rattle.parse_expr.specs.Starts.{StartsParams, StartsName}

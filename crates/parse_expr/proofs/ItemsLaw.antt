@@ -9,7 +9,7 @@ use Rattle.bal_base.specs.declared.token.Sign.TheVariants.{Comma}
 use Rattle.bal_tree.specs.Pieces.{Pieces, ◌&◌, sign, separated}
 use Rattle.bal_tree.specs.Spells.{onto}
 use Rattle.parse_types.specs.Loops.{◌>>=◌, or_else, many}
-use Rattle.parse_types.specs.Tokens.{Kinds, take_sign}
+use Rattle.token_steps.specs.Tokens.{Kinds, take_sign}
 use Rattle.parse_types.proofs.Going.{many-stops, many-goes, many-less}
 use Rattle.parse_types.proofs.Onto.{onto-longer}
 use Rattle.parse_types.proofs.Taking.{take_sign-less, or_else-less}

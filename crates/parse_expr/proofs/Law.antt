@@ -11,7 +11,7 @@ use Rattle.bal_tree.specs.ExprRules.{ExprFacts}
 use Rattle.bal_tree.specs.Levels.{rank}
 use Rattle.bal_tree.specs.Pieces.{Pieces}
 use Rattle.bal_tree.specs.Spells.{onto}
-use Rattle.parse_types.specs.Tokens.{Kinds, take_sign, take_key, take_word}
+use Rattle.token_steps.specs.Tokens.{Kinds, take_sign, take_key, take_word}
 use Rattle.parse_types.specs.Reaches.{colon_word}
 use Rattle.parse_types.proofs.Follows.{closes-stay}
 use Rattle.parse_types.proofs.Onto.{onto-longer}

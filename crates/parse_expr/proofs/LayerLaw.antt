@@ -22,7 +22,7 @@ use Rattle.bal_tree.specs.TypePieces.{type_pieces, in_angles as angle_pieces}
 use Rattle.bal_tree.specs.TypeRules.{type_is_formed, type_end, params_are_formed}
 use Rattle.parse_types.specs.Loops.{◌>>=◌}
 use Rattle.parse_types.specs.Reaches.{colon_word}
-use Rattle.parse_types.specs.Tokens.{Kinds, take_sign, take_word}
+use Rattle.token_steps.specs.Tokens.{Kinds, take_sign, take_word}
 use Rattle.parse_types.proofs.Onto.{onto-longer}
 use Rattle.parse_types.proofs.PrimaryLaw.{greater-closes}
 use Rattle.parse_expr.specs.Operators.{is_chain}

@@ -5,7 +5,7 @@ use Rattle.bal_base.specs.declared.token.TokenKind.TheVariants.{Sign as SignKind
 use Rattle.bal_base.specs.declared.token.Sign.TheVariants.{Comma, Ellipsis}
 use Rattle.parse_types.specs.Loops.{◌>>=◌, else_stays, many}
 use Rattle.parse_types.specs.Reaches.{Left, longest_type}
-use Rattle.parse_types.specs.Tokens.{Kinds, take_sign, take_word}
+use Rattle.token_steps.specs.Tokens.{Kinds, take_sign, take_word}
 use Rattle.parse_types.proofs.Going.{many-stops, many-goes}
 use Rattle.parse_expr.specs.Reaches.{type_rest, type_at, item_comma, items, param_comma, last_param, param_list, detail, details}
 

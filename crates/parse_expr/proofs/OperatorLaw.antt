@@ -14,7 +14,7 @@ use Rattle.bal_tree.specs.Pieces.{Pieces, ◌&◌, starts, sign, key}
 use Rattle.bal_tree.specs.Spells.{onto}
 use Rattle.bal_tree.specs.ExprPieces.{binary_sign}
 use Rattle.parse_types.specs.Loops.{or_else, many}
-use Rattle.parse_types.specs.Tokens.{Kinds, take_sign, take_key}
+use Rattle.token_steps.specs.Tokens.{Kinds, take_sign, take_key}
 use Rattle.parse_types.proofs.Going.{many-stops, many-goes, many-less}
 use Rattle.parse_types.proofs.Onto.{onto-longer}
 use Rattle.parse_expr.specs.Operators.{once, is_chain, single as single_by, loop as loop_by, reads as reads_by}

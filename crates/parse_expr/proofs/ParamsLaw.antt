@@ -14,7 +14,7 @@ use Rattle.bal_tree.specs.Spells.{onto}
 use Rattle.bal_tree.specs.TypePieces.{type_pieces, param_pieces, rest_param_pieces, params_pieces, with_last}
 use Rattle.bal_tree.specs.TypeRules.{type_is_formed, param_is_formed, last_is_formed, params_are_formed}
 use Rattle.parse_types.specs.Loops.{◌>>=◌, else_stays, many}
-use Rattle.parse_types.specs.Tokens.{Kinds, take_sign, take_key, take_word}
+use Rattle.token_steps.specs.Tokens.{Kinds, take_sign, take_key, take_word}
 use Rattle.parse_types.proofs.Law.{both_pass}
 use Rattle.parse_types.proofs.ListLaw.{ListEnds, Item, Last, Listed, chain, bracketed, ellipsis-closes}
 use Rattle.parse_types.proofs.PrimaryLaw.{paren-closes, word-closes}

@@ -8,9 +8,9 @@ use Rattle.bal_tree.specs.declared.expr.Expr.{Expr}
 use Rattle.bal_tree.specs.ExprPieces.{expr_pieces}
 use Rattle.bal_tree.specs.ExprRules.{expr_facts, expr_is_formed}
 use Rattle.bal_tree.specs.Spells.{onto, kinds_of}
-use Rattle.parse_types.specs.declared.steps.Missing.{Missing}
+use Rattle.token_steps.specs.declared.steps.Missing.{Missing}
 use Rattle.parse_types.specs.Starts.{Leaves, IfMissing}
-use Rattle.parse_types.specs.Tokens.{Kinds}
+use Rattle.token_steps.specs.Tokens.{Kinds}
 use Rattle.parse_types.proofs.Follows.{closes-stay}
 use Rattle.parse_types.proofs.Readings.{length-kinds}
 use Rattle.parse_expr.specs.Reaches.{up_to, inside, expr}

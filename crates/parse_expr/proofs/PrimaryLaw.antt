@@ -22,7 +22,7 @@ use Rattle.bal_tree.specs.NamePieces.{word_pieces, name_pieces, literal_pieces}
 use Rattle.bal_tree.specs.TypeRules.{name_fits}
 use Rattle.parse_types.specs.Loops.{◌>>=◌, or_else, else_stays, many}
 use Rattle.parse_types.specs.Reaches.{colon_word, prefixed}
-use Rattle.parse_types.specs.Tokens.{Kinds, take_sign, take_word}
+use Rattle.token_steps.specs.Tokens.{Kinds, take_sign, take_word}
 use Rattle.parse_types.proofs.Going.{many-stops, many-goes}
 use Rattle.parse_types.proofs.Onto.{onto-longer}
 use Rattle.parse_types.proofs.Taking.{take_sign-less, take_word-less}

@@ -7,7 +7,7 @@ use Rattle.bal_tree.specs.declared.level.Level.TheVariants.{Postfix, Prefix, Pro
 use Rattle.bal_tree.specs.Levels.{rank}
 use Rattle.bal_tree.specs.Spells.{kinds_of}
 use Rattle.parse_types.specs.Loops.{◌>>=◌, or_else, many}
-use Rattle.parse_types.specs.Tokens.{Kinds}
+use Rattle.token_steps.specs.Tokens.{Kinds}
 use Rattle.parse_types.proofs.Going.{many-stops}
 use Rattle.parse_types.proofs.Readings.{length-kinds, kinds-less}
 use Rattle.parse_expr.specs.Operators.{is_chain, once, step, test, branches, single, loop}

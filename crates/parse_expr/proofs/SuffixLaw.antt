@@ -14,7 +14,7 @@ use Rattle.bal_tree.specs.NamePieces.{word_pieces}
 use Rattle.bal_tree.specs.Spells.{onto}
 use Rattle.parse_types.specs.Loops.{◌>>=◌, many}
 use Rattle.parse_types.specs.Reaches.{colon_word}
-use Rattle.parse_types.specs.Tokens.{Kinds, take_sign, take_word}
+use Rattle.token_steps.specs.Tokens.{Kinds, take_sign, take_word}
 use Rattle.parse_types.proofs.Going.{many-stops, many-goes, many-less}
 use Rattle.parse_types.proofs.Onto.{onto-longer}
 use Rattle.parse_types.proofs.Taking.{take_sign-less}

@@ -8,7 +8,7 @@ use Rattle.bal_tree.specs.Spells.{onto}
 use Rattle.bal_tree.specs.TypePieces.{type_pieces}
 use Rattle.bal_tree.specs.TypeRules.{type_is_formed, type_end}
 use Rattle.parse_types.specs.Reaches.{Left, postfix, intersection, union, longest_type}
-use Rattle.parse_types.specs.Tokens.{Kinds}
+use Rattle.token_steps.specs.Tokens.{Kinds}
 use Rattle.parse_types.proofs.Follows.{Closes, closes-stay}
 use Rattle.parse_types.proofs.Longest.{longest-law}
 use Rattle.parse_expr.specs.Reaches.{type_rest, type_at}

@@ -33,7 +33,7 @@ use Rattle.bal_tree.specs.Levels.{rank, is_tighter, is_no_looser, takes}
 use Rattle.bal_tree.specs.NamePieces.{word_pieces, name_pieces, literal_pieces}
 use Rattle.bal_tree.specs.TypePieces.{function_word, params_pieces, returning, type_pieces}
 use Rattle.bal_tree.specs.TypeRules.{type_is_formed, type_end, name_fits, params_are_formed}
-use Rattle.parse_types.specs.Tokens.{Kinds, take_word}
+use Rattle.token_steps.specs.Tokens.{Kinds, take_word}
 use Rattle.parse_types.proofs.Law.{both_pass, not_true}
 use Rattle.parse_expr.specs.Reaches.{mapping_member, inside}
 use Rattle.parse_expr.proofs.Follows.{closes}

@@ -4,7 +4,7 @@ use Rattle.std.specs.Prelude.{◌==◌, ℕ, zero, suc, Bool, true, false, if◌
 use Rattle.bal_base.specs.declared.token.Keyword.TheVariants.{Is}
 use Rattle.bal_base.specs.declared.token.Sign.TheVariants.{Question, Colon}
 use Rattle.parse_types.specs.Loops.{◌>>=◌, or_else, many}
-use Rattle.parse_types.specs.Tokens.{Kinds, take_sign, take_key}
+use Rattle.token_steps.specs.Tokens.{Kinds, take_sign, take_key}
 use Rattle.parse_expr.specs.Ranks.{take_op}
 
 -- once, to something smaller

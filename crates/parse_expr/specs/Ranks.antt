@@ -5,7 +5,7 @@ use Rattle.bal_base.specs.declared.token.Sign.{Sign}
 use Rattle.bal_base.specs.declared.token.Sign.TheVariants.{Star, Slash, Percent, Plus, Minus, Less as LessSign, LessEqual as LessEqualSign, Greater as GreaterSign, GreaterEqual as GreaterEqualSign, DoubleEqual, NotEqual as NotEqualSign, TripleEqual, NotTripleEqual, DoubleAmpersand, DoubleBar, Elvis as ElvisSign}
 use Rattle.bal_tree.specs.declared.expr.BinaryOp.{BinaryOp}
 use Rattle.bal_tree.specs.Levels.{rank, binding}
-use Rattle.parse_types.specs.Tokens.{Kinds}
+use Rattle.token_steps.specs.Tokens.{Kinds}
 
 abbrev pub op_rank : BinaryOp → ℕ
 op_rank op = rank (binding op).level

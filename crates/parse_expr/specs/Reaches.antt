@@ -12,7 +12,7 @@ use Rattle.bal_base.specs.declared.token.Sign.{Sign}
 use Rattle.bal_base.specs.declared.token.Sign.TheVariants.{Question, OpenBracket, CloseBracket, Minus, Not, OpenParen, CloseParen, Less, Greater, Colon, Comma, Ellipsis, OpenBrace, CloseBrace, Dot, QuestionDot, Equal, FatArrow}
 use Rattle.parse_types.specs.Loops.{◌>>=◌, or_else, else_stays, many}
 use Rattle.parse_types.specs.Reaches.{Left as TypeLeft, colon_word, name, isolated_if_there, longest_type}
-use Rattle.parse_types.specs.Tokens.{Kinds, take_sign, take_key, take_word}
+use Rattle.token_steps.specs.Tokens.{Kinds, take_sign, take_key, take_word}
 use Rattle.parse_expr.specs.Operators.{reads}
 
 -- the longest type

@@ -24,7 +24,7 @@ use Rattle.bal_tree.specs.Spells.{onto, kinds_of, first_place}
 use Rattle.parse_types.specs.Nesting.{first_too_deep, enclosed}
 use Rattle.parse_types.specs.Reaches.{colon_word}
 use Rattle.parse_types.specs.Starts.{Reading, refusal}
-use Rattle.parse_types.specs.Tokens.{Kinds, take_sign}
+use Rattle.token_steps.specs.Tokens.{Kinds, take_sign}
 use Rattle.parse_expr.specs.Reaches.{Left}
 
 -- ---- promises

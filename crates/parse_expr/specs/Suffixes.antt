@@ -6,7 +6,7 @@ use Rattle.bal_tree.specs.Pieces.{Pieces, ◌&◌, sign}
 use Rattle.bal_tree.specs.NamePieces.{word_pieces}
 use Rattle.bal_tree.specs.ExprPieces.{arguments, expr_pieces}
 use Rattle.bal_tree.specs.ExprRules.{expr_is_formed}
-use Rattle.parse_types.specs.Tokens.{Kinds}
+use Rattle.token_steps.specs.Tokens.{Kinds}
 use Rattle.parse_expr.specs.Reaches.{Left}
 use Rattle.parse_expr.specs.declared.suffixes.Suffix.{Suffix}
 use Rattle.parse_expr.specs.declared.suffixes.Suffix.TheVariants.{Arguments, Method, Field, OptionalField, Index}

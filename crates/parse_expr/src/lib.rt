@@ -26,7 +26,7 @@ ghost use Rattle.bal_tree.specs.Spells.{kinds_of};
 ghost use Rattle.bal_tree.specs.Reads.{ReadsExpr};
 ghost use Rattle.parse_types.specs.Nesting as nesting_spec;
 ghost use Rattle.parse_types.specs.Starts.{IfMissing, IsTooDeep, Leaves};
-ghost use Rattle.parse_types.specs.Tokens.{Kinds};
+ghost use Rattle.token_steps.specs.Tokens.{Kinds};
 ghost use Rattle.parse_expr.specs.Reaches as spec;
 ghost use Rattle.parse_expr.specs.Starts.{StartsExpr, HasNoExpr, ExprReading};
 

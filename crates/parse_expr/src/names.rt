@@ -9,7 +9,7 @@ ghost use Rattle.bal_tree.specs.Spells.{kinds_of};
 ghost use Rattle.bal_tree.specs.TypeRules.{name_fits};
 ghost use Rattle.parse_types.specs.Reaches as type_spec;
 ghost use Rattle.parse_types.specs.Starts.{Reading};
-ghost use Rattle.parse_types.specs.Tokens.{Kinds};
+ghost use Rattle.token_steps.specs.Tokens.{Kinds};
 ghost use Rattle.parse_expr.specs.Reaches as spec;
 ghost use Rattle.parse_expr.specs.Starts.{StartsName};
 

@@ -14,7 +14,7 @@ ghost use Rattle.bal_tree.specs.Spells.{Heads, kinds_of};
 ghost use Rattle.bal_tree.specs.TypePieces.{type_pieces};
 ghost use Rattle.bal_tree.specs.TypeRules.{type_is_formed, type_end};
 ghost use Rattle.parse_types.specs.Starts.{Leaves, Reading};
-ghost use Rattle.parse_types.specs.Tokens.{take_key, take_sign};
+ghost use Rattle.token_steps.specs.Tokens.{take_key, take_sign};
 ghost use Rattle.parse_expr.specs.Operators as operators_spec;
 ghost use Rattle.parse_expr.specs.Ranks.{take_op, sign_level, op_rank};
 ghost use Rattle.parse_expr.specs.Reaches as spec;

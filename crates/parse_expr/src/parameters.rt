@@ -9,7 +9,7 @@ ghost use Rattle.bal_tree.specs.Spells.{kinds_of};
 ghost use Rattle.bal_tree.specs.TypePieces.{type_pieces, param_pieces, rest_param_pieces, params_pieces, with_last};
 ghost use Rattle.bal_tree.specs.TypeRules.{type_is_formed, type_end, params_are_formed};
 ghost use Rattle.parse_types.specs.Starts.{IfMissing, Leaves, Reading, Settled};
-ghost use Rattle.parse_types.specs.Tokens.{Kinds, take_word};
+ghost use Rattle.token_steps.specs.Tokens.{Kinds, take_word};
 ghost use Rattle.bal_tree.specs.NamePieces.{word_pieces};
 ghost use Rattle.parse_expr.specs.Reaches as spec;
 ghost use Rattle.parse_expr.specs.Starts.{StartsParams};

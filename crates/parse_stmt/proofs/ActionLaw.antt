@@ -36,7 +36,7 @@ use Rattle.bal_tree.specs.NamePieces.{name_pieces, prefix_pieces, word_pieces}
 use Rattle.bal_tree.specs.Pieces.{Pieces, ◌&◌, sign, if_there, separated, behind}
 use Rattle.bal_tree.specs.Spells.{onto}
 use Rattle.parse_types.specs.Loops.{◌>>=◌, or_else, else_stays, many}
-use Rattle.parse_types.specs.Tokens.{Kinds, take_sign, take_word}
+use Rattle.token_steps.specs.Tokens.{Kinds, take_sign, take_word}
 use Rattle.parse_types.specs.Reaches.{colon_word}
 use Rattle.parse_types.proofs.Going.{many-stops, many-goes}
 use Rattle.parse_types.proofs.Law.{both_pass, not_true}

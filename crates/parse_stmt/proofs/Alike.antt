@@ -6,7 +6,7 @@ use Rattle.bal_base.specs.declared.token.TokenKind.{TokenKind}
 use Rattle.bal_tree.specs.Pieces.{Pieces, nothing, token, starts, ◌&◌, kinds}
 use Rattle.bal_tree.specs.Spells.{Spells, onto}
 use Rattle.bal_tree.proofs.Spelling.{onto-kinds}
-use Rattle.parse_types.specs.Tokens.{Kinds}
+use Rattle.token_steps.specs.Tokens.{Kinds}
 
 abbrev pub Alike : Pieces → Pieces → Type 0
 Alike nothing nothing = Unit {0}

@@ -13,7 +13,7 @@ use Rattle.bal_tree.specs.NamePieces.{word_pieces}
 use Rattle.bal_tree.specs.Pieces.{Pieces, nothing, token, starts, ◌&◌, key, sign, joined, behind, separated}
 use Rattle.bal_tree.specs.Spells.{onto}
 use Rattle.parse_types.specs.Nesting.{depth_behind}
-use Rattle.parse_types.specs.Tokens.{Kinds, take_sign}
+use Rattle.token_steps.specs.Tokens.{Kinds, take_sign}
 use Rattle.parse_stmt.specs.declared.ahead.Mark.{Mark}
 use Rattle.parse_stmt.specs.declared.ahead.Mark.TheVariants.{Nothing}
 use Rattle.parse_stmt.specs.Ahead.{semicolon, first_mark, if_outside, joins, mark_here, mark_or, word_mark}

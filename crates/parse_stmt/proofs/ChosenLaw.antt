@@ -24,7 +24,7 @@ use Rattle.bal_tree.specs.Spells.{onto}
 use Rattle.bal_tree.specs.StmtLayers.{of_else, of_stmt, of_block, of_clause, of_if_stmt}
 use Rattle.bal_tree.specs.StmtPieces.{assign_sign, block_pieces, clause_pieces, else_pieces, ended as ended_pieces, range_pieces, range_sign, stmt_pieces, writing}
 use Rattle.bal_tree.specs.StmtRules.{are_formed, block_is_formed, clause_is_formed, else_is_formed, forming, if_is_formed, local_type_is_formed, range_is_formed, stands_alone, stmt_is_formed, target_is_formed, value_is_formed}
-use Rattle.parse_types.specs.Tokens.{Kinds, take_key}
+use Rattle.token_steps.specs.Tokens.{Kinds, take_key}
 use Rattle.parse_types.proofs.Law.{both_pass}
 use Rattle.parse_expr.specs.Reaches.{expr}
 use Rattle.parse_stmt.specs.Chosen.{AreChosen, led_in_stmt, led_in_stmts, listing, together}

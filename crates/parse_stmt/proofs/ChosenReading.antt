@@ -10,7 +10,7 @@ use Rattle.bal_tree.specs.Pieces.{Pieces, kinds}
 use Rattle.bal_tree.specs.Spells.{onto}
 use Rattle.bal_tree.specs.StmtPieces.{stmt_pieces}
 use Rattle.bal_tree.proofs.Spelling.{onto-kinds}
-use Rattle.parse_types.specs.Tokens.{Kinds}
+use Rattle.token_steps.specs.Tokens.{Kinds}
 use Rattle.parse_types.proofs.Law.{both_pass}
 use Rattle.parse_stmt.specs.Chosen.{IsBlockFirst}
 use Rattle.parse_stmt.specs.Reaches.{begins_mapping, brace_stmt, goes_on, inside, led, stmt}

@@ -35,7 +35,7 @@ use Rattle.bal_tree.specs.StmtRules.{block_is_formed, stmt_is_formed}
 use Rattle.bal_tree.specs.TypePieces.{function_word as isolated_word, params_pieces, returning, type_pieces}
 use Rattle.bal_tree.specs.TypeRules.{params_are_formed, type_is_formed}
 use Rattle.parse_types.specs.Loops.{◌>>=◌, else_stays, many}
-use Rattle.parse_types.specs.Tokens.{Kinds, take_key, take_sign, take_word}
+use Rattle.token_steps.specs.Tokens.{Kinds, take_key, take_sign, take_word}
 use Rattle.parse_types.specs.Reaches.{isolated_if_there}
 use Rattle.parse_types.proofs.Follows.{Closes}
 use Rattle.parse_types.proofs.Going.{many-stops, many-goes}

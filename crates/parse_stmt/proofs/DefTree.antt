@@ -23,7 +23,7 @@ use Rattle.bal_tree.specs.Spells.{onto}
 use Rattle.bal_tree.specs.StmtPieces.{block_pieces, stmt_pieces}
 use Rattle.bal_tree.specs.StmtRules.{block_is_formed, stmt_is_formed, are_formed}
 use Rattle.bal_tree.specs.TypePieces.{returning, type_pieces}
-use Rattle.parse_types.specs.Tokens.{Kinds, take_key}
+use Rattle.token_steps.specs.Tokens.{Kinds, take_key}
 use Rattle.parse_types.proofs.Law.{both_pass}
 use Rattle.parse_stmt.specs.Chosen.{AreChosen, led_in_body, led_in_stmts, led_in_worker, together}
 use Rattle.parse_stmt.specs.Starts.{ends_stmts}

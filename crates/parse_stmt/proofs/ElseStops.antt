@@ -15,7 +15,7 @@ use Rattle.bal_tree.specs.StmtPieces.{else_pieces, if_pieces, stmt_pieces, writi
 use Rattle.bal_tree.specs.StmtRules.{block_is_formed, else_is_formed, forming, if_is_formed}
 use Rattle.bal_tree.proofs.Spelling.{spells-onto}
 use Rattle.parse_types.specs.Loops.{◌>>=◌}
-use Rattle.parse_types.specs.Tokens.{Kinds, take_key}
+use Rattle.token_steps.specs.Tokens.{Kinds, take_key}
 use Rattle.parse_types.proofs.Law.{both_pass}
 use Rattle.parse_types.proofs.Onto.{onto-longer}
 use Rattle.parse_types.proofs.Readings.{both-true, length-kinds}

@@ -23,7 +23,7 @@ use Rattle.bal_tree.specs.ExprRules.{ExprFacts, facts, part_is_formed}
 use Rattle.bal_tree.specs.Parts.{each_inside}
 use Rattle.bal_tree.specs.Pieces.{Pieces, ◌&◌, behind, if_boxed, key, separated, sign, starts}
 use Rattle.bal_tree.specs.Spells.{onto}
-use Rattle.parse_types.specs.Tokens.{Kinds, take_sign}
+use Rattle.token_steps.specs.Tokens.{Kinds, take_sign}
 use Rattle.parse_types.proofs.Law.{both_pass}
 use Rattle.parse_types.proofs.Onto.{onto-longer}
 use Rattle.parse_expr.proofs.ExprRolls.{parts_of_primary, rolled-primary}

@@ -9,7 +9,7 @@ use Rattle.bal_tree.specs.ExprRules.{expr_facts}
 use Rattle.bal_tree.specs.Pieces.{Pieces, kinds}
 use Rattle.bal_tree.specs.Spells.{onto}
 use Rattle.bal_tree.proofs.Spelling.{onto-kinds}
-use Rattle.parse_types.specs.Tokens.{Kinds}
+use Rattle.token_steps.specs.Tokens.{Kinds}
 use Rattle.parse_stmt.specs.Reaches.{begins_with_check}
 use Rattle.parse_stmt.specs.Shapes.{Last, name_alone, other_alone, arguments_last, field_last, optional_last, index_last, operators, last_in, last_of, last_read, nothing_yet, shape, so_far}
 use Rattle.parse_stmt.proofs.ExprsCalm.{Front, expr-calm}

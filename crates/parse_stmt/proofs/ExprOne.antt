@@ -29,7 +29,7 @@ use Rattle.bal_tree.specs.Spells.{onto}
 use Rattle.bal_tree.specs.TypePieces.{type_pieces}
 use Rattle.bal_tree.specs.TypeRules.{type_end, type_is_formed}
 use Rattle.bal_tree.proofs.Spelling.{onto-kinds}
-use Rattle.parse_types.specs.Tokens.{Kinds, take_word}
+use Rattle.token_steps.specs.Tokens.{Kinds, take_word}
 use Rattle.parse_types.proofs.Law.{both_pass}
 use Rattle.parse_types.proofs.Onto.{onto-longer}
 use Rattle.parse_types.proofs.PrimaryLaw.{greater-closes}

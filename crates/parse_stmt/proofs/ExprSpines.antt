@@ -31,7 +31,7 @@ use Rattle.bal_tree.specs.Pieces.{Pieces, ◌&◌, sign, starts}
 use Rattle.bal_tree.specs.Spells.{onto}
 use Rattle.bal_tree.specs.TypePieces.{type_pieces}
 use Rattle.bal_tree.specs.TypeRules.{type_end, type_is_formed}
-use Rattle.parse_types.specs.Tokens.{Kinds, take_sign}
+use Rattle.token_steps.specs.Tokens.{Kinds, take_sign}
 use Rattle.parse_types.proofs.Law.{both_pass, not_true}
 use Rattle.parse_types.proofs.Onto.{onto-longer}
 use Rattle.parse_expr.specs.Operators.{is_chain}

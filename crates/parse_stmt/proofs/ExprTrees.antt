@@ -20,7 +20,7 @@ use Rattle.bal_tree.specs.ExprRules.{ExprEnd, expr_facts, facts, part_is_formed}
 use Rattle.bal_tree.specs.Parts.{each_inside}
 use Rattle.bal_tree.specs.Pieces.{Pieces, behind, separated}
 use Rattle.bal_tree.specs.Spells.{onto}
-use Rattle.parse_types.specs.Tokens.{Kinds, take_sign}
+use Rattle.token_steps.specs.Tokens.{Kinds, take_sign}
 use Rattle.parse_types.proofs.Follows.{closes-stay}
 use Rattle.parse_types.proofs.Law.{both_pass}
 use Rattle.parse_types.proofs.Onto.{onto-longer}

@@ -39,7 +39,7 @@ use Rattle.bal_tree.specs.Spells.{onto}
 use Rattle.bal_tree.specs.TypePieces.{as_rest, function_word, in_angles, param_pieces, params_pieces, rest_param_pieces, returning, type_pieces}
 use Rattle.bal_tree.proofs.Spelling.{onto-kinds}
 use Rattle.parse_types.specs.Nesting.{depth_behind}
-use Rattle.parse_types.specs.Tokens.{Kinds}
+use Rattle.token_steps.specs.Tokens.{Kinds}
 use Rattle.parse_expr.proofs.ExprRolls.{parts_of_call, parts_of_expr, parts_of_key, parts_of_postfix, parts_of_primary, parts_of_detail, parts_of_member, rolled-call, rolled-expr, rolled-key, rolled-postfix, rolled-primary, rolled-detail, rolled-member}
 use Rattle.parse_stmt.specs.Ahead.{semicolon}
 use Rattle.parse_stmt.specs.Reaches.{begins_simple, begins_with_check, goes_on, may_be_mapping}

@@ -15,7 +15,7 @@ use Rattle.bal_tree.specs.Pieces.{Pieces, joined, key_if}
 use Rattle.bal_tree.specs.Spells.{Spells, onto, kinds_of}
 use Rattle.bal_tree.specs.TypePieces.{type_pieces}
 use Rattle.bal_tree.proofs.Spelling.{spells-onto}
-use Rattle.parse_types.specs.Tokens.{Kinds, take_key}
+use Rattle.token_steps.specs.Tokens.{Kinds, take_key}
 use Rattle.parse_types.proofs.Law.{both_pass}
 use Rattle.parse_types.proofs.Onto.{onto-longer}
 use Rattle.parse_types.proofs.Parsing.{rest-place}

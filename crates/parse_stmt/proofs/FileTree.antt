@@ -30,7 +30,7 @@ use Rattle.bal_tree.specs.Spells.{onto}
 use Rattle.bal_tree.specs.TypePieces.{params_pieces, returning, type_pieces}
 use Rattle.bal_tree.specs.TypeRules.{params_are_formed, type_is_formed}
 use Rattle.bal_tree.proofs.Spelling.{onto-kinds, spells-onto}
-use Rattle.parse_types.specs.Tokens.{Kinds, take_key}
+use Rattle.token_steps.specs.Tokens.{Kinds, take_key}
 use Rattle.parse_types.proofs.Law.{both_pass}
 use Rattle.parse_types.proofs.PrimaryLaw.{word-closes}
 use Rattle.parse_stmt.specs.Chosen.{AreChosen, IsChosen, IsSameFile, led_in_def, together}

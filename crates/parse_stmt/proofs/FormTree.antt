@@ -20,7 +20,7 @@ use Rattle.bal_tree.specs.ActionRules.{rhs_is_formed, sending}
 use Rattle.bal_tree.specs.Spells.{onto}
 use Rattle.bal_tree.specs.StmtPieces.{ended as ended_pieces, stmt_pieces, writing}
 use Rattle.bal_tree.specs.StmtRules.{block_is_formed, forming, if_is_formed, local_type_is_formed, stands_alone, stmt_is_formed, target_is_formed}
-use Rattle.parse_types.specs.Tokens.{Kinds}
+use Rattle.token_steps.specs.Tokens.{Kinds}
 use Rattle.parse_types.proofs.Law.{both_pass}
 use Rattle.parse_stmt.specs.declared.ahead.Mark.{Mark}
 use Rattle.parse_stmt.specs.declared.ahead.Mark.TheVariants.{Declares, Assigns, Sends, SendsSync, Nothing}

@@ -9,7 +9,7 @@ use Rattle.bal_base.specs.declared.token.Sign.TheVariants.{OpenBrace, CloseBrace
 use Rattle.bal_tree.specs.Pieces.{Pieces, joined}
 use Rattle.bal_tree.specs.Spells.{onto}
 use Rattle.parse_types.specs.Loops.{many, or_else}
-use Rattle.parse_types.specs.Tokens.{Kinds, take_sign, take_key}
+use Rattle.token_steps.specs.Tokens.{Kinds, take_sign, take_key}
 use Rattle.parse_types.specs.Nesting.{depth_behind}
 use Rattle.parse_types.proofs.Going.{many-stops, many-goes}
 use Rattle.parse_types.proofs.Onto.{onto-longer}

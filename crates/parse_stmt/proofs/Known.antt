@@ -15,7 +15,7 @@ use Rattle.bal_tree.specs.Spells.{onto}
 use Rattle.bal_tree.specs.TypePieces.{type_pieces, params_pieces, function_word}
 use Rattle.bal_base.specs.declared.text.Name.{Name}
 use Rattle.bal_tree.specs.TypeRules.{type_is_formed, params_are_formed}
-use Rattle.parse_types.specs.Tokens.{Kinds}
+use Rattle.token_steps.specs.Tokens.{Kinds}
 use Rattle.parse_types.proofs.Follows.{Closes}
 use Rattle.parse_expr.specs.Reaches.{expr, params, type_at}
 use Rattle.parse_stmt.specs.Reaches.{begins_simple, begins_with_check, goes_on, may_be_mapping}

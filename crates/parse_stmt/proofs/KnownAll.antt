@@ -7,7 +7,7 @@ use Rattle.bal_tree.specs.Spells.{onto}
 use Rattle.bal_tree.specs.TypePieces.{function_word}
 use Rattle.parse_types.specs.Loops.{many}
 use Rattle.parse_types.specs.Reaches.{longest_type, union, intersection, postfix as type_postfix}
-use Rattle.parse_types.specs.Tokens.{Kinds}
+use Rattle.token_steps.specs.Tokens.{Kinds}
 use Rattle.parse_expr.specs.Operators.{reads}
 use Rattle.parse_expr.specs.Reaches.{expr, postfix, type_at, up_to}
 use Rattle.parse_stmt.proofs.ExprKnown.{checks-law, last-law}

@@ -52,7 +52,7 @@ use Rattle.bal_tree.specs.TypeRules.{type_is_formed}
 use Rattle.bal_tree.specs.StmtRules.{local_type_is_formed, stands_alone, target_is_formed}
 use Rattle.bal_tree.proofs.ExprLayers.{expr_layers}
 use Rattle.parse_types.specs.Loops.{◌>>=◌, or_else}
-use Rattle.parse_types.specs.Tokens.{Kinds, take_sign, take_key, take_word}
+use Rattle.token_steps.specs.Tokens.{Kinds, take_sign, take_key, take_word}
 use Rattle.parse_types.proofs.Follows.{Closes}
 use Rattle.parse_types.proofs.Law.{both_pass}
 use Rattle.parse_types.proofs.PrimaryLaw.{word-closes}

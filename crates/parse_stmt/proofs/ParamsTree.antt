@@ -10,7 +10,7 @@ use Rattle.bal_tree.specs.Pieces.{Pieces, separated}
 use Rattle.bal_tree.specs.Spells.{onto}
 use Rattle.bal_tree.specs.TypePieces.{param_pieces, params_pieces, rest_param_pieces, type_pieces, with_last}
 use Rattle.bal_tree.specs.TypeRules.{last_is_formed, param_is_formed, params_are_formed, type_is_formed}
-use Rattle.parse_types.specs.Tokens.{Kinds}
+use Rattle.token_steps.specs.Tokens.{Kinds}
 use Rattle.parse_types.proofs.Law.{both_pass}
 use Rattle.parse_types.proofs.ListLaw.{ellipsis-closes}
 use Rattle.parse_types.proofs.PrimaryLaw.{word-closes}

@@ -44,7 +44,7 @@ use Rattle.bal_tree.specs.StmtPieces.{assign_sign, ended as ended_pieces, local_
 use Rattle.bal_tree.specs.StmtRules.{local_type_is_formed, target_is_formed, value_is_formed}
 use Rattle.bal_tree.specs.TypePieces.{type_pieces}
 use Rattle.bal_tree.specs.TypeRules.{type_is_formed}
-use Rattle.parse_types.specs.Tokens.{Kinds, take_sign}
+use Rattle.token_steps.specs.Tokens.{Kinds, take_sign}
 use Rattle.parse_types.proofs.Follows.{Closes}
 use Rattle.parse_types.proofs.Law.{both_pass, not_true}
 use Rattle.parse_types.proofs.PrimaryLaw.{word-closes}

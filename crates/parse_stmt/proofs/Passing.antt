@@ -8,7 +8,7 @@ use Rattle.bal_base.specs.declared.token.Sign.TheVariants.{Equal}
 use Rattle.bal_tree.specs.Pieces.{Pieces, nothing, token, starts, ◌&◌}
 use Rattle.bal_tree.specs.Spells.{onto}
 use Rattle.parse_types.specs.Nesting.{depth_behind}
-use Rattle.parse_types.specs.Tokens.{Kinds, take_sign}
+use Rattle.token_steps.specs.Tokens.{Kinds, take_sign}
 use Rattle.parse_stmt.specs.Ahead.{semicolon, first_mark}
 
 -- neither the semicolon nor a mark stands in the pieces outside brackets, and the last of their tokens joins nothing on

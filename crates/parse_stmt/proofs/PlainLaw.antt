@@ -40,7 +40,7 @@ use Rattle.bal_tree.specs.StmtRules.{local_type_is_formed, range_is_formed, stan
 use Rattle.bal_tree.specs.TypePieces.{type_pieces}
 use Rattle.bal_tree.specs.TypeRules.{type_is_formed}
 use Rattle.parse_types.specs.Loops.{◌>>=◌, or_else, else_stays}
-use Rattle.parse_types.specs.Tokens.{Kinds, take_key, take_sign, take_word}
+use Rattle.token_steps.specs.Tokens.{Kinds, take_key, take_sign, take_word}
 use Rattle.parse_types.proofs.Law.{both_pass}
 use Rattle.parse_types.proofs.Onto.{onto-longer}
 use Rattle.parse_types.proofs.PrimaryLaw.{word-closes}

@@ -3,7 +3,7 @@ use Rattle.std.proofs.Common.{◌≡◌, List, [], ◌∷◌, ◌++◌, refl, sy
 use Rattle.bal_base.specs.declared.place.Place.{Place}
 use Rattle.bal_tree.specs.Pieces.{Pieces, ◌&◌, starts}
 use Rattle.bal_tree.specs.Spells.{onto}
-use Rattle.parse_types.specs.Tokens.{Kinds}
+use Rattle.token_steps.specs.Tokens.{Kinds}
 use Rattle.parse_stmt.proofs.Alike.{Alike, Same}
 
 -- an operator with what stands behind it, and the place of the whole

@@ -25,7 +25,7 @@ use Rattle.bal_tree.specs.NamePieces.{word_pieces}
 use Rattle.bal_tree.specs.StmtPieces.{writing, local_type_pieces, range_pieces, stmt_pieces, else_pieces, if_pieces, block_pieces, clause_pieces, foreach_head as foreach_pieces, pattern_pieces}
 use Rattle.bal_tree.specs.StmtRules.{forming, stmt_is_formed, else_is_formed, if_is_formed, block_is_formed, clause_is_formed, are_formed, local_type_is_formed, target_is_formed, range_is_formed, value_is_formed, stands_alone}
 use Rattle.parse_types.specs.Loops.{◌>>=◌, many, or_else}
-use Rattle.parse_types.specs.Tokens.{Kinds, take_key, take_sign}
+use Rattle.token_steps.specs.Tokens.{Kinds, take_key, take_sign}
 use Rattle.parse_types.proofs.Going.{many-stops, many-goes}
 use Rattle.parse_types.proofs.Law.{both_pass}
 use Rattle.parse_types.proofs.Onto.{onto-longer}

@@ -8,7 +8,7 @@ use Rattle.bal_base.specs.declared.token.Token.{Token}
 use Rattle.bal_base.specs.declared.stop.Stop.{Stop}
 use Rattle.bal_base.specs.declared.stop.Stop.TheVariants.{Memory, Fault}
 use Rattle.bal_base.specs.declared.token.Sign.{Sign}
-use Rattle.parse_types.specs.declared.steps.Missing.{Missing}
+use Rattle.token_steps.specs.declared.steps.Missing.{Missing}
 use Rattle.parse_types.specs.Nesting.{depth_behind}
 use Rattle.parse_types.specs.Starts.{Leaves, Reading}
 use Rattle.parse_types.proofs.Readings.{length-kinds}
@@ -21,7 +21,7 @@ use Rattle.bal_tree.specs.Pieces.{Pieces, ◌&◌, sign, behind, separated}
 use Rattle.bal_tree.specs.Spells.{Spells, onto, kinds_of}
 use Rattle.bal_tree.proofs.Spelling.{spells-onto}
 use Rattle.parse_types.specs.Loops.{◌>>=◌, many}
-use Rattle.parse_types.specs.Tokens.{Kinds}
+use Rattle.token_steps.specs.Tokens.{Kinds}
 use Rattle.parse_types.proofs.Going.{many-stops, many-goes}
 use Rattle.parse_expr.specs.Reaches.{expr}
 use Rattle.parse_stmt.specs.Reaches.{begins_with_check, call, if_or_block, inside, is_call, is_target, led, led_by, no_more, target, up_to}

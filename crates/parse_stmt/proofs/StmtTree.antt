@@ -15,7 +15,7 @@ use Rattle.bal_tree.specs.Pieces.{Pieces, ◌&◌, joined, sign}
 use Rattle.bal_tree.specs.Spells.{onto}
 use Rattle.bal_tree.specs.StmtPieces.{stmt_pieces, block_pieces, writing}
 use Rattle.bal_tree.specs.StmtRules.{are_formed, block_is_formed, forming, stmt_is_formed}
-use Rattle.parse_types.specs.Tokens.{Kinds, take_key}
+use Rattle.token_steps.specs.Tokens.{Kinds, take_key}
 use Rattle.parse_types.proofs.Law.{both_pass}
 use Rattle.parse_stmt.specs.Ahead.{semicolon}
 use Rattle.parse_stmt.specs.Chosen.{AreChosen, IsBlockFirst, listing}

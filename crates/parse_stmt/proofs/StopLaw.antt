@@ -16,7 +16,7 @@ use Rattle.bal_tree.specs.TypePieces.{params_pieces, returning, type_pieces}
 use Rattle.bal_tree.specs.TypeRules.{params_are_formed}
 use Rattle.bal_tree.proofs.Spelling.{spells-onto}
 use Rattle.parse_types.specs.Loops.{◌>>=◌}
-use Rattle.parse_types.specs.Tokens.{Kinds, take_sign}
+use Rattle.token_steps.specs.Tokens.{Kinds, take_sign}
 use Rattle.parse_types.proofs.Law.{both_pass}
 use Rattle.parse_types.proofs.Readings.{length-kinds}
 use Rattle.parse_expr.specs.Reaches.{params}

@@ -11,7 +11,7 @@ use Rattle.bal_tree.specs.Spells.{Spells, kinds_of, onto}
 use Rattle.bal_tree.specs.StmtPieces.{stmt_pieces}
 use Rattle.bal_tree.specs.StmtRules.{stmt_is_formed}
 use Rattle.bal_tree.proofs.Spelling.{spells-onto}
-use Rattle.parse_types.specs.Tokens.{Kinds}
+use Rattle.token_steps.specs.Tokens.{Kinds}
 use Rattle.parse_types.proofs.Commas.{spells-joined}
 use Rattle.parse_types.proofs.Law.{both_pass}
 use Rattle.parse_types.proofs.Parsing.{rest-place}

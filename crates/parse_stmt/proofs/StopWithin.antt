@@ -19,7 +19,7 @@ use Rattle.bal_tree.specs.declared.stmt.Stmt.{Stmt, roll-Stmt}
 use Rattle.bal_tree.specs.Spells.{Heads, Spells, first_place, kinds_of, onto}
 use Rattle.bal_tree.specs.StmtPieces.{else_pieces, stmt_pieces, writing}
 use Rattle.bal_tree.specs.StmtRules.{block_is_formed, else_is_formed, forming, stmt_is_formed}
-use Rattle.parse_types.specs.Tokens.{Kinds, take_key}
+use Rattle.token_steps.specs.Tokens.{Kinds, take_key}
 use Rattle.parse_types.proofs.Law.{both_pass}
 use Rattle.parse_types.proofs.Readings.{both-true, length-kinds}
 use Rattle.parse_stmt.specs.Reaches.{begins_mapping, brace_stmt, goes_on, inside, led, stmt}

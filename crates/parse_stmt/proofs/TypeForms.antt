@@ -32,7 +32,7 @@ use Rattle.bal_tree.specs.TypeLayers.{of_field_tree}
 use Rattle.bal_tree.specs.TypePieces.{builtin_key, field_pieces, function_word, type_pieces, writing}
 use Rattle.bal_tree.specs.TypeRules.{TypeEnd, TypeFacts, facts, name_fits, part_is_formed, type_is_formed}
 use Rattle.parse_types.specs.Reaches.{colon_word, sign_type}
-use Rattle.parse_types.specs.Tokens.{Kinds, take_key, take_sign}
+use Rattle.token_steps.specs.Tokens.{Kinds, take_key, take_sign}
 use Rattle.parse_types.proofs.Follows.{Ends, Stays}
 use Rattle.bal_tree.proofs.Spelling.{onto-kinds}
 use Rattle.parse_types.proofs.Law.{both_pass}

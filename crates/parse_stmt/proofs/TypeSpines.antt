@@ -20,7 +20,7 @@ use Rattle.bal_tree.specs.TypePieces.{writing}
 use Rattle.bal_tree.specs.TypeRules.{TypeEnd, TypeFacts, closed, facts, is_length}
 use Rattle.parse_types.specs.Loops.{◌>>=◌}
 use Rattle.parse_types.specs.Reaches.{suffix}
-use Rattle.parse_types.specs.Tokens.{Kinds, take_sign, take_word}
+use Rattle.token_steps.specs.Tokens.{Kinds, take_sign, take_word}
 use Rattle.parse_types.proofs.Follows.{Closes, Ends, Stays, closes-stay}
 use Rattle.parse_types.proofs.Law.{both_pass, not_true}
 use Rattle.parse_types.proofs.TypeRolls.{parts_of_intersection_type, parts_of_postfix_type, parts_of_type_tree, rolled-intersection_type, rolled-postfix_type, rolled-type_tree}

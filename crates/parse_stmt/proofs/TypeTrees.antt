@@ -22,7 +22,7 @@ use Rattle.bal_tree.specs.TypeLayers.{of_field_tree, of_param_type, of_param_typ
 use Rattle.bal_tree.specs.TypePieces.{as_rest, type_pieces, writing}
 use Rattle.bal_tree.specs.TypeRules.{TypeEnd, TypeFacts, facts, part_is_formed, type_is_formed}
 use Rattle.parse_types.specs.Reaches.{inside, sign_type}
-use Rattle.parse_types.specs.Tokens.{Kinds, take_sign, take_word}
+use Rattle.token_steps.specs.Tokens.{Kinds, take_sign, take_word}
 use Rattle.parse_types.proofs.Follows.{Closes}
 use Rattle.parse_types.proofs.Law.{before, both_pass}
 use Rattle.parse_types.proofs.ListLaw.{ellipsis-closes}

@@ -26,7 +26,7 @@ use Rattle.bal_tree.specs.Pieces.{Pieces, nothing, token, starts, ◌&◌, key, 
 use Rattle.bal_tree.specs.Spells.{onto}
 use Rattle.bal_tree.specs.TypeLayers.{of_intersection_type, of_postfix_type, of_primary_type, of_type_tree, of_field_tree, of_param_type, of_param_types}
 use Rattle.bal_tree.specs.TypePieces.{writing, as_rest, builtin_key, function_word, in_angles, returning, with_last_boxed, type_pieces, intersection_pieces, postfix_type_pieces, primary_type_pieces, field_pieces, param_type_pieces, param_types_pieces}
-use Rattle.parse_types.specs.Tokens.{Kinds}
+use Rattle.token_steps.specs.Tokens.{Kinds}
 use Rattle.parse_types.proofs.TypeRolls.{parts_of_intersection_type, parts_of_postfix_type, parts_of_primary_type, parts_of_type_tree, parts_of_field_tree, parts_of_param_type, parts_of_param_types, rolled-intersection_type, rolled-postfix_type, rolled-primary_type, rolled-type_tree, rolled-field_tree, rolled-param_type, rolled-param_types}
 use Rattle.parse_stmt.proofs.Calm.{AllDeep, Calm, Deep, brackets, bar_braces, braces, parens, calm-at, calm-both, calm-colon, calm-int, calm-key, calm-nothing, calm-pair, calm-sign, calm-str, calm-word, deep-both, deep-joined, deep-key, deep-nothing, deep-pair, deep-separated, deep-sign, deep-starts, deep-word}
 use Rattle.parse_stmt.proofs.Known.{leads}

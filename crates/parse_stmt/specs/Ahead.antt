@@ -5,7 +5,7 @@ use Rattle.bal_base.specs.declared.token.TokenKind.{TokenKind}
 use Rattle.bal_base.specs.declared.token.TokenKind.TheVariants.{Word as WordKind, Sign as SignKind}
 use Rattle.bal_base.specs.declared.token.Sign.{Sign}
 use Rattle.bal_base.specs.declared.token.Sign.TheVariants.{Semicolon, Equal, PlusEqual, MinusEqual, StarEqual, SlashEqual, Arrow, DoubleArrow, Dot, Colon}
-use Rattle.parse_types.specs.Tokens.{Kinds, take_sign}
+use Rattle.token_steps.specs.Tokens.{Kinds, take_sign}
 use Rattle.parse_types.specs.Nesting.{depth_behind}
 use Rattle.parse_stmt.specs.declared.ahead.Mark.{Mark}
 use Rattle.parse_stmt.specs.declared.ahead.Mark.TheVariants.{Declares, Assigns, Sends, SendsSync, Nothing}

@@ -8,7 +8,7 @@ use Rattle.bal_base.specs.declared.token.Keyword.TheVariants.{True, False, Check
 use Rattle.bal_base.specs.declared.token.Sign.{Sign}
 use Rattle.bal_base.specs.declared.token.Sign.TheVariants.{Semicolon, Equal, PlusEqual, MinusEqual, StarEqual, SlashEqual, Arrow, DoubleArrow, LeftArrow, FatArrow, OpenBrace, CloseBrace, OpenParen, CloseParen, OpenBracket, Underscore, Bar, Comma, Colon, Ellipsis, DotDotLess, Minus, Slash, Dot}
 use Rattle.parse_types.specs.Loops.{◌>>=◌, or_else, else_stays, many}
-use Rattle.parse_types.specs.Tokens.{Kinds, take_sign, take_key, take_word}
+use Rattle.token_steps.specs.Tokens.{Kinds, take_sign, take_key, take_word}
 use Rattle.parse_types.specs.Reaches.{name, negative, isolated_if_there}
 use Rattle.parse_expr.specs.Reaches.{expr, params, type_at, int_name}
 use Rattle.parse_stmt.specs.declared.ahead.Mark.{Mark}

@@ -12,7 +12,7 @@ use Rattle.bal_tree.specs.declared.expr.Postfix.{Postfix}
 use Rattle.bal_tree.specs.declared.expr.Primary.{Primary}
 use Rattle.bal_tree.specs.ExprLayers.{ExprOf, PostfixOf, PrimaryOf, ExprSteps, of_expr, of_postfix, of_primary}
 use Rattle.parse_types.specs.Nesting.{depth_behind}
-use Rattle.parse_types.specs.Tokens.{Kinds}
+use Rattle.token_steps.specs.Tokens.{Kinds}
 
 -- a name alone, another primary expression alone, the suffix that stands last, or that it has operators
 pub data Last : Type 0 where

@@ -47,7 +47,7 @@ use Rattle.parse_types.specs.Starts.{Reading, refusal}
 use Rattle.bal_base.specs.declared.stop.Stop.{Stop}
 use Rattle.bal_base.specs.declared.stop.Stop.TheVariants.{Memory, Fault as FaultOf}
 use Rattle.bal_tree.specs.declared.def.FileTree.{FileTree}
-use Rattle.parse_types.specs.Tokens.{Kinds}
+use Rattle.token_steps.specs.Tokens.{Kinds}
 use Rattle.parse_stmt.specs.Chosen.{IsBlockFirst, led_in_stmt}
 use Rattle.parse_stmt.specs.declared.stops.Signature.{Signature}
 use denote.Ref.{Bor}

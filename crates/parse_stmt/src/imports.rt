@@ -9,7 +9,7 @@ ghost use Rattle.bal_tree.specs.Pieces.{behind as behind_each, if_there};
 ghost use Rattle.bal_tree.specs.Spells.{Spells, kinds_of};
 ghost use Rattle.parse_types.specs.Loops.{many};
 ghost use Rattle.parse_types.specs.Starts.{Leaves, Reading};
-ghost use Rattle.parse_types.specs.Tokens.{take_key, take_sign};
+ghost use Rattle.token_steps.specs.Tokens.{take_key, take_sign};
 ghost use Rattle.parse_stmt.specs.Reaches as spec;
 ghost use Rattle.parse_stmt.specs.Starts.{ImportReading};
 

@@ -8,7 +8,7 @@ ghost use Rattle.bal_tree.specs.Spells.{Spells, kinds_of};
 ghost use Rattle.parse_types.specs.Loops.{else_stays};
 ghost use Rattle.parse_types.specs.Reaches as types_spec;
 ghost use Rattle.parse_types.specs.Starts.{Leaves, Reading};
-ghost use Rattle.parse_types.specs.Tokens.{take_word, take_key};
+ghost use Rattle.token_steps.specs.Tokens.{take_word, take_key};
 ghost use Rattle.parse_stmt.specs.Reaches as spec;
 ghost use Rattle.parse_stmt.specs.Starts.{NameReading};
 

@@ -5,7 +5,7 @@ ghost use Rattle.std.specs.Prelude.{◌≡◌, ◌<◌, true, length, is_some, I
 ghost use Rattle.bal_base.specs.declared.token.Keyword.TheVariants.{If as IfKey};
 ghost use Rattle.bal_tree.specs.Spells.{kinds_of};
 ghost use Rattle.parse_types.specs.Starts.{Leaves};
-ghost use Rattle.parse_types.specs.Tokens.{take_key};
+ghost use Rattle.token_steps.specs.Tokens.{take_key};
 ghost use Rattle.parse_stmt.specs.Reaches as spec;
 ghost use Rattle.parse_stmt.specs.Starts.{FrontReading, IsStop, WholeOr, ends_stmts as stmts_end, no_stmt};
 ghost use Rattle.parse_stmt.specs.inner.Stops.{IsBehindBraces, IsBehindStmt, IsLastElse, IsLastStop, IsNextElse, IsRead, IsStopWithin, ThenReading};

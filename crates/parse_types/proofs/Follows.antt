@@ -5,7 +5,7 @@ use Rattle.bal_base.specs.declared.token.Keyword.TheVariants.{Returns}
 use Rattle.bal_base.specs.declared.token.Sign.TheVariants.{Bar, Ampersand, OpenParen, Less, Colon}
 use Rattle.bal_tree.specs.TypeRules.{TypeEnd}
 use Rattle.parse_types.specs.Loops.{◌>>=◌, else_stays}
-use Rattle.parse_types.specs.Tokens.{Kinds, take_sign, take_key, take_word}
+use Rattle.token_steps.specs.Tokens.{Kinds, take_sign, take_key, take_word}
 use Rattle.parse_types.specs.Reaches.{Left, open_at, colon_word, suffix}
 
 -- nothing here that a type could take as its last part, in a middle or not, where it may end in `int`

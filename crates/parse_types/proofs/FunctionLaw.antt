@@ -10,7 +10,7 @@ use Rattle.bal_tree.specs.Spells.{onto}
 use Rattle.bal_tree.specs.TypePieces.{function_word, returning}
 use Rattle.bal_tree.specs.TypeRules.{TypeFacts, closed}
 use Rattle.parse_types.specs.Loops.{◌>>=◌, or_else, many}
-use Rattle.parse_types.specs.Tokens.{Kinds, take_sign, take_key, take_word}
+use Rattle.token_steps.specs.Tokens.{Kinds, take_sign, take_key, take_word}
 use Rattle.parse_types.specs.Reaches.{word_if_there, param_comma, param_list, params, params_or, result_or, returns, result_if_there, function_behind, primary, inside}
 use Rattle.parse_types.proofs.Going.{many-less}
 use Rattle.parse_types.proofs.Taking.{take_sign-less, take_key-less, take_word-less, else_stays-less, or_else-less}

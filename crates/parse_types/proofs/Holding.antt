@@ -7,9 +7,9 @@ use Rattle.bal_base.specs.declared.stop.Stop.TheVariants.{Memory, Fault}
 use Rattle.bal_base.specs.declared.token.Token.{Token}
 use Rattle.bal_tree.specs.Spells.{kinds_of}
 use Rattle.bal_tree.specs.declared.types.TypeTree.{TypeTree}
-use Rattle.parse_types.specs.declared.steps.Missing.{Missing}
+use Rattle.token_steps.specs.declared.steps.Missing.{Missing}
 use Rattle.parse_types.specs.Starts.{Leaves, IfMissing}
-use Rattle.parse_types.specs.Tokens.{Kinds}
+use Rattle.token_steps.specs.Tokens.{Kinds}
 
 pub leaves-missing : {T : Type 0} (want : Option Kinds) (r : Result (T × Bor (List Token)) (Stop Missing)) (e : Missing) → r ≡ Err (Fault e) → Leaves want r → want ≡ None
 leaves-missing want r e is h = subst (Leaves want) is h

@@ -2,7 +2,7 @@
 use Rattle.std.proofs.Common.{◌≡◌, ◌≢◌, ℕ, zero, suc, ◌-◌, ◌<◌, Bool, List, length, None, Some, refl, ap, subst, ◌∙◌, arith}
 use Rattle.bal_base.specs.declared.token.Token.{Token}
 use Rattle.bal_tree.specs.Spells.{kinds_of}
-use Rattle.parse_types.specs.Tokens.{Kinds}
+use Rattle.token_steps.specs.Tokens.{Kinds}
 use Rattle.parse_types.specs.Reaches.{Left, union, no_more, inside}
 use Rattle.parse_types.proofs.Levels.{no_more-passes}
 use Rattle.parse_types.proofs.Readings.{length-kinds}

@@ -7,7 +7,7 @@ use Rattle.bal_tree.specs.Pieces.{Pieces}
 use Rattle.bal_tree.specs.Spells.{onto}
 use Rattle.bal_tree.specs.TypeRules.{TypeEnd, TypeFacts}
 use Rattle.parse_types.specs.Loops.{◌>>=◌, many}
-use Rattle.parse_types.specs.Tokens.{Kinds}
+use Rattle.token_steps.specs.Tokens.{Kinds}
 use Rattle.parse_types.specs.Reaches.{Left, open_at, colon_word, left_length, suffix_step, ampersand_step, bar_step, primary, postfix, intersection, union, no_more, inside}
 use Rattle.parse_types.proofs.Going.{many-stops, many-less}
 use Rattle.parse_types.proofs.Levels.{no_more-passes}

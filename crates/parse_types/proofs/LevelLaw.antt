@@ -6,7 +6,7 @@ use Rattle.bal_base.specs.declared.token.Sign.TheVariants.{Bar, Ampersand}
 use Rattle.bal_tree.specs.Pieces.{Pieces, ◌&◌, sign}
 use Rattle.bal_tree.specs.Spells.{onto}
 use Rattle.bal_tree.specs.TypeRules.{TypeFacts, closed}
-use Rattle.parse_types.specs.Tokens.{Kinds}
+use Rattle.token_steps.specs.Tokens.{Kinds}
 use Rattle.parse_types.specs.Reaches.{open_at, left_length, suffix, suffix_step, ampersand_step, bar_step, postfix, intersection, union, inside}
 use Rattle.parse_types.proofs.Going.{many-stops, many-goes, many-less}
 use Rattle.parse_types.proofs.Onto.{onto-longer}

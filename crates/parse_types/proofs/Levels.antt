@@ -3,7 +3,7 @@ use Rattle.std.proofs.Common.{◌≡◌, ℕ, Bool, length, ◌≤◌, Option, N
 use Rattle.std.specs.Prelude.{option_map}
 use Rattle.std.proofs.lemmas.Bool.{le-leb}
 use Rattle.parse_types.specs.Loops.{many}
-use Rattle.parse_types.specs.Tokens.{Kinds}
+use Rattle.token_steps.specs.Tokens.{Kinds}
 use Rattle.parse_types.specs.Reaches.{Left, left_length, suffix_step, ampersand_step, bar_step, primary, postfix, intersection, union, no_more, inside}
 use Rattle.parse_types.proofs.Going.{many-stops, many-goes}
 

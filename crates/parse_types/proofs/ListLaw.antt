@@ -13,7 +13,7 @@ use Rattle.bal_tree.specs.NamePieces.{word_pieces}
 use Rattle.bal_tree.specs.TypePieces.{as_rest}
 use Rattle.bal_tree.specs.TypeRules.{TypeFacts}
 use Rattle.parse_types.specs.Loops.{◌>>=◌, or_else, else_stays, many}
-use Rattle.parse_types.specs.Tokens.{Kinds, take_sign, take_word}
+use Rattle.token_steps.specs.Tokens.{Kinds, take_sign, take_word}
 use Rattle.parse_types.specs.Reaches.{type_comma, last_type, tuple, word_if_there, param_comma, last_param, params, inside}
 use Rattle.parse_types.proofs.Going.{many-stops, many-goes}
 use Rattle.parse_types.proofs.Onto.{onto-longer}

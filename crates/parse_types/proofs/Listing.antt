@@ -4,7 +4,7 @@ use Rattle.bal_base.specs.declared.token.TokenKind.TheVariants.{Sign as SignKind
 use Rattle.bal_base.specs.declared.token.Sign.TheVariants.{Comma, Ellipsis, Semicolon}
 use Rattle.parse_types.specs.Loops.{◌>>=◌, or_else, else_stays, many}
 use Rattle.parse_types.specs.Reaches.{inside, type_comma, last_type, type_list, param_comma, last_param, param_list, word_if_there, field, fields, fields_behind, field_behind}
-use Rattle.parse_types.specs.Tokens.{Kinds, take_sign}
+use Rattle.token_steps.specs.Tokens.{Kinds, take_sign}
 use Rattle.parse_types.proofs.Going.{many-stops, many-goes}
 
 module _ (n : ℕ) (middle : Bool) (ks rs : Kinds) where

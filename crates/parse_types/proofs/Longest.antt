@@ -7,7 +7,7 @@ use Rattle.bal_tree.specs.Spells.{onto, kinds_of}
 use Rattle.bal_tree.specs.TypePieces.{type_pieces}
 use Rattle.bal_tree.specs.TypeRules.{TypeEnd, type_end, type_is_formed}
 use Rattle.parse_types.specs.Reaches.{Left, union, inside, longest_type}
-use Rattle.parse_types.specs.Tokens.{Kinds}
+use Rattle.token_steps.specs.Tokens.{Kinds}
 use Rattle.parse_types.proofs.Follows.{Stays, Ends}
 use Rattle.parse_types.proofs.Law.{all_loops, all_loops-less, all_loops-end, follows-both}
 use Rattle.parse_types.proofs.Readings.{length-kinds}

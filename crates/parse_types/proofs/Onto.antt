@@ -2,7 +2,7 @@
 use Rattle.std.proofs.Common.{◌≤◌, length, arith}
 use Rattle.bal_tree.specs.Pieces.{Pieces, nothing, token, starts, ◌&◌}
 use Rattle.bal_tree.specs.Spells.{onto}
-use Rattle.parse_types.specs.Tokens.{Kinds}
+use Rattle.token_steps.specs.Tokens.{Kinds}
 
 pub onto-longer : (p : Pieces) (rest : Kinds) → length rest ≤ length (onto p rest)
 onto-longer nothing rest = omega arith

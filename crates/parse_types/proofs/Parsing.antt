@@ -9,10 +9,10 @@ use Rattle.bal_tree.specs.declared.types.TypeTree.{TypeTree}
 use Rattle.bal_tree.specs.Pieces.{Pieces, nothing, token, starts, ◌&◌}
 use Rattle.bal_tree.specs.Spells.{Spells, kinds_of}
 use Rattle.bal_tree.specs.TypeRules.{type_end}
-use Rattle.parse_types.specs.declared.steps.Missing.{Missing}
+use Rattle.token_steps.specs.declared.steps.Missing.{Missing}
 use Rattle.parse_types.specs.Reaches.{Left, union, inside}
 use Rattle.parse_types.specs.Starts.{StartsType, LeavesAs, IfMissing, type_left}
-use Rattle.parse_types.specs.Tokens.{Kinds}
+use Rattle.token_steps.specs.Tokens.{Kinds}
 use Rattle.parse_types.proofs.Law.{all_loops, all_loops-less}
 use Rattle.parse_types.proofs.Readings.{length-kinds}
 use Rattle.parse_types.proofs.WholeLaw.{type-law}

@@ -19,7 +19,7 @@ use Rattle.bal_tree.specs.NamePieces.{name_pieces, literal_pieces}
 use Rattle.bal_tree.specs.TypePieces.{builtin_key, in_angles as angle_pieces}
 use Rattle.bal_tree.specs.TypeRules.{TypeFacts, closed, is_int, name_fits}
 use Rattle.parse_types.specs.Loops.{◌>>=◌, or_else, else_stays, many}
-use Rattle.parse_types.specs.Tokens.{Kinds, take_sign, take_word}
+use Rattle.token_steps.specs.Tokens.{Kinds, take_sign, take_word}
 use Rattle.parse_types.specs.Reaches.{open_at, left_length, colon_word, prefixed, suffix_step, in_angles, ampersand_step, bar_step, sign_type, primary, postfix, intersection, union, no_more, inside}
 use Rattle.parse_types.proofs.Taking.{take_sign-less, take_word-less}
 use Rattle.parse_types.proofs.Follows.{Closes, open_end, went-here, went-option}

@@ -9,13 +9,8 @@ use Rattle.bal_base.specs.declared.token.TokenKind.TheVariants.{Sign as SignKind
 use Rattle.bal_base.specs.declared.token.Sign.{Sign}
 use Rattle.bal_tree.specs.Pieces.{Pieces, starts, ◌&◌, sign}
 use Rattle.bal_tree.specs.Spells.{Heads, Spells, first_place, kinds_of}
+use Rattle.token_steps.proofs.Spelling.{spells-at, spells-both}
 use Rattle.parse_types.specs.Starts.{Reading}
-
-pub spells-both : (file : ℕ) (p q : Pieces) (a b c : List Token) → Spells file p a b → Spells file q b c → Spells file (p & q) a c
-spells-both file p q a b c h k = (b, h, k)
-
-pub spells-at : (file : ℕ) (at : Place) (q : Pieces) (a c : List Token) → at ≡ first_place file a → Spells file q a c → Spells file (starts at & q) a c
-spells-at file at q a c h k = (a, (h, refl), k)
 
 pub ruleset spelling = (spells-at, spells-both)
 

@@ -11,7 +11,7 @@ use Rattle.bal_tree.specs.NamePieces.{word_pieces}
 use Rattle.bal_tree.specs.TypePieces.{as_rest}
 use Rattle.bal_tree.specs.TypeRules.{TypeFacts}
 use Rattle.parse_types.specs.Loops.{◌>>=◌, many}
-use Rattle.parse_types.specs.Tokens.{Kinds, take_sign}
+use Rattle.token_steps.specs.Tokens.{Kinds, take_sign}
 use Rattle.parse_types.specs.Reaches.{field_behind, field, fields, fields_behind, record_type, inside}
 use Rattle.parse_types.proofs.Going.{many-stops, many-goes}
 use Rattle.parse_types.proofs.Onto.{onto-longer}

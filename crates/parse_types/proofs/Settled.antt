@@ -9,7 +9,7 @@ use Rattle.bal_base.specs.declared.token.Keyword.TheVariants.{Int, Map, Future, 
 use Rattle.bal_base.specs.declared.token.Sign.{Sign}
 use Rattle.bal_base.specs.declared.token.Sign.TheVariants.{Colon, Question, Minus, OpenParen, OpenBracket, CloseBracket, Ampersand, Bar}
 use Rattle.parse_types.specs.Loops.{◌>>=◌, or_else, next, within, many}
-use Rattle.parse_types.specs.Tokens.{Kinds, take_sign, take_key, take_word}
+use Rattle.token_steps.specs.Tokens.{Kinds, take_sign, take_key, take_word}
 use Rattle.bal_tree.specs.declared.types.TypeTree.{TypeTree}
 use Rattle.bal_tree.specs.Spells.{onto, kinds_of}
 use Rattle.bal_tree.specs.TypePieces.{type_pieces}
@@ -19,7 +19,7 @@ use Rattle.parse_types.specs.Starts.{LeavesAs, TypeReading, Settled, type_left}
 use Rattle.bal_base.specs.declared.stop.Stop.{Stop}
 use Rattle.bal_base.specs.declared.token.Token.{Token}
 use Rattle.bal_tree.proofs.Spelling.{spells-onto}
-use Rattle.parse_types.specs.declared.steps.Missing.{Missing}
+use Rattle.token_steps.specs.declared.steps.Missing.{Missing}
 use Rattle.parse_types.proofs.Readings.{length-kinds}
 use Rattle.parse_types.proofs.Law.{all_loops, all_loops-less}
 use Rattle.parse_types.proofs.Taking.{take_sign-less, take_word-less, or_else-less}

@@ -7,7 +7,7 @@ use Rattle.bal_base.specs.contracts.token.Keyword.{the_type as the_keywords}
 use Rattle.bal_base.specs.declared.token.TokenKind.TheVariants.{Word as WordKind, Keyword as KeywordKind, Sign as SignKind}
 use Rattle.bal_base.specs.declared.token.Keyword.{Keyword}
 use Rattle.bal_base.specs.declared.token.Sign.{Sign}
-use Rattle.parse_types.specs.Tokens.{Kinds, take_sign, take_key, take_word}
+use Rattle.token_steps.specs.Tokens.{Kinds, take_sign, take_key, take_word}
 use Rattle.parse_types.specs.Loops.{or_else, else_stays}
 
 pub take_sign-less : (s : Sign) (ks a : Kinds) → take_sign s ks ≡ Some a → length a < length ks

@@ -22,7 +22,7 @@ use Rattle.bal_tree.specs.Spells.{onto}
 use Rattle.bal_tree.specs.TypeLayers.{of_intersection_type, of_postfix_type, of_primary_type, of_type_tree, of_field_tree, of_param_type, of_param_types}
 use Rattle.bal_tree.specs.TypePieces.{writing, as_rest, in_angles as angle_pieces, function_word, type_pieces, intersection_pieces, postfix_type_pieces, primary_type_pieces, field_pieces, param_type_pieces, param_types_pieces}
 use Rattle.bal_tree.specs.TypeRules.{TypeFacts, facts, part_is_formed, is_length, name_fits}
-use Rattle.parse_types.specs.Tokens.{Kinds, take_sign, take_word}
+use Rattle.token_steps.specs.Tokens.{Kinds, take_sign, take_word}
 use Rattle.parse_types.specs.Loops.{◌>>=◌, else_stays}
 use Rattle.parse_types.specs.Reaches.{params, inside, open_at}
 use Rattle.parse_types.proofs.Follows.{Stays}

@@ -1,6 +1,5 @@
 pub mod Listings
 pub mod Loops
-pub mod Tokens
 pub mod Nesting
 pub mod Reaches
 pub mod Starts

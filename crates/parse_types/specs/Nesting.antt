@@ -24,7 +24,7 @@ use Rattle.bal_base.specs.declared.token.TokenKind.TheVariants.{Keyword as Keywo
 use Rattle.bal_base.specs.declared.token.Keyword.TheVariants.{Else, Function, Is}
 use Rattle.bal_base.specs.declared.token.Sign.TheVariants.{OpenParen, CloseParen, OpenBracket, CloseBracket, OpenBrace, CloseBrace, OpenBraceBar, CloseBraceBar, Semicolon, Comma, FatArrow}
 use Rattle.parse_types.specs.declared.nesting.Level.{Level}
-use Rattle.parse_types.specs.Tokens.{Kinds}
+use Rattle.token_steps.specs.Tokens.{Kinds}
 
 -- ---- what a token is
 

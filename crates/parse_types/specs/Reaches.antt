@@ -11,7 +11,7 @@ use Rattle.bal_base.specs.declared.token.Sign.{Sign}
 use Rattle.bal_base.specs.declared.token.Sign.TheVariants.{Bar, Ampersand, Question, OpenBracket, CloseBracket, Minus, OpenParen, CloseParen, Less, Greater, Colon, Comma, Ellipsis, Semicolon, OpenBrace, CloseBrace, OpenBraceBar, CloseBraceBar}
 use Rattle.bal_tree.specs.TypeRules.{is_length}
 use Rattle.parse_types.specs.Loops.{◌>>=◌, or_else, else_stays, many}
-use Rattle.parse_types.specs.Tokens.{Kinds, take_sign, take_key, take_word, take_int}
+use Rattle.token_steps.specs.Tokens.{Kinds, take_sign, take_key, take_word, take_int}
 
 -- what is left behind a type, and whether the type ends in the result of a function type
 pub record Left : Type 0 where

@@ -19,7 +19,7 @@ use Rattle.bal_tree.specs.Spells.{Spells, onto, kinds_of, first_place}
 use Rattle.bal_tree.specs.TypePieces.{type_pieces, intersection_pieces, postfix_type_pieces, primary_type_pieces}
 use Rattle.bal_tree.specs.TypeRules.{type_is_formed, intersection_is_formed, postfix_type_is_formed, primary_type_is_formed, type_end, intersection_end, postfix_type_end, primary_type_end}
 use Rattle.parse_types.specs.Nesting.{first_too_deep, enclosed}
-use Rattle.parse_types.specs.Tokens.{Kinds, take_sign}
+use Rattle.token_steps.specs.Tokens.{Kinds, take_sign}
 use Rattle.parse_types.specs.Reaches.{Left, colon_word}
 
 -- ---- promises

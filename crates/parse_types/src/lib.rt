@@ -6,7 +6,7 @@
 //! - [`first_too_deep`]: the first token that is nested too deeply, over all tokens or over those before the first
 //!   closing bracket that closes nothing of them ([`enclosed`]).
 //! - [`Missing`] and [`optional`], [`place`], [`sign`], [`after_sign`], [`key`], [`after_key`], [`int`] and [`word`]:
-//!   steps over the tokens at the front; [`isolated_if_there`]: that word.
+//!   steps over the tokens at the front, which are those of `token_steps`; [`isolated_if_there`]: that word.
 //! - [`rest_from`] and [`refused`]: how a parser begins at a place, and how it refuses.
 //!
 //! `types` reads the levels of types from the loosest to the tightest, `primary`, `lists` and `records` what is
@@ -22,13 +22,12 @@ ghost use Rattle.bal_tree.specs.Reads.{ReadsType};
 ghost use Rattle.parse_types.specs.Nesting as nesting_spec;
 ghost use Rattle.parse_types.specs.Reaches as reader;
 ghost use Rattle.parse_types.specs.Starts.{IfMissing, IsTooDeep, HasNoType, LeavesAs, Settled, StartsType, TypeReading, refusal, type_left};
-ghost use Rattle.parse_types.specs.Tokens.{Kinds};
+ghost use Rattle.token_steps.specs.Tokens.{Kinds};
 
 mod lists;
 mod nesting;
 mod primary;
 mod records;
-mod steps;
 mod suffixes;
 mod types;
 
@@ -38,7 +37,7 @@ use bal_tree::TypeTree;
 pub use lists::isolated_if_there;
 pub use nesting::{depth_behind, enclosed, first_too_deep};
 use std::alloc::Global;
-pub use steps::{Missing, after_key, after_sign, int, key, optional, place, sign, word};
+pub use token_steps::{Missing, after_key, after_sign, int, key, optional, place, sign, word};
 
 /// The longest type that starts at the place `from` of the tokens, and the place after it. `file` is the file's number
 /// in the places.

@@ -15,10 +15,10 @@ ghost use Rattle.parse_types.specs.Reaches.{open_at};
 ghost use Rattle.parse_types.specs.Listings.{rest_is_formed};
 ghost use Rattle.parse_types.specs.Starts.{Leaves, LeavesAs, primary_left, PrimaryReading, Reading};
 
-use crate::steps::{Missing, after_key, after_sign, key, optional, place, sign, word};
 use crate::types::TypeReader;
 use bal_base::{Keyword, Sign, Stop, Token};
 use bal_tree::{ParamType, ParamTypes, PrimaryType, TypeTree, Word};
+use token_steps::{Missing, after_key, after_sign, key, optional, place, sign, word};
 
 /// Parts of one kind, and what takes the rest.
 type Listed<T> = (Vec<T>, Option<Box<TypeTree>>);

@@ -14,10 +14,10 @@ ghost use Rattle.parse_types.specs.Reaches as spec;
 ghost use Rattle.parse_types.specs.Reaches.{open_at};
 ghost use Rattle.parse_types.specs.Starts.{Leaves, LeavesAs, primary_left, PrimaryReading, Reading};
 
-use crate::steps::{Missing, after_key, after_sign, int, key, optional, place, sign, word};
 use crate::types::TypeReader;
 use bal_base::{Keyword, Place, Sign, Stop, Token};
 use bal_tree::{BuiltinType, Literal, Prefix, PrimaryType, QualifiedName, TypeTree, Word};
+use token_steps::{Missing, after_key, after_sign, int, key, optional, place, sign, word};
 
 /// A name of a type, whose first token is a word.
 pub(crate) fn name(file: u32, middle: bool, tokens: &[Token]) -> Option<(PrimaryType, &[Token])>

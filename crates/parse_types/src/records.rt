@@ -15,10 +15,10 @@ ghost use Rattle.parse_types.specs.Reaches.{open_at};
 ghost use Rattle.parse_types.specs.Listings.{rest_is_formed, rest_field_pieces};
 ghost use Rattle.parse_types.specs.Starts.{Leaves, LeavesAs, primary_left, PrimaryReading, Reading};
 
-use crate::steps::{Missing, after_sign, key, optional, place, sign, word};
 use crate::types::TypeReader;
 use bal_base::{Keyword, Place, Sign, Stop, Token};
 use bal_tree::{FieldTree, PrimaryType, TypeTree};
+use token_steps::{Missing, after_sign, key, optional, place, sign, word};
 
 /// Fields, and what takes the rest.
 type Fields = (Vec<FieldTree>, Option<Box<TypeTree>>);

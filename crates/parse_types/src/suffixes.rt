@@ -11,10 +11,10 @@ ghost use Rattle.parse_types.specs.Reaches.{open_at};
 ghost use Rattle.parse_types.specs.Starts.{postfix_left, Reading};
 ghost use Rattle.parse_types.specs.Suffixes.{suffix_pieces, suffix_fits};
 
-use crate::steps::{after_sign, int};
 use bal_base::{Memory, Place, Sign, Token};
 use bal_tree::PostfixType;
 use std::alloc::Global;
+use token_steps::{after_sign, int};
 
 /// A suffix of a type.
 #[derive(Clone, Copy)]

@@ -13,11 +13,11 @@ ghost use Rattle.parse_types.specs.Reaches as spec;
 ghost use Rattle.parse_types.specs.Starts.{Leaves, LeavesAs, type_left, intersection_left, postfix_left, primary_left, TypeReading, IntersectionReading, PostfixReading, PrimaryReading};
 
 use crate::primary::{int_or_name, name};
-use crate::steps::{Missing, after_sign, optional, place};
 use crate::suffixes::{suffix_behind, suffixed};
 use bal_base::{Keyword, Memory, Place, Sign, Stop, Token, TokenKind};
 use bal_tree::{IntersectionType, Literal, PostfixType, PrimaryType, TypeTree};
 use std::alloc::Global;
+use token_steps::{Missing, after_sign, optional, place};
 
 /// What reads the types of one file: in the middle of a conditional expression, where a `:` outside brackets ends the
 /// middle, or elsewhere.

@@ -8,7 +8,7 @@ use Rattle.bal_tree.specs.ExprRules.{expr_is_formed}
 use Rattle.bal_tree.specs.Reads.{ReadsExpr}
 use Rattle.parse_types.specs.Nesting.{first_too_deep, enclosed}
 use Rattle.parse_types.specs.Starts.{IsTooDeep, refusal}
-use Rattle.parse_types.specs.Tokens.{Kinds}
+use Rattle.token_steps.specs.Tokens.{Kinds}
 use Rattle.parse_types.proofs.Parsing.{rest-place}
 use Rattle.parse_expr.specs.Starts.{StartsExpr, HasNoExpr}
 use Rattle.parse_expr.proofs.parse_expr.Goals as goal

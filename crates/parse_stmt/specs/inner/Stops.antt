@@ -18,7 +18,7 @@ use Rattle.bal_tree.specs.Spells.{Heads, Spells, kinds_of, onto}
 use Rattle.bal_tree.specs.StmtPieces.{block_pieces, else_pieces, if_pieces, stmt_pieces}
 use Rattle.bal_tree.specs.StmtRules.{block_is_formed, else_is_formed, if_is_formed, stmt_is_formed}
 use Rattle.parse_types.specs.Starts.{Reading}
-use Rattle.parse_types.specs.Tokens.{Kinds}
+use Rattle.token_steps.specs.Tokens.{Kinds}
 use Rattle.parse_stmt.specs.Reaches.{goes_on, inside, led, stmt, then_part}
 use Rattle.parse_stmt.specs.Starts.{StmtReading, ends_stmts}
 use denote.Ref.{Bor}

@@ -6,7 +6,7 @@ use Rattle.bal_tree.specs.TypePieces.{type_pieces}
 use Rattle.parse_types.specs.Nesting.{first_too_deep, enclosed}
 use Rattle.bal_base.specs.Stops.{IfFault}
 use Rattle.parse_types.specs.Starts.{StartsType, IsTooDeep, HasNoType, refusal}
-use Rattle.parse_types.specs.Tokens.{Kinds}
+use Rattle.token_steps.specs.Tokens.{Kinds}
 use Rattle.parse_types.proofs.Parsing.{rest-place}
 use Rattle.parse_types.proofs.parse_type.Goals as goal
 

@@ -13,7 +13,7 @@ use Rattle.bal_tree.specs.Pieces.{◌&◌, starts, key, sign, if_boxed, separate
 use Rattle.bal_tree.specs.Spells.{Spells, kinds_of}
 use Rattle.parse_types.specs.Loops.{◌>>=◌, many}
 use Rattle.parse_types.specs.Starts.{IfMissing, Leaves}
-use Rattle.parse_types.specs.Tokens.{take_sign, take_key}
+use Rattle.token_steps.specs.Tokens.{take_sign, take_key}
 use Rattle.parse_types.proofs.Commas.{trailed, spells-trailed, spells-last}
 use Rattle.parse_types.proofs.Holding.{leaves-missing, leaves-found, if-missing}
 use Rattle.parse_types.proofs.Law.{both_pass}

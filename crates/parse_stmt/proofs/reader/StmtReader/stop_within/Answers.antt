@@ -1,7 +1,7 @@
 use Rattle.std.proofs.Common.{false}
 use Rattle.bal_base.specs.declared.token.Keyword.TheVariants.{If as IfKey}
 use Rattle.bal_tree.specs.Spells.{kinds_of}
-use Rattle.parse_types.specs.Tokens.{take_key}
+use Rattle.token_steps.specs.Tokens.{take_key}
 use Rattle.parse_stmt.proofs.KnownAll.{known}
 use Rattle.parse_stmt.proofs.StopWithin.{answer-if, key-there, within-braces}
 use Rattle.parse_stmt.proofs.reader.StmtReader.stop_within.Goals as goal

@@ -12,7 +12,7 @@ use Rattle.bal_tree.specs.TypeRules.{type_is_formed, intersection_is_formed, pos
 use Rattle.bal_tree.specs.declared.types.PrimaryType.TheVariants.{Tuple, ClosedRecord, OpenRecord}
 use Rattle.parse_types.specs.Listings.{rest_is_formed, rest_field_pieces}
 use Rattle.parse_types.specs.Loops.{◌>>=◌, or_else}
-use Rattle.parse_types.specs.Tokens.{take_sign}
+use Rattle.token_steps.specs.Tokens.{take_sign}
 use Rattle.parse_types.specs.Reaches.{open_at, tuple, params, record_type, record_behind, open_record, left_length, suffix_step, ampersand_step, bar_step, postfix, intersection, union, inside, type_list, param_list, fields}
 use Rattle.parse_types.specs.Starts.{IfMissing, type_left, intersection_left, postfix_left}
 use Rattle.parse_types.specs.Suffixes.{suffix_pieces, suffix_fits}

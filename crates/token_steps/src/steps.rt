@@ -1,13 +1,13 @@
 //! Steps over the tokens at the front of a list, as all parsers make them.
-#![tactic(auto, using(crate::proofs::Readings::spelling))]
+#![tactic(auto, using(crate::proofs::Spelling::spelling))]
 
 ghost use Rattle.std.specs.Prelude.{◌≡◌, ◌<◌, length, option_map, Some, None, Ok, Err, IfSome, IfOk, IfErr, MatchOption, MatchResult};
 ghost use Rattle.bal_base.specs.declared.token.TokenKind.TheVariants.{Keyword as KeywordKind, Int as IntKind, Sign as SignKind};
 ghost use Rattle.bal_base.specs.declared.stop.Stop.TheVariants.{Memory as OutOfMemory, Fault as FaultOf};
 ghost use Rattle.bal_tree.specs.NamePieces.{word_pieces};
 ghost use Rattle.bal_tree.specs.Spells.{Heads, Spells, first_place, kinds_of};
-ghost use Rattle.parse_types.specs.declared.steps.Missing.{Missing as MissingOf};
-ghost use Rattle.parse_types.specs.Tokens.{take_sign, take_key, take_word, take_int};
+ghost use Rattle.token_steps.specs.declared.steps.Missing.{Missing as MissingOf};
+ghost use Rattle.token_steps.specs.Tokens.{take_sign, take_key, take_word, take_int};
 
 use bal_base::{Keyword, Memory, Place, Sign, Stop, Token, TokenKind};
 use bal_tree::Word;
