@@ -6,6 +6,7 @@ pub mod ExprLayers
 pub mod ExprParts
 pub mod ExprPieces
 pub mod ExprRules
+pub mod Files
 pub mod Levels
 pub mod NamePieces
 pub mod Parts

@@ -9,7 +9,8 @@
 //! - [`Rhs`] and [`Action`]: actions, and what may stand at the right of an assignment.
 //! - [`Stmt`] and its parts: statements.
 //! - [`FileTree`], [`Import`] and [`Def`]: a file, its imports and its definitions.
-//! - [`Package`], [`Module`] and [`SourceFile`]: packages.
+//! - [`Package`], [`Module`] and [`SourceFile`]: packages; [`file_in`], [`file_numbered`]: the file that a
+//!   place names.
 //! - [`yield_of`]: the tokens of a file's tree.
 //! - [`well_formed`]: whether a file's tree is one that its tokens may be read as.
 //!
@@ -37,7 +38,7 @@ pub use def::{Body, ConstDef, Def, FileTree, FunctionDef, Import, TypeDef, Varia
 pub use expr::{BinaryOp, Call, Detail, Expr, Key, Member, Postfix, PrefixOp, Primary};
 pub use level::{Grouping, Level};
 pub use name::{ConstValue, Literal, Prefix, QualifiedName, Word};
-pub use package::{Files, Module, Modules, Package, SourceFile};
+pub use package::{Files, Module, Modules, Package, SourceFile, file_in, file_numbered};
 pub use params::{Param, Params};
 pub use stmt::{
     AssignOp, Block, Clause, Else, IfStmt, LocalType, Pattern, Range, RangeOp, Stmt, Target,

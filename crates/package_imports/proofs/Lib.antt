@@ -1,4 +1,6 @@
 pub mod Cyclic
+pub mod Linking
+pub mod Moved
 pub mod Once
 pub mod Others
 pub mod Prefixes

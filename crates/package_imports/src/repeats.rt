@@ -24,8 +24,8 @@ pub fn first_repeat(alloc: Global, imports: &[Import]) -> Result<Option<Place>, 
     Ok(None)
 }
 
-/// The word behind `as`, or else the last word.
-fn prefix(import: &Import) -> &Name
+/// The prefix of an import: the word behind `as`, or else the last word.
+pub fn prefix(import: &Import) -> &Name
     ensures { result.now ≡ prefix_of import.now }
 {
     &or_word(&import.prefix, last_word(import)).name

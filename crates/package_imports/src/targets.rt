@@ -100,31 +100,12 @@ impl Home {
         requires { path.now ≡ path_of import.now }
         ensures { result ≡ option_map Target.Module (own_module self.now import.now) }
     {
-        if !self.is_own(import) {
+        if !is_own(&self.org, import) {
             return None;
         }
         match self.place_of(path) {
             Some(place) => Some(Target::Module(place + 1)),
             None => None,
-        }
-    }
-
-    /// Whether the import may name a module of the package by its organisation.
-    fn is_own(&self, import: &Import) -> bool
-        ensures { result ≡ is_own_org self.now.org (org_of import.now) }
-    {
-        match &import.second {
-            Some(_) => self.is_of(&import.first.name),
-            None => true,
-        }
-    }
-
-    fn is_of(&self, org: &Name) -> bool
-        ensures { result ≡ is_org org.now self.now.org }
-    {
-        match &self.org {
-            Some(own) => is_same(own, org),
-            None => false,
         }
     }
 
@@ -134,6 +115,25 @@ impl Home {
         ensures small { IfSome result (λ place. place < 2 ^ 63) }
     {
         self.paths.iter().position(|known| is_same(known, path))
+    }
+}
+
+/// Whether the import may name a module of a package of this organisation.
+pub(crate) fn is_own(own: &Option<Name>, import: &Import) -> bool
+    ensures { result ≡ is_own_org own.now (org_of import.now) }
+{
+    match &import.second {
+        Some(_) => is_of(own, &import.first.name),
+        None => true,
+    }
+}
+
+fn is_of(own: &Option<Name>, org: &Name) -> bool
+    ensures { result ≡ is_org org.now own.now }
+{
+    match own {
+        Some(own) => is_same(own, org),
+        None => false,
     }
 }
 
@@ -192,7 +192,7 @@ fn paths_to(alloc: Global, name: &Name, folders: &[Name]) -> Result<Vec<Name>, M
 }
 
 /// A name, a dot and another name.
-fn behind_dot(alloc: Global, first: &Name, second: &Name) -> Result<Name, Memory>
+pub(crate) fn behind_dot(alloc: Global, first: &Name, second: &Name) -> Result<Name, Memory>
     ensures { IfOk result (λ n. n ≡ first.now ++ 46 ∷ second.now) }
 {
     let dot = Text::new(alloc, ".")?;
@@ -202,7 +202,7 @@ fn behind_dot(alloc: Global, first: &Name, second: &Name) -> Result<Name, Memory
 }
 
 /// What stands behind the organisation of an import, as one name.
-fn path(alloc: Global, import: &Import) -> Result<Name, Memory>
+pub(crate) fn path(alloc: Global, import: &Import) -> Result<Name, Memory>
     ensures { IfOk result (λ p. p ≡ path_of import.now) }
 {
     let first = or_word(&import.second, &import.first).name.share();
@@ -230,7 +230,7 @@ pub(crate) fn or_word<'a>(word: &'a Option<Word>, other: &'a Word) -> &'a Word
 }
 
 /// Whether the import, with this path, is `ballerina/io`.
-fn is_io(import: &Import, path: &Name) -> bool
+pub(crate) fn is_io(import: &Import, path: &Name) -> bool
     requires { path.now ≡ path_of import.now }
     ensures { result ≡ is_library import.now }
 {
@@ -248,7 +248,7 @@ fn is_word(name: &Name, word: &str) -> bool
     name.as_str() == word
 }
 
-fn is_same(a: &Name, b: &Name) -> bool
+pub(crate) fn is_same(a: &Name, b: &Name) -> bool
     ensures { result ≡ is_same a.now b.now }
 {
     a.as_text() == b.as_text()

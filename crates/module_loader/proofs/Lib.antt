@@ -1,0 +1,19 @@
+mod Cases
+pub mod Adding
+pub mod AlikeFiles
+pub mod Due
+pub mod Fronts
+pub mod Graphing
+pub mod Links
+pub mod Lists
+pub mod Loads
+pub mod Made
+pub mod Nexts
+pub mod OneFolder
+pub mod OneRefusal
+pub mod Placing
+pub mod Putting
+pub mod Seeking
+pub mod Sorted
+pub mod Stops
+pub mod Taking

@@ -1,0 +1,6 @@
+use Rattle.std.proofs.Common.{◌≡◌, None, take}
+use Rattle.module_loader.specs.Packages.{first_place, unknown_in}
+use Rattle.module_loader.proofs.imports.first_unnamed.Given as goal
+
+abbrev pub invariant-loop-file : goal.invariant-loop-file
+invariant-loop-file l = first_place (unknown_in l.home) (take l.file-index l.read) ≡ None
