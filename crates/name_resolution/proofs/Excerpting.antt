@@ -1,6 +1,6 @@
 -- Each choice of definitions has a package of its own, and what that says of names is what the chosen ones say.
-use Rattle.std.proofs.Common.{◌≡◌, ℕ, zero, suc, ◌+◌, ◌≤◌, Bool, true, false, List, [], ◌∷◌, ◌++◌, length, map, refl, sym, ap, ◌∙◌, arith, Option, cond}
-use Rattle.std.specs.Prelude.{slice_get}
+use Rattle.std.proofs.Common.{◌≡◌, ℕ, zero, suc, ◌+◌, ◌≤◌, Bool, true, false, List, [], ◌∷◌, ◌++◌, length, map, refl, sym, ap, ◌∙◌, arith, Option, None, Some, cond}
+use Rattle.std.specs.Prelude.{nat_eq, slice_get}
 use Rattle.std.specs.List.{AllZip}
 use Rattle.std.specs.Option.{option_and_then}
 use Rattle.std.proofs.lemmas.List.{length-map}
@@ -8,8 +8,10 @@ use Rattle.bal_base.specs.declared.text.Name.{Name}
 use Rattle.bal_tree.specs.declared.package.Module.{Module}
 use Rattle.bal_tree.specs.declared.package.Package.{Package}
 use Rattle.bal_tree.specs.declared.package.SourceFile.{SourceFile}
+use Rattle.package_imports.specs.Imports.{path_to}
+use Rattle.package_imports.specs.InPackage.{linked, path_in, paths_from}
 use Rattle.name_resolution.specs.Definitions.{Placed, definitions_of, in_files, in_modules, placed}
-use Rattle.name_resolution.specs.Excerpts.{IsExcerpt, IsSameFile, IsSameModule, picked}
+use Rattle.name_resolution.specs.Excerpts.{HasSameImports, IsExcerpt, IsSameFile, IsSameModule, picked}
 use Rattle.name_resolution.specs.Named.{source_at}
 use Rattle.name_resolution.specs.Outlines.{import_source, outline_of, outlines_of}
 use Rattle.name_resolution.proofs.Placed.{outline_at, outlines-placed}
@@ -108,18 +110,32 @@ module _ (chosen : ℕ → Bool) where
       ap (λ ys. ys ++ in_modules (suc m) (modules_from (n + length here) (suc m) xs)) (files-picked n m 0 x.files)
       ∙ ap (λ ys. picked chosen n here ++ ys) (modules-picked (n + length here) (suc m) xs) ∙ sym (picked-append n here (in_modules (suc m) xs))
 
+  -- imports name the same
+  same-paths : (p q : Package) → q.name ≡ p.name → q.main ≡ p.main → (n m : ℕ) (ms : List Module) (number : ℕ) → paths_from q number (modules_from n m ms) ≡ paths_from p number ms
+  same-paths p q name main n m [] number = refl
+  same-paths p q name main n m (x ∷ xs) number =
+      ap (λ l. path_in q number x ∷ l) (same-paths p q name main (n + length (in_files m 0 x.files)) (suc m) xs (suc number))
+      ∙ (λ i. cond (nat_eq number (main i)) None (Some (path_to (name i) x.name)) ∷ paths_from p (suc number) xs)
+
   pub is-excerpt : (p : Package) → IsExcerpt chosen p (excerpt_by p)
   unfolding excerpt_by
-  is-excerpt p = record { main = refl; modules = same-modules 0 0 p.modules; definitions = modules-picked 0 0 p.modules }
+  is-excerpt p = record {
+    main = refl;
+    imports = record { home = λ i. record { org = p.org; paths = same-paths p (excerpt_by p) refl refl 0 0 p.modules 0 i }; modules = same-modules 0 0 p.modules };
+    definitions = modules-picked 0 0 p.modules;
+  }
 
--- each package has the modules of itself
+-- each package has the imports of itself
 same-file : (fs : List SourceFile) → AllZip IsSameFile fs fs
 same-file [] = tt
 same-file (f ∷ fs) = (refl, same-file fs)
 
-pub same-module : (ms : List Module) → AllZip IsSameModule ms ms
+same-module : (ms : List Module) → AllZip IsSameModule ms ms
 same-module [] = tt
 same-module (m ∷ ms) = (same-file m.files, same-module ms)
+
+pub same-imports : (p : Package) → HasSameImports p p
+same-imports p = record { home = refl; modules = same-module p.modules }
 
 -- ---- what it says of names
 
@@ -132,11 +148,14 @@ same-there R f g same (x ∷ xs) [] i h = absurd h
 same-there R f g same (x ∷ xs) (y ∷ ys) zero h = same x y h.0
 same-there R f g same (x ∷ xs) (y ∷ ys) (suc i) h = same-there R f g same xs ys i h.1
 
-module _ (p q : Package) (same : AllZip IsSameModule p.modules q.modules) where
+module _ (p q : Package) (home : linked q ≡ linked p) (same : AllZip IsSameModule p.modules q.modules) where
   source-alike : (d : Placed) (prefix : Name) → source_at q d prefix ≡ source_at p d prefix
   source-alike d prefix =
-      same-there IsSameModule (λ m. option_and_then (λ f. import_source f.tree.imports.items prefix) (slice_get m.files d.file)) (λ m. option_and_then (λ f. import_source f.tree.imports.items prefix) (slice_get m.files d.file))
-      (λ m n h. same-there IsSameFile (λ f. import_source f.tree.imports.items prefix) (λ f. import_source f.tree.imports.items prefix) (λ f g e. ap (λ is. import_source is prefix) (sym e)) m.files n.files d.file h)
+      ap (λ h. option_and_then (λ m. option_and_then (λ f. import_source h f.tree.imports.items prefix) (slice_get m.files d.file)) (slice_get q.modules d.«module»)) home
+      ∙ same-there IsSameModule (λ m. option_and_then (λ f. import_source (linked p) f.tree.imports.items prefix) (slice_get m.files d.file))
+      (λ m. option_and_then (λ f. import_source (linked p) f.tree.imports.items prefix) (slice_get m.files d.file))
+      (λ m n h. same-there IsSameFile (λ f. import_source (linked p) f.tree.imports.items prefix) (λ f. import_source (linked p) f.tree.imports.items prefix)
+      (λ f g e. ap (λ is. import_source (linked p) is prefix) (sym e)) m.files n.files d.file h)
       p.modules q.modules d.«module» same
 
   outline-alike : (d : Placed) → outline_at q d ≡ outline_at p d
@@ -148,5 +167,5 @@ module _ (p q : Package) (same : AllZip IsSameModule p.modules q.modules) where
 
 pub outlines-picked : (chosen : ℕ → Bool) (p q : Package) → IsExcerpt chosen p q → outlines_of q ≡ picked chosen 0 (outlines_of p)
 outlines-picked chosen p q e =
-    outlines-placed q ∙ ap (map (outline_at q)) e.definitions ∙ outlines-alike p q e.modules (picked chosen 0 (definitions_of p))
+    outlines-placed q ∙ ap (map (outline_at q)) e.definitions ∙ outlines-alike p q e.imports.home e.imports.modules (picked chosen 0 (definitions_of p))
     ∙ sym (picked-map chosen (outline_at p) 0 (definitions_of p)) ∙ ap (picked chosen 0) (sym (outlines-placed p))

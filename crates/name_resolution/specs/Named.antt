@@ -11,6 +11,7 @@ use Rattle.bal_tree.specs.declared.package.Package.{Package}
 use Rattle.bal_tree.specs.declared.params.Param.{Param}
 use Rattle.descriptors.specs.declared.names.Source.{Source}
 use Rattle.descriptors.specs.Descriptors.{descriptor_of, descriptor_if}
+use Rattle.package_imports.specs.InPackage.{linked}
 use Rattle.name_resolution.specs.Clear.{IsClear, IsClearIf}
 use Rattle.graphs.specs.Cycles.{Follows}
 use Rattle.name_resolution.specs.Definitions.{Placed, defines, is_public, name_of}
@@ -50,7 +51,7 @@ pub record IsFor (ps : List Placed) (from : ℕ) (sought : Option ℕ) (name : N
 module _ (p : Package) where
   -- what a prefix stands for in the file in which a definition stands
   abbrev pub source_at : Placed → Name → Option Source
-  source_at q prefix = option_and_then (λ m. option_and_then (λ f. import_source f.tree.imports.items prefix) (slice_get m.files q.file)) (slice_get p.modules q.«module»)
+  source_at q prefix = option_and_then (λ m. option_and_then (λ f. import_source (linked p) f.tree.imports.items prefix) (slice_get m.files q.file)) (slice_get p.modules q.«module»)
 
   -- a name in a descriptor of a definition stands for the definition with this number
   abbrev pub Stands : Placed → QualifiedName → ℕ → Type 0

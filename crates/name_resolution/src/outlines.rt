@@ -1,9 +1,11 @@
 //! What the definitions of a package say of names.
-ghost use Rattle.std.specs.Prelude.{◌≡◌, ◌++◌, ◌∷◌, [], IfOk, List, OnOk, fold, ℕ};
+ghost use Rattle.std.specs.Prelude.{◌≡◌, ◌++◌, ◌∷◌, [], IfOk, List, None, OnOk, fold, if◌then◌else◌, ℕ};
 ghost use Rattle.std.specs.List.{flat_map};
+ghost use Rattle.std.specs.Option.{option_or};
+ghost use Rattle.type_model.specs.Places.{is_same_text};
 ghost use Rattle.name_resolution.specs.Mentions.{sources};
 ghost use Rattle.descriptors.specs.Naming.{file_source};
-ghost use Rattle.name_resolution.specs.Outlines.{const_mentions, file_outlines, function_mentions, import_source, last_word as last_word_of, outline_of, outlines_from, outlines_of, param_mentions, prefix_of, rest_mentions, type_mentions, variable_mentions, word_or};
+ghost use Rattle.name_resolution.specs.Outlines.{const_mentions, file_outlines, function_mentions, import_source, outline_of, outlines_from, outlines_of, param_mentions, rest_mentions, source_of, type_mentions, variable_mentions};
 ghost use Rattle.name_resolution.specs.declared.mentions.Mention.TheVariants.{Own};
 
 use crate::main_form::may_be_main;
@@ -15,6 +17,7 @@ use bal_tree::{
 };
 use descriptors::{FileNames, Source};
 use indexmap::IndexMap;
+use package_imports::{Linked, Target, prefix};
 use std::alloc::Global;
 
 /// What a definition defines.
@@ -46,36 +49,49 @@ pub(crate) struct Outline {
 pub(crate) fn package_outlines(alloc: Global, package: &Package) -> Result<Vec<Outline>, Memory>
     ensures { IfOk result (λ made. made.items ≡ outlines_of «package».now) }
 {
+    let home = Linked::new(alloc, package)?;
+    modules_outlines(alloc, &home, package.modules.as_slice())
+}
+
+fn modules_outlines(
+    alloc: Global,
+    home: &Linked,
+    modules: &[Module],
+) -> Result<Vec<Outline>, Memory>
+    ensures { IfOk result (λ made. made.items ≡ outlines_from home.now 0 modules.now) }
+{
     let mut out = Vec::new(alloc);
-    for (number, module) in package.modules.as_slice().iter().enumerate() {
-        module_outlines(alloc, &mut out, number, module)?;
+    for (number, module) in modules.iter().enumerate() {
+        module_outlines(alloc, home, &mut out, number, module)?;
     }
     Ok(out)
 }
 
 fn module_outlines(
     alloc: Global,
+    home: &Linked,
     out: &mut Vec<Outline>,
     number: usize,
     module: &Module,
 ) -> Result<(), Memory>
-    ensures { OnOk result (out.new.items ≡ out.old.items ++ flat_map (λ file. file_outlines number file.tree) «module».now.files) }
+    ensures { OnOk result (out.new.items ≡ out.old.items ++ flat_map (λ file. file_outlines home.now number file.tree) «module».now.files) }
 {
     for file in module.files.as_slice() {
-        outlines_in_file(alloc, out, number, file)?;
+        outlines_in_file(alloc, home, out, number, file)?;
     }
     Ok(())
 }
 
 fn outlines_in_file(
     alloc: Global,
+    home: &Linked,
     out: &mut Vec<Outline>,
     number: usize,
     file: &SourceFile,
 ) -> Result<(), Memory>
-    ensures { OnOk result (out.new.items ≡ out.old.items ++ file_outlines number file.now.tree) }
+    ensures { OnOk result (out.new.items ≡ out.old.items ++ file_outlines home.now number file.now.tree) }
 {
-    let prefixes = prefixes(alloc, &file.tree.imports)?;
+    let prefixes = prefixes(alloc, home, &file.tree.imports)?;
     let reader = Reader {
         alloc,
         module: number,
@@ -87,40 +103,47 @@ fn outlines_in_file(
     Ok(())
 }
 
-/// What the prefixes of a file stand for, by its imports.
-pub fn prefixes(alloc: Global, imports: &[Import]) -> Result<FileNames, Memory>
-    ensures { IfOk result (λ made. (prefix : List ℕ) → file_source prefix made ≡ import_source imports.now prefix) }
+/// What the prefixes of a file stand for, by its imports, in the package whose modules `home` names. Its cost grows with the number of
+/// imports times that of modules.
+pub fn prefixes(alloc: Global, home: &Linked, imports: &[Import]) -> Result<FileNames, Memory>
+    ensures { IfOk result (λ made. (prefix : List ℕ) → file_source prefix made ≡ import_source home.now imports.now prefix) }
 {
-    let mut prefixes = IndexMap::new(alloc);
+    let mut names = FileNames {
+        prefixes: IndexMap::new(alloc),
+    };
     for import in imports {
-        prefixes.insert(prefix(import).share(), Source::Library)?;
+        let source = source_of(home.target(alloc, import)?)?;
+        note(&mut names, prefix(import), source)?;
     }
-    Ok(FileNames { prefixes })
+    Ok(names)
 }
 
-/// The word behind `as`, or else the last word.
-fn prefix(import: &Import) -> &Name
-    ensures { result.now ≡ prefix_of import.now }
+/// What stands under a prefix where an import names this. A number that has more than 32 bits, as no package is so large, is want of
+/// memory.
+fn source_of(target: Option<Target>) -> Result<Option<Source>, Memory>
+    ensures { IfOk result (λ source. source ≡ source_of target) }
 {
-    &or_word(&import.prefix, last_word(import)).name
-}
-
-fn last_word(import: &Import) -> &Word
-    ensures { result.now ≡ last_word_of import.now }
-{
-    match import.more.last() {
-        Some(word) => word,
-        None => or_word(&import.second, &import.first),
+    match target {
+        None => Ok(None),
+        Some(Target::Library) => Ok(Some(Source::Library)),
+        Some(Target::Module(number)) => match u32::try_from(number) {
+            Ok(number) => Ok(Some(Source::Module(number))),
+            Err(_) => Err(Memory),
+        },
     }
 }
 
-fn or_word<'a>(word: &'a Option<Word>, other: &'a Word) -> &'a Word
-    ensures { result.now ≡ word_or word.now other.now }
+/// The prefix stands for this from here on, if it stands for nothing so far.
+fn note(names: &mut FileNames, prefix: &Name, source: Option<Source>) -> Result<(), Memory>
+    ensures { OnOk result ((name : List ℕ) → file_source name names.new ≡ option_or (file_source name names.old) (if is_same_text name prefix.now then source else None)) }
 {
-    match word {
-        Some(word) => word,
-        None => other,
+    let Some(source) = source else {
+        return Ok(());
+    };
+    if names.source(prefix).is_none() {
+        names.prefixes.insert(prefix.share(), source)?;
     }
+    Ok(())
 }
 
 impl Reader<'_> {

@@ -19,6 +19,7 @@ use Rattle.descriptors.specs.Naming.{as_type, entry_in, file_source, home_of, if
 use Rattle.name_resolution.specs.Definitions.{Placed, defines, definitions_of, is_public, name_of, scope_at}
 use Rattle.name_resolution.specs.Mentions.{home_of as home_sought}
 use Rattle.name_resolution.specs.Named.{Stands, gives_type, source_at}
+use Rattle.package_imports.specs.InPackage.{linked}
 use Rattle.name_resolution.specs.Outlines.{import_source}
 use Rattle.name_resolution.proofs.Standing.{stands-for}
 use Rattle.type_builder.specs.Building.{IsFile, IsModule, first_entry}
@@ -85,13 +86,13 @@ abbrev pub AreEntriesOf : List Placed → List Entry → Type 0
 AreEntriesOf ps es = (k : ℕ) (q : Placed) (e : Entry) → slice_get ps k ≡ Some q → slice_get es k ≡ Some e → IsEntryOf q e
 
 module _ (p : Package) (own : OwnTypes) (es : List Entry) (names : Names) (entries : AreEntries p own es names) (q : Placed) where
-  of-file : (prefix : Name) (m : Module) (n : ModuleNames) → IsModule m n → source_in prefix (Some q.file) n ≡ option_and_then (λ f. import_source f.tree.imports.items prefix) (slice_get m.files q.file)
-  of-file prefix m n same = same-there IsFile (λ f. import_source f.tree.imports.items prefix) (file_source prefix) (λ f g is. is prefix) m.files n.files.items q.file same
+  of-file : (prefix : Name) (m : Module) (n : ModuleNames) → IsModule (linked p) m n → source_in prefix (Some q.file) n ≡ option_and_then (λ f. import_source (linked p) f.tree.imports.items prefix) (slice_get m.files q.file)
+  of-file prefix m n same = same-there (IsFile (linked p)) (λ f. import_source (linked p) f.tree.imports.items prefix) (file_source prefix) (λ f g is. is prefix) m.files n.files.items q.file same
 
   -- a prefix stands for the same
   same-source : (prefix : Name) → option_and_then (source_in prefix (Some q.file)) (slice_get names.modules.items q.«module») ≡ source_at p q prefix
   same-source prefix =
-      same-there IsModule (λ m. option_and_then (λ f. import_source f.tree.imports.items prefix) (slice_get m.files q.file)) (source_in prefix (Some q.file)) (of-file prefix) p.modules names.modules.items
+      same-there (IsModule (linked p)) (λ m. option_and_then (λ f. import_source (linked p) f.tree.imports.items prefix) (slice_get m.files q.file)) (source_in prefix (Some q.file)) (of-file prefix) p.modules names.modules.items
       q.«module» entries.files
 
   pub same-home : (prefix : Option Prefix) → home_of names (scope_at q) prefix ≡ home_sought q.«module» (source_at p q) prefix

@@ -17,7 +17,8 @@ use Rattle.descriptors.specs.declared.names.Meaning.{Meaning}
 use Rattle.descriptors.specs.declared.names.ModuleNames.{ModuleNames}
 use Rattle.descriptors.specs.declared.names.Names.{Names}
 use Rattle.descriptors.specs.declared.names.OwnTypes.{OwnTypes}
-use Rattle.name_resolution.specs.Excerpts.{IsSameFile, IsSameModule}
+use Rattle.name_resolution.specs.Excerpts.{HasSameImports, IsSameFile, IsSameModule}
+use Rattle.package_imports.specs.InPackage.{linked}
 use Rattle.name_resolution.specs.Outlines.{import_source}
 use Rattle.name_resolution.specs.Definitions.{Placed, defines, definitions_of, name_of}
 use Rattle.type_builder.specs.Building.{IsFile, IsModule}
@@ -74,10 +75,12 @@ zip-through R P Q f (x ∷ xs) (y ∷ ys) [] r p = absurd p
 zip-through R P Q f (x ∷ xs) (y ∷ ys) (z ∷ zs) r p = (f x y z r.0 p.0, zip-through R P Q f xs ys zs r.1 p.1)
 
 -- the prefixes are also those of modules with the same imports
-pub same-prefixes : (ms ns : List Module) (xs : List ModuleNames) → AllZip IsSameModule ms ns → AllZip IsModule ms xs → AllZip IsModule ns xs
-same-prefixes =
-    zip-through IsSameModule IsModule IsModule
-    (λ m n x. zip-through IsSameFile IsFile IsFile (λ f g y e h prefix. h prefix ∙ ap (λ is. import_source is prefix) e) m.files n.files x.files.items)
+pub same-prefixes : (p q : Package) (xs : List ModuleNames) → HasSameImports p q → AllZip (IsModule (linked p)) p.modules xs → AllZip (IsModule (linked q)) q.modules xs
+same-prefixes p q xs same known =
+    zip-through IsSameModule (IsModule (linked p)) (IsModule (linked q))
+    (λ m n x. zip-through IsSameFile (IsFile (linked p)) (IsFile (linked q))
+    (λ f g y e h prefix. h prefix ∙ ap (λ is. import_source (linked p) is prefix) e ∙ ap (λ home. import_source home g.tree.imports.items prefix) (sym same.home)) m.files n.files x.files.items)
+    p.modules q.modules xs same.modules known
 
 pub side-by-side : {X Y : Type 0} (R : X → Y → Type 0) (xs : List X) (ys : List Y) → AllZip R xs ys → length ys ≡ length xs
 side-by-side R [] [] h = refl
@@ -99,8 +102,8 @@ module _ (p : Placed) (m : Meaning) (old new : Names) (k : ℕ) (before now : Mo
       → IsNoted p m old new
   one-written own modules at within files home is updates = record {
     own = own;
-    files = λ ms h. subst (AllZip IsModule ms) (sym modules)
-        (zip-set IsModule ms old.modules.items k before now at (λ x is. subst (λ fs. AllZip IsFile x.files fs.items) (sym files) is) h);
+    files = λ there ms h. subst (AllZip (IsModule there) ms) (sym modules)
+        (zip-set (IsModule there) ms old.modules.items k before now at (λ x is. subst (λ fs. AllZip (IsFile there) x.files fs.items) (sym files) is) h);
     entries = λ there name. ap (λ ns. said name (slice_get ns there)) modules ∙ entries-in there name (there == k) refl
         ∙ ap (λ n. cond ((there == n) && is_same_text name (name_of p.def)) (Some e) (said name (slice_get old.modules.items there))) home;
   }
@@ -124,7 +127,7 @@ module _ (p : Placed) (m : Meaning) (old new : Names) (k : ℕ) (before now : Mo
 
 module _ (p : Package) (own : OwnTypes) where
   -- where no name stands for anything
-  pub none-known : (names : Names) → names.own ≡ own → AllZip IsModule p.modules names.modules.items → AreEmpty names.modules.items → AreEntries p own [] names
+  pub none-known : (names : Names) → names.own ≡ own → AllZip (IsModule (linked p)) p.modules names.modules.items → AreEmpty names.modules.items → AreEntries p own [] names
   none-known names is files empty = record {
     own_are = is;
     files = files;
@@ -140,7 +143,7 @@ module _ (p : Package) (own : OwnTypes) where
 
   -- the module of a definition is there
   pub home-there : (es : List Entry) (names : Names) (n : ℕ) (q : Placed) → AreEntries p own es names → slice_get (definitions_of p) n ≡ Some q → q.«module» < length names.modules.items
-  home-there es names n q known at = let long : length names.modules.items ≡ length p.modules = side-by-side IsModule p.modules names.modules.items known.files in
+  home-there es names n q known at = let long : length names.modules.items ≡ length p.modules = side-by-side (IsModule (linked p)) p.modules names.modules.items known.files in
       let there : q.«module» < length p.modules = module-there p n q at in omega (arith, long, there)
 
   -- the entry of one definition more
@@ -148,7 +151,7 @@ module _ (p : Package) (own : OwnTypes) where
       → AreEntries p own es old → IsNoted q m old new → AreEntries p own (es ++ entry_for q m ∷ []) new
   entry-pushed es q m old new apart at known noted = record {
     own_are = noted.own ∙ known.own_are;
-    files = noted.files p.modules known.files;
+    files = noted.files (linked p) p.modules known.files;
     named = λ home name. noted.entries home name ∙ ap (cond (defines home name q) (Some (entry_for q m))) (known.named home name) ∙ sym (one-pushed home name (entry_for q m) (definitions_of p) es q apart at);
   }
 
@@ -167,7 +170,7 @@ pub entry-set : (p : Package) (own : OwnTypes) (es : List Entry) (old new : Name
     → slice_get (definitions_of p) n ≡ Some q → AreEntries p own es old → IsNoted q m old new → AreEntries p own (set es n (entry_for q m)) new
 entry-set p own es old new n q m apart long at known noted = record {
   own_are = noted.own ∙ known.own_are;
-  files = noted.files p.modules known.files;
+  files = noted.files (linked p) p.modules known.files;
   named = λ home name. noted.entries home name ∙ ap (cond (defines home name q) (Some (entry_for q m))) (known.named home name)
       ∙ sym (one-noted home name (entry_for q m) (definitions_of p) es n q apart long at);
 }

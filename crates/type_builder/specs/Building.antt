@@ -13,6 +13,7 @@ use Rattle.descriptors.specs.declared.names.FileNames.{FileNames}
 use Rattle.descriptors.specs.declared.names.ModuleNames.{ModuleNames}
 use Rattle.descriptors.specs.declared.names.Names.{Names}
 use Rattle.descriptors.specs.declared.names.OwnTypes.{OwnTypes}
+use Rattle.package_imports.specs.InPackage.{Linked, linked}
 use Rattle.name_resolution.specs.Outlines.{import_source}
 use Rattle.name_resolution.specs.Definitions.{Placed, defines, definitions_of}
 use Rattle.type_builder.specs.Meanings.{entries, nothing_earlier}
@@ -23,18 +24,18 @@ first_entry m name [] es = None
 first_entry m name (p ∷ ps) [] = None
 first_entry m name (p ∷ ps) (e ∷ es) = if defines m name p then Some e else first_entry m name ps es
 
--- the prefixes of each file are those of its imports
-abbrev pub IsFile : SourceFile → FileNames → Type 0
-IsFile f names = (prefix : Name) → file_source prefix names ≡ import_source f.tree.imports.items prefix
+-- the prefixes of each file stand for what its imports name in this package
+abbrev pub IsFile : Linked → SourceFile → FileNames → Type 0
+IsFile home f names = (prefix : Name) → file_source prefix names ≡ import_source home f.tree.imports.items prefix
 
-abbrev pub IsModule : Module → ModuleNames → Type 0
-IsModule m names = AllZip IsFile m.files names.files.items
+abbrev pub IsModule : Linked → Module → ModuleNames → Type 0
+IsModule home m names = AllZip (IsFile home) m.files names.files.items
 
 -- What the names of a package stand for where these atoms are behind those that were there: each definition means what it says over all
 -- of them, and needs the atoms that follow those of the definitions before it.
 pub record AreNamesOf (p : Package) (own : OwnTypes) (old group : Atoms) (names : Names) : Type 0 where
   pub own_are : names.own ≡ own
-  pub files : AllZip IsModule p.modules names.modules.items
+  pub files : AllZip (IsModule (linked p)) p.modules names.modules.items
   pub es : List Entry
   pub defined : entries (old ++ group) names nothing_earlier (definitions_of p) (length old) (Gives es) (length old + length group)
   pub named : (m : ℕ) (name : Name) → entry_in names name m ≡ first_entry m name (definitions_of p) es

@@ -27,6 +27,7 @@ use Rattle.std.specs.HashMap.{get_by}
 use Rattle.type_model.specs.Places.{is_same_text}
 use Rattle.descriptors.specs.declared.names.OwnTypes.{OwnTypes}
 use Rattle.name_resolution.specs.Faults.{AreNamed as HaveNames}
+use Rattle.package_imports.specs.InPackage.{Linked, linked}
 use Rattle.name_resolution.specs.Outlines.{outlines_of}
 use Rattle.type_builder.specs.AtomPlaces.{def_places, package_places}
 use Rattle.type_builder.specs.Building.{IsModule, first_entry}
@@ -74,7 +75,7 @@ HaveRoom first p = end_of first p ≤ MOST_ATOMS
 -- what the names of a package stand for, by the entries of its definitions in text order
 pub record AreEntries (p : Package) (own : OwnTypes) (es : List Entry) (names : Names) : Type 0 where
   pub own_are : names.own ≡ own
-  pub files : AllZip IsModule p.modules names.modules.items
+  pub files : AllZip (IsModule (linked p)) p.modules names.modules.items
   pub named : (m : ℕ) (name : Name) → entry_in names name m ≡ first_entry m name (definitions_of p) es
 
 -- no name stands for anything
@@ -97,7 +98,7 @@ first_of p = entry_for p (first_meaning p.def)
 -- the name of a definition stands for this, and all other names for what they did
 pub record IsNoted (p : Placed) (m : Meaning) (old new : Names) : Type 0 where
   pub own : new.own ≡ old.own
-  pub files : (ms : List Module) → AllZip IsModule ms old.modules.items → AllZip IsModule ms new.modules.items
+  pub files : (home : Linked) (ms : List Module) → AllZip (IsModule home) ms old.modules.items → AllZip (IsModule home) ms new.modules.items
   pub entries : (home : ℕ) (name : Name) → entry_in new name home ≡ cond (defines home name p) (Some (entry_for p m)) (entry_in old name home)
 
 -- ---- the first pass: types by themselves

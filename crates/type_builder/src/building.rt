@@ -3,10 +3,9 @@ ghost use Rattle.std.specs.Prelude.{◌≡◌, IfOk, length};
 ghost use Rattle.bal_base.specs.Stops.{IfFault};
 ghost use Rattle.checks.specs.Checks.{Comes};
 ghost use Rattle.descriptors.specs.Steps.{AreNames, AreOwnTypes};
-ghost use Rattle.std.specs.List.{AllZip};
 ghost use Rattle.bal_tree.specs.declared.package.Package.{Package as Whole};
 ghost use Rattle.name_resolution.specs.Definitions.{definitions_of};
-ghost use Rattle.name_resolution.specs.Excerpts.{IsSameModule};
+ghost use Rattle.name_resolution.specs.Excerpts.{HasSameImports};
 ghost use Rattle.graphs.specs.Ordering.{IsOrder};
 ghost use Rattle.name_resolution.specs.Outlines.{outlines_of};
 ghost use Rattle.name_resolution.specs.Resolved.{parts};
@@ -99,7 +98,7 @@ pub(crate) fn define_all<T: Types>(
     own: OwnTypes,
 ) -> Result<Names, Stop<Fault>>
     ghost whole: { Whole }
-    requires modules { AllZip IsSameModule «package».now.modules whole.modules }
+    requires imports { HasSameImports «package».now whole }
     requires named { AreNamed whole }
     requires listed { IsListing (definitions_of whole) listing.now }
     requires order { IsOrder (parts (outlines_of whole)) order.now }

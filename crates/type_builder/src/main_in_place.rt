@@ -1,11 +1,10 @@
 //! The question about the result of the function `main` in its place among the faults of names.
 ghost use Rattle.std.specs.Prelude.{◌≡◌, length};
-ghost use Rattle.std.specs.List.{AllZip};
 ghost use Rattle.bal_tree.specs.declared.package.Package.{Package as Whole};
 ghost use Rattle.checks.specs.Checks.{Comes};
 ghost use Rattle.descriptors.specs.Steps.{AreOwnTypes};
 ghost use Rattle.name_resolution.specs.Definitions.{definitions_of};
-ghost use Rattle.name_resolution.specs.Excerpts.{IsExcerpt, IsSameModule};
+ghost use Rattle.name_resolution.specs.Excerpts.{HasSameImports, IsExcerpt};
 ghost use Rattle.graphs.specs.Ordering.{IsOrder};
 ghost use Rattle.name_resolution.specs.Outlines.{outlines_of};
 ghost use Rattle.name_resolution.specs.Reached.{is_reached};
@@ -108,7 +107,7 @@ fn question<T: Types>(
 ) -> Result<(), Stop<Fault>>
     ghost whole: { Whole }
     requires main { whole.main ≡ «package».now.main }
-    requires modules { AllZip IsSameModule «package».now.modules whole.modules }
+    requires imports { HasSameImports «package».now whole }
     requires named { AreNamed whole }
     requires listed { IsListing (definitions_of whole) listing.now }
     requires order { IsOrder (parts (outlines_of whole)) order.now }

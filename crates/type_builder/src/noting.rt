@@ -3,8 +3,9 @@ ghost use Rattle.std.specs.Prelude.{◌≡◌, ◌<◌, ◌≤◌, IfOk, IsTrue,
 ghost use Rattle.std.specs.List.{AllZip};
 ghost use Rattle.type_builder.specs.Building.{IsFile, IsModule};
 ghost use Rattle.bal_tree.specs.declared.package.Package.{Package as Whole};
+ghost use Rattle.package_imports.specs.InPackage.{linked};
 ghost use Rattle.name_resolution.specs.Definitions.{definitions_of};
-ghost use Rattle.name_resolution.specs.Excerpts.{IsSameModule};
+ghost use Rattle.name_resolution.specs.Excerpts.{HasSameImports};
 ghost use Rattle.type_builder.specs.Listing.{placed_of};
 ghost use Rattle.descriptors.specs.Described.{plain as plain_of, value_set as value_set_of};
 ghost use Rattle.type_builder.specs.Passes.{AreApart, AreEmpty, AreEntries, IsNoted, first_meaning as first_meaning_of, first_of};
@@ -19,6 +20,7 @@ use descriptors::{
 };
 use indexmap::IndexMap;
 use name_resolution::prefixes;
+use package_imports::Linked;
 use std::alloc::Global;
 use type_model::{BasicSet, SemType, Ty};
 
@@ -31,14 +33,14 @@ pub(crate) fn first_names(
     own: OwnTypes,
 ) -> Result<Names, Memory>
     ghost whole: { Whole }
-    requires modules { AllZip IsSameModule «package».now.modules whole.modules }
+    requires imports { HasSameImports «package».now whole }
     requires sites { map placed_of sites.now ≡ definitions_of whole }
     requires apart { AreApart (definitions_of whole) }
     ensures { IfOk result (AreEntries whole own (map first_of (definitions_of whole))) }
 {
     let mut names = Names {
         own,
-        modules: modules(alloc, package.modules.as_slice())?,
+        modules: modules_in(alloc, package)?,
     };
     for site in sites {
         let meaning = first_meaning(alloc, site.def);
@@ -47,27 +49,35 @@ pub(crate) fn first_names(
     Ok(names)
 }
 
-/// Modules without names, with the prefixes of their files.
-fn modules(alloc: Global, modules: &[Module]) -> Result<Vec<ModuleNames>, Memory>
-    ensures files { IfOk result (λ made. AllZip IsModule modules.now made.items) }
+/// The modules of a package without names, with the prefixes of their files.
+fn modules_in(alloc: Global, package: &Package) -> Result<Vec<ModuleNames>, Memory>
+    ensures files { IfOk result (λ made. AllZip (IsModule (linked «package».now)) «package».now.modules made.items) }
+    ensures empty { IfOk result (λ made. AreEmpty made.items) }
+{
+    let home = Linked::new(alloc, package)?;
+    modules(alloc, &home, package.modules.as_slice())
+}
+
+fn modules(alloc: Global, home: &Linked, modules: &[Module]) -> Result<Vec<ModuleNames>, Memory>
+    ensures files { IfOk result (λ made. AllZip (IsModule home.now) modules.now made.items) }
     ensures empty { IfOk result (λ made. AreEmpty made.items) }
 {
     let mut out = Vec::new(alloc);
     for module in modules {
         out.push(ModuleNames {
             entries: IndexMap::new(alloc),
-            files: files(alloc, module.files.as_slice())?,
+            files: files(alloc, home, module.files.as_slice())?,
         })?;
     }
     Ok(out)
 }
 
-fn files(alloc: Global, files: &[SourceFile]) -> Result<Vec<FileNames>, Memory>
-    ensures { IfOk result (λ made. AllZip IsFile files.now made.items) }
+fn files(alloc: Global, home: &Linked, files: &[SourceFile]) -> Result<Vec<FileNames>, Memory>
+    ensures { IfOk result (λ made. AllZip (IsFile home.now) files.now made.items) }
 {
     let mut out = Vec::new(alloc);
     for file in files {
-        out.push(prefixes(alloc, &file.tree.imports)?)?;
+        out.push(prefixes(alloc, home, &file.tree.imports)?)?;
     }
     Ok(out)
 }

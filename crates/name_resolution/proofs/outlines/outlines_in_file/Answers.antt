@@ -9,5 +9,5 @@ returns c =
     let end : length defs ≤ c.loop-def.def-index = subst (λ xs. length xs ≤ c.loop-def.def-index) c.deref-def-items.ensures.value (omega (arith, c.loop-def-test.false)) in
     c.loop-def.invariant
     ∙ ap (λ source. c.args.out.now.items ++ map (outline_of c.args.number source) (take c.loop-def.def-index defs)) (λ i q. c.in_ok-prefixes.ensures q i)
-    ∙ ap (λ imports. c.args.out.now.items ++ map (outline_of c.args.number (import_source imports)) (take c.loop-def.def-index defs)) c.deref.ensures.value
-    ∙ ap (λ ds. c.args.out.now.items ++ map (outline_of c.args.number (import_source c.args.file.now.tree.imports.items)) ds) (take_all c.loop-def.def-index defs end)
+    ∙ ap (λ imports. c.args.out.now.items ++ map (outline_of c.args.number (import_source c.args.home.now imports)) (take c.loop-def.def-index defs)) c.deref.ensures.value
+    ∙ ap (λ ds. c.args.out.now.items ++ map (outline_of c.args.number (import_source c.args.home.now c.args.file.now.tree.imports.items)) ds) (take_all c.loop-def.def-index defs end)

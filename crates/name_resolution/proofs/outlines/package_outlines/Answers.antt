@@ -1,7 +1,8 @@
-use Rattle.std.proofs.Common.{arith, get_or, ap, ◌∙◌}
-use Rattle.name_resolution.proofs.OutlineLoops.{modules-more}
+use Rattle.std.proofs.Common.{◌≡◌, subst, IfOk}
+use Rattle.name_resolution.specs.Outlines.{outlines_from}
 use Rattle.name_resolution.proofs.outlines.package_outlines.Goals as goal
 
-pub loop-number-preserved : goal.loop-number-preserved
-loop-number-preserved c =
-    modules-more c.args.«package».now.modules c.loop-number.number c.module-item.result c.loop-number.out.items c.module_outlines.new.out.items (grind (arith, c.loop-number-test.true)) (c.module-item.is ∙ ap (λ xs. get_or xs c.loop-number.number c.module-item.result) c.as_slice-module-items.ensures) c.loop-number.invariant c.in_ok-module_outlines.ensures
+pub returns : goal.returns
+returns c =
+    subst (λ home. IfOk c.modules_outlines.result (λ made. made.items ≡ outlines_from home 0 c.args.«package».now.modules)) c.in_ok-home.ensures
+    (subst (λ ms. IfOk c.modules_outlines.result (λ made. made.items ≡ outlines_from c.in_ok-home.home 0 ms)) c.as_slice.ensures c.modules_outlines.ensures)

@@ -1,11 +1,19 @@
-use Rattle.std.proofs.Common.{arith, ap, ◌∙◌, cond, Some}
-use Rattle.std.specs.HashMap.{get_by}
+use Rattle.std.proofs.Common.{arith, ap, ◌∙◌, cond, Option, None}
+use Rattle.std.specs.Option.{option_or}
+use Rattle.bal_base.specs.declared.text.Name.{Name}
+use Rattle.descriptors.specs.declared.names.Source.{Source}
+use Rattle.descriptors.specs.Naming.{file_source}
 use Rattle.type_model.specs.Places.{is_same_text}
-use Rattle.descriptors.specs.declared.names.Source.TheVariants.{Library}
+use Rattle.package_imports.specs.Imports.{prefix_of}
+use Rattle.name_resolution.specs.Outlines.{source_of}
 use Rattle.name_resolution.proofs.OutlineLoops.{imports-more}
 use Rattle.name_resolution.proofs.outlines.prefixes.Goals as goal
 
 pub loop-import-preserved : goal.loop-import-preserved
 loop-import-preserved c =
-    imports-more c.args.imports.now c.loop-import.import-index c.import-item.result (λ q. get_by (is_same_text q) c.loop-import.prefixes) (λ q. get_by (is_same_text q) c.insert.new.self) (grind (arith, c.loop-import-test.true)) c.import-item.is c.loop-import.invariant
-    (λ q. c.in_ok-insert.ensures.updates.0 q ∙ ap (λ k. cond (is_same_text k q) (Some Library) (get_by (is_same_text q) c.loop-import.prefixes)) (c.share.ensures ∙ c.prefix.ensures))
+    let before : Name → Option Source = λ q. file_source q c.loop-import.names in
+    imports-more c.args.home.now c.args.imports.now c.loop-import.import-index c.import-item.result before (λ q. file_source q c.note.new.names) (grind (arith, c.loop-import-test.true)) c.import-item.is c.loop-import.invariant
+    (λ q.
+    c.in_ok-note.ensures q
+    ∙ (ap (λ p. option_or (before q) (cond (is_same_text q p) c.in_ok-source.source None)) c.prefix.ensures
+    ∙ ap (λ s. option_or (before q) (cond (is_same_text q (prefix_of c.import-item.result)) s None)) (c.in_ok-source.ensures ∙ ap source_of c.in_ok-target.ensures)))

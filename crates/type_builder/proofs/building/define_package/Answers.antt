@@ -1,6 +1,6 @@
 use Rattle.std.proofs.Common.{◌∙◌, length, ap, sym, subst}
 use Rattle.checks.proofs.Steps.{ran_out}
-use Rattle.name_resolution.proofs.Excerpting.{same-module}
+use Rattle.name_resolution.proofs.Excerpting.{same-imports}
 use Rattle.graphs.specs.Ordering.{IsOrder}
 use Rattle.name_resolution.specs.Outlines.{outlines_of}
 use Rattle.name_resolution.specs.Resolved.{parts}
@@ -17,7 +17,7 @@ pub define_all-requires : goal.define_all-requires
 define_all-requires g c = λ κs lives. (
   lives,
   (
-    same-module c.args.«package».now.modules,
+    same-imports c.args.«package».now,
     (
       c.requires.named,
       (

@@ -1,5 +1,6 @@
 use Rattle.std.proofs.Common.{◌≡◌, ◌+◌, ◌<◌, ◌≤◌, [], Ok, Err, fold, Some, None, length, map, take, get_or, slice_get, sym, ap, subst, ◌∙◌, arith}
 use Rattle.name_resolution.proofs.Known.{apart-placed}
+use Rattle.package_imports.specs.InPackage.{linked}
 use Rattle.type_builder.specs.Building.{IsModule}
 use Rattle.type_builder.proofs.KeptStages.{IsStage, first-stage, stage-below}
 use Rattle.type_builder.proofs.KeptOrder.{finished, goes-on, goes-past, handed, lent, no-fault, not-lent}
@@ -36,7 +37,7 @@ keep-requires-clause-placed g c =
     let of : slice_get (definitions_of pack) number ≡ Some (placed_of c.in-Some.site.now) =
     (started-within c.args.listing.now.first [] (definitions_of pack) number c.in-Some.site.now.first (placed_of c.in-Some.site.now)
     (site-at (definitions_of pack) c.args.listing.now number c.in-Some.site.now c.requires.1.1.0 there)).0 in
-    let long : length c.loop-number.names.modules.items ≡ length pack.modules = side-by-side IsModule pack.modules c.loop-number.names.modules.items c.loop-number.invariant.1.entries.files in
+    let long : length c.loop-number.names.modules.items ≡ length pack.modules = side-by-side (IsModule (linked pack)) pack.modules c.loop-number.names.modules.items c.loop-number.invariant.1.entries.files in
     let within : c.in-Some.site.now.«module» < length pack.modules = module-there pack number (placed_of c.in-Some.site.now) of in
     omega (arith, long, within)
 

@@ -17,7 +17,7 @@ question-asked-requires g c = λ κs lives.
       (
         excerpt.main,
         (
-          excerpt.modules,
+          excerpt.imports,
           (
             c.requires.1.1.0,
             (

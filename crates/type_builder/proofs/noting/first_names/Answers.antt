@@ -1,6 +1,4 @@
 use Rattle.std.proofs.Common.{◌≡◌, Some, slice_get, refl, subst, arith}
-use Rattle.std.specs.List.{AllZip}
-use Rattle.type_builder.specs.Building.{IsModule}
 use Rattle.name_resolution.specs.Definitions.{definitions_of}
 use Rattle.type_builder.specs.Listing.{placed_of}
 use Rattle.type_builder.specs.Passes.{IsNoted}
@@ -9,8 +7,7 @@ use Rattle.type_builder.proofs.Listed.{listed-at}
 use Rattle.type_builder.proofs.noting.first_names.Goals as goal
 
 pub loop-site-init : goal.loop-site-init
-loop-site-init g c = none-known g.whole c.args.own _ refl
-    (same-prefixes _ _ _ c.requires.0 (subst (λ ms. AllZip IsModule ms c.in_ok-modules.field-0.items) c.as_slice.ensures c.in_ok-modules.ensures.files)) c.in_ok-modules.ensures.empty
+loop-site-init g c = none-known g.whole c.args.own _ refl (same-prefixes c.args.«package».now g.whole _ c.requires.0 c.in_ok-modules_in.ensures.files) c.in_ok-modules_in.ensures.empty
 
 pub note-requires : goal.note-requires
 note-requires g c =

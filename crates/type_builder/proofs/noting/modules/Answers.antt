@@ -12,9 +12,9 @@ use Rattle.type_builder.proofs.noting.modules.Goals as goal
 pub loop-module-preserved : goal.loop-module-preserved
 loop-module-preserved c =
     let made : ModuleNames = record { entries = c.new.result; files = c.in_ok-files.field-0 } in (
-      subst (AllZip IsModule (take _ c.args.modules.now)) (sym {A = List ModuleNames} c.in_ok-push.ensures.items)
-          (zip-more IsModule c.args.modules.now c.loop-module.out.items c.loop-module.module-index c.module-item.result made (grind (arith, c.loop-module-test.true)) c.module-item.is c.loop-module.invariant.0
-          (subst (λ fs. AllZip IsFile fs c.in_ok-files.field-0.items) c.as_slice.ensures c.in_ok-files.ensures)),
+      subst (AllZip (IsModule c.args.home.now) (take _ c.args.modules.now)) (sym {A = List ModuleNames} c.in_ok-push.ensures.items)
+          (zip-more (IsModule c.args.home.now) c.args.modules.now c.loop-module.out.items c.loop-module.module-index c.module-item.result made (grind (arith, c.loop-module-test.true)) c.module-item.is c.loop-module.invariant.0
+          (subst (λ fs. AllZip (IsFile c.args.home.now) fs c.in_ok-files.field-0.items) c.as_slice.ensures c.in_ok-files.ensures)),
       subst AreEmpty (sym {A = List ModuleNames} c.in_ok-push.ensures.items)
           (All-push (λ m. (name : _) → get_by (is_same_text name) m.entries ≡ None) c.loop-module.out.items made c.loop-module.invariant.1 (λ name. search (rules, c.new.ensures.empty))),
     )

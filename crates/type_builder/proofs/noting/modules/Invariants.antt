@@ -5,4 +5,4 @@ use Rattle.type_builder.specs.Passes.{AreEmpty}
 use Rattle.type_builder.proofs.noting.modules.Given as goal
 
 abbrev pub invariant-loop-module : goal.invariant-loop-module
-invariant-loop-module l = AllZip IsModule (take l.module-index l.modules) l.out.items × AreEmpty l.out.items
+invariant-loop-module l = AllZip (IsModule l.home) (take l.module-index l.modules) l.out.items × AreEmpty l.out.items

@@ -1,6 +1,0 @@
-use Rattle.std.proofs.Common.{◌≡◌, take}
-use Rattle.name_resolution.specs.Outlines.{outlines_from}
-use Rattle.name_resolution.proofs.outlines.package_outlines.Given as goal
-
-abbrev pub invariant-loop-number : goal.invariant-loop-number
-invariant-loop-number l = l.out.items ≡ outlines_from 0 (take l.number l.«package».modules)
