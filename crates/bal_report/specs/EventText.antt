@@ -7,6 +7,8 @@ use Rattle.bal_tree.specs.declared.def.Body.TheVariants.{Block, Expr}
 use Rattle.bal_tree.specs.declared.def.Def.{Def}
 use Rattle.bal_tree.specs.declared.def.Def.TheVariants.{«Type» as TypeDefinition, Const, Variable, Function}
 use Rattle.bal_tree.specs.declared.def.Worker.{Worker}
+use Rattle.bal_tree.specs.Files.{file_in}
+use Rattle.bal_tree.specs.declared.package.Module.{Module}
 use Rattle.bal_tree.specs.declared.package.SourceFile.{SourceFile}
 use Rattle.text_forms.specs.Forms.{text_if}
 
@@ -62,6 +64,6 @@ event_in e None = worker_name [] e.worker ++ codes " "
 event_in e (Some file) =
     worker_name (workers_in (definition_around file.tree.defs.items e.at.at)) e.worker ++ codes " " ++ position_at (encode_utf8_all file.text) e.at.at
 
--- the text of an event in the files by number
-abbrev pub event_text : List SourceFile → Event → List ℕ
-event_text files e = event_in e (slice_get files e.at.file)
+-- the text of an event in a file of these modules
+abbrev pub event_text : List Module → Event → List ℕ
+event_text modules e = event_in e (file_in e.at.file modules)

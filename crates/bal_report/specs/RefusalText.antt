@@ -11,7 +11,7 @@ use Rattle.bal_base.specs.declared.fault.Kept.TheVariants.{Nothing, Shape, Names
 use Rattle.bal_base.specs.declared.fault.Refusal.{Refusal}
 use Rattle.bal_base.specs.declared.place.Place.{Place}
 use Rattle.bal_base.specs.declared.text.Name.{Name}
-use Rattle.bal_tree.specs.declared.package.SourceFile.{SourceFile}
+use Rattle.bal_tree.specs.declared.package.Module.{Module}
 use Rattle.bal_report.specs.EventText.{event_text}
 use Rattle.bal_report.specs.ShapeText.{shape_text}
 use Rattle.text_forms.specs.Forms.{text_if}
@@ -133,13 +133,13 @@ on_the_way text xs = join_by text (codes " -> ") xs
 abbrev pub name_text : Name → List ℕ
 name_text name = name
 
-abbrev pub kept_text : List SourceFile → Kept → List ℕ
-kept_text files Nothing = []
-kept_text files (Shape s) = shape_text s
-kept_text files (Names names) = on_the_way name_text names
-kept_text files (Events events) = on_the_way (event_text files) events
-kept_text files (Counts sent received) = decimal sent ++ codes " sent, " ++ decimal received ++ codes " received"
-kept_text files (Count n) = []
+abbrev pub kept_text : List Module → Kept → List ℕ
+kept_text modules Nothing = []
+kept_text modules (Shape s) = shape_text s
+kept_text modules (Names names) = on_the_way name_text names
+kept_text modules (Events events) = on_the_way (event_text modules) events
+kept_text modules (Counts sent received) = decimal sent ++ codes " sent, " ++ decimal received ++ codes " received"
+kept_text modules (Count n) = []
 
 -- ---- refusals
 
@@ -149,10 +149,10 @@ place_text r None = []
 place_text r (Some at) = r.file ++ codes ":" ++ decimal r.line ++ codes ":" ++ decimal r.column ++ codes ": "
 
 -- `CODE WORDS`
-abbrev pub fault_text : List SourceFile → Bool → Fault → List ℕ
-fault_text files in_word fault =
-    decimal (code_number fault.code) ++ codes " " ++ says in_word fault.kept fault.code ++ text_if (shows fault.code) (kept_text files fault.kept)
+abbrev pub fault_text : List Module → Bool → Fault → List ℕ
+fault_text modules in_word fault =
+    decimal (code_number fault.code) ++ codes " " ++ says in_word fault.kept fault.code ++ text_if (shows fault.code) (kept_text modules fault.kept)
 
--- the text of a refusal, where the files are those of the package by number
-abbrev pub refusal_text : List SourceFile → Refusal → List ℕ
-refusal_text files r = place_text r r.fault.at ++ fault_text files (is_argument r.file) r.fault ++ codes "\n"
+-- the text of a refusal, where its events stand in files of these modules
+abbrev pub refusal_text : List Module → Refusal → List ℕ
+refusal_text modules r = place_text r r.fault.at ++ fault_text modules (is_argument r.file) r.fault ++ codes "\n"

@@ -7,29 +7,29 @@ ghost use Rattle.bal_report.specs.RefusalText.{on_the_way};
 ghost use Rattle.text_forms.specs.Forms.{Adds, written};
 
 use bal_base::{Event, Memory, line_column};
-use bal_tree::{Body, Def, FileTree, SourceFile, Worker};
+use bal_tree::{Body, Def, FileTree, Module, SourceFile, Worker, file_in};
 use text_forms::{add_if, add_number, add_text, add_word};
 
 /// Adds the events, each behind the one that it follows or needs.
 pub(crate) fn add_events(
     out: &mut String,
     events: &[Event],
-    files: &[SourceFile],
+    modules: &[Module],
 ) -> Result<(), Memory>
-    ensures { OnOk result (Adds (written out.old) (on_the_way (event_text files.now) events.now) (written out.new)) }
+    ensures { OnOk result (Adds (written out.old) (on_the_way (event_text modules.now) events.now) (written out.new)) }
 {
     for (i, event) in events.iter().enumerate() {
         add_if(out, i > 0, " -> ")?;
-        add_event(out, event, files)?;
+        add_event(out, event, modules)?;
     }
     Ok(())
 }
 
 /// Adds an event: its worker, and where it stands.
-fn add_event(out: &mut String, event: &Event, files: &[SourceFile]) -> Result<(), Memory>
-    ensures { OnOk result (Adds (written out.old) (event_text files.now event.now) (written out.new)) }
+fn add_event(out: &mut String, event: &Event, modules: &[Module]) -> Result<(), Memory>
+    ensures { OnOk result (Adds (written out.old) (event_text modules.now event.now) (written out.new)) }
 {
-    match files.get(event.at.file as usize) {
+    match file_in(modules, event.at.file) {
         Some(file) => add_event_in(out, event, file),
         None => {
             add_worker(out, &[], event.worker)?;

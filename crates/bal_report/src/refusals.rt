@@ -11,26 +11,27 @@ ghost use Rattle.text_forms.specs.Forms.{Adds, written};
 use crate::events::add_events;
 use crate::shapes::add_shape;
 use bal_base::{Fault, FaultCode, Kept, Memory, Name, Refusal};
-use bal_tree::SourceFile;
+use bal_tree::Module;
 use std::alloc::Global;
 use text_forms::{add_if, add_number, add_text, add_word};
 
-/// The text of a refusal, `FILE:LINE:COLUMN: CODE WORDS` or `CODE WORDS` with a line end. The files are those of the
-/// package by number, in which events are found. Takes time linear in the text and, for each event, in its file.
-pub fn refusal_text(alloc: Global, r: &Refusal, files: &[SourceFile]) -> Result<String, Memory>
-    ensures { IfOk result (λ text. written text ≡ refusal_text files.now r.now) }
+/// The text of a refusal, `FILE:LINE:COLUMN: CODE WORDS` or `CODE WORDS` with a line end. The modules are those of the
+/// package, in whose files events are found by the numbers of the files. Takes time linear in the text and, for each event, in its file
+/// and in the number of files.
+pub fn refusal_text(alloc: Global, r: &Refusal, modules: &[Module]) -> Result<String, Memory>
+    ensures { IfOk result (λ text. written text ≡ refusal_text modules.now r.now) }
 {
     let mut out = String::new(alloc);
-    add_refusal(&mut out, r, files)?;
+    add_refusal(&mut out, r, modules)?;
     Ok(out)
 }
 
 /// Adds the text of the refusal.
-fn add_refusal(out: &mut String, r: &Refusal, files: &[SourceFile]) -> Result<(), Memory>
-    ensures { OnOk result (Adds (written out.old) (refusal_text files.now r.now) (written out.new)) }
+fn add_refusal(out: &mut String, r: &Refusal, modules: &[Module]) -> Result<(), Memory>
+    ensures { OnOk result (Adds (written out.old) (refusal_text modules.now r.now) (written out.new)) }
 {
     add_place(out, r)?;
-    add_fault(out, is_argument(&r.file), &r.fault, files)?;
+    add_fault(out, is_argument(&r.file), &r.fault, modules)?;
     add_word(out, "\n")
 }
 
@@ -70,15 +71,15 @@ fn add_fault(
     out: &mut String,
     in_word: bool,
     fault: &Fault,
-    files: &[SourceFile],
+    modules: &[Module],
 ) -> Result<(), Memory>
-    ensures { OnOk result (Adds (written out.old) (fault_text files.now in_word fault.now) (written out.new)) }
+    ensures { OnOk result (Adds (written out.old) (fault_text modules.now in_word fault.now) (written out.new)) }
 {
     add_number(out, fault.code.number() as u64)?;
     add_word(out, " ")?;
     add_word(out, says(in_word, &fault.kept, fault.code))?;
     if shows(fault.code) {
-        return add_kept(out, &fault.kept, files);
+        return add_kept(out, &fault.kept, modules);
     }
     Ok(())
 }
@@ -174,14 +175,14 @@ fn shows(code: FaultCode) -> bool
 }
 
 /// Adds what shows a fault.
-fn add_kept(out: &mut String, kept: &Kept, files: &[SourceFile]) -> Result<(), Memory>
-    ensures { OnOk result (Adds (written out.old) (kept_text files.now kept.now) (written out.new)) }
+fn add_kept(out: &mut String, kept: &Kept, modules: &[Module]) -> Result<(), Memory>
+    ensures { OnOk result (Adds (written out.old) (kept_text modules.now kept.now) (written out.new)) }
 {
     match kept {
         Kept::Nothing | Kept::Count(_) => Ok(()),
         Kept::Shape(s) => add_shape(out, s),
         Kept::Names(names) => add_names(out, names.as_slice()),
-        Kept::Events(events) => add_events(out, events.as_slice(), files),
+        Kept::Events(events) => add_events(out, events.as_slice(), modules),
         Kept::Counts(sent, received) => {
             add_number(out, *sent)?;
             add_word(out, " sent, ")?;

@@ -1,12 +1,15 @@
 -- How what each step answers goes on to the whole front.
-use Rattle.std.proofs.Common.{◌≡◌, List, inl, inr, refl, subst, sym}
+use Rattle.std.proofs.lemmas.Bool.{false≢true}
+use Rattle.std.proofs.Common.{◌≡◌, Bool, true, false, List, inl, inr, refl, subst, sym}
 use Rattle.std.specs.Prelude.{IfOk, Result, Ok, Err}
 use Rattle.bal_base.specs.declared.fault.Fault.{Fault}
 use Rattle.bal_base.specs.declared.stop.Stop.{Stop}
+use Rattle.bal_base.specs.declared.stop.Stop.TheVariants.{Fault as OwnFault}
 use Rattle.bal_tree.specs.declared.package.Package.{Package}
-use Rattle.checks.specs.Checks.{Check, Comes, gives}
+use Rattle.checks.specs.Checks.{Check, Comes, gives, refuses}
 use Rattle.checks.proofs.Steps.{goes_on, ran_out, some_is, stops}
-use Rattle.compile_front.specs.Front.{checked_over, front_of, isolated_over, planned_over}
+use Rattle.compile_front.specs.Front.{checked_over, front_of, isolated_over, named_over, planned_over}
+use Rattle.compile_front.specs.Mains.{asks_main, has_main, no_main, no_main_unless}
 use Rattle.compile_front.specs.Told.{IsTold}
 use Rattle.compile_front.specs.declared.accepting.Accepted.{Accepted}
 use Rattle.descriptors.specs.Described.{Atoms}
@@ -24,6 +27,15 @@ use Rattle.typed_tree.specs.declared.package.TypedPackage.{TypedPackage}
 -- the answer of a call that is this one
 came-as : {S A : Type 0} (m : Check S A) (old new : S) (r q : Result A (Stop Fault)) → r ≡ q → Comes m old r new → Comes m old q new
 came-as m old new r q e h = subst (λ x. Comes m old x new) e h
+
+lacks : (b : Bool) → b ≡ false → (env : Atoms) → Comes (no_main_unless b) env (Err (OwnFault no_main)) env
+unfolding Comes refuses
+lacks true e env = absurd (false≢true (sym e))
+lacks false e env = (refl, refl)
+
+has : (b : Bool) → b ≡ true → (env : Atoms) → Comes (no_main_unless b) env (Ok tt) env
+has true e env = some_is (λ (old : Atoms) (a : Unit {0}). a ≡ tt) env env tt refl refl
+has false e env = absurd (false≢true e)
 
 module _ (passes : List AtomDef → Asked → TypeLimit → Type 0) where
   -- ---- messages
@@ -69,14 +81,27 @@ module _ (passes : List AtomDef → Asked → TypeLimit → Type 0) where
     -- ---- the names
 
     module _ (old mid : Atoms) (r : Result Names (Stop Fault)) (came : Comes (built passes p) old r mid) where
-      pub named-stops : (stop : Stop Fault) → r ≡ Err stop → Comes (front_of passes p) old (Err stop) mid
-      unfolding front_of
+      pub named-stops : (stop : Stop Fault) → r ≡ Err stop → Comes (named_over passes p) old (Err stop) mid
+      unfolding named_over
       named-stops stop e = stops (built passes p) (checked_over passes p) old mid stop (came-as (built passes p) old mid r (Err stop) e came)
 
-      pub named-goes : (names : Names) (q : Result Accepted (Stop Fault)) (new : Atoms) → r ≡ Ok names → Comes (checked_over passes p names) mid q new → Comes (front_of passes p) old q new
-      unfolding front_of
+      pub named-goes : (names : Names) (q : Result Accepted (Stop Fault)) (new : Atoms) → r ≡ Ok names → Comes (checked_over passes p names) mid q new → Comes (named_over passes p) old q new
+      unfolding named_over
       named-goes names q new e h =
           goes_on (built passes p) (checked_over passes p) old mid new names q (came-as (built passes p) old mid r (Ok names) e came) h
+
+    -- ---- `main`
+
+    abbrev then-names : Unit {0} → Check Atoms Accepted
+    then-names u = named_over passes p
+
+    pub main-lacks : (old : Atoms) → has_main p ≡ false → Comes (front_of passes p) old (Err (OwnFault no_main)) old
+    unfolding front_of
+    main-lacks old e = stops (asks_main p) then-names old old (OwnFault no_main) (lacks (has_main p) e old)
+
+    pub main-goes : (q : Result Accepted (Stop Fault)) (old new : Atoms) → has_main p ≡ true → Comes (named_over passes p) old q new → Comes (front_of passes p) old q new
+    unfolding front_of
+    main-goes q old new e h = goes_on (asks_main p) then-names old old new tt q (has (has_main p) e old) h
 
     -- ---- as it is told
 

@@ -1,4 +1,5 @@
--- Which codes faults of the front have: those of names, of the checks of bodies, of isolation, and of messages.
+-- Which codes faults of the front have: that of a package without `main`, and those of names, of the checks of bodies, of isolation, and
+-- of messages.
 use Rattle.std.specs.Prelude.{⊤}
 use Rattle.bal_base.specs.declared.fault.FaultCode.{FaultCode}
 use Rattle.bal_base.specs.declared.fault.FaultCode.TheVariants.{NotUtf8, BadToken, Syntax, Depth, LeftOut, NotBuilt, NoModule, ImportCycle, Duplicate, Unknown, NotPublic, IllFounded, TypeLimit, AtomLimit, NoMain, FileTooLong, BadManifest, TooLarge, NotSubtype, Arity, NoField, AssignFinal, Captured, MissingReturn, BadBreak, Ignored, BadMain, NotIsolated, ReadOnlyHolds, NoChoice, NeedsType, Conditional, Unpaired, SuccessBefore, WaitCycle, NameAsValue, NoPeer, BadMessage, WorkerLimit, CodeLimit, TestLimit}
@@ -18,7 +19,7 @@ IsFrontCode NotPublic = ⊤
 IsFrontCode IllFounded = ⊤
 IsFrontCode TypeLimit = ⊤
 IsFrontCode AtomLimit = ⊤
-IsFrontCode NoMain = ⊥
+IsFrontCode NoMain = ⊤
 IsFrontCode FileTooLong = ⊥
 IsFrontCode BadManifest = ⊥
 IsFrontCode TooLarge = ⊥

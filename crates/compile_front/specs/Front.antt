@@ -1,8 +1,9 @@
--- What the front of a package comes to: what its names stand for, then its typed package, then that it keeps its promises of isolation,
--- then the plans of its functions; the first of these that refuses gives the fault.
+-- What the front of a package comes to: that it has a `main`, then what its names stand for, then its typed package, then that it keeps
+-- its promises of isolation, then the plans of its functions; the first of these that refuses gives the fault.
 use Rattle.std.specs.Prelude.{List}
 use Rattle.bal_tree.specs.declared.package.Package.{Package}
 use Rattle.checks.specs.Checks.{Check, gives, ◌▷◌}
+use Rattle.compile_front.specs.Mains.{asks_main}
 use Rattle.compile_front.specs.declared.accepting.Accepted.{Accepted}
 use Rattle.descriptors.specs.Described.{Atoms}
 use Rattle.descriptors.specs.declared.names.Names.{Names}
@@ -28,5 +29,8 @@ module _ (passes : List AtomDef → Asked → TypeLimit → Type 0) where
     abbrev pub checked_over : Names → Check Atoms Accepted
     checked_over names = checked_package passes names p ▷ λ t. isolated_over names t
 
+    unfoldable pub named_over : Check Atoms Accepted
+    named_over = built passes p ▷ λ names. checked_over names
+
     unfoldable pub front_of : Check Atoms Accepted
-    front_of = built passes p ▷ λ names. checked_over names
+    front_of = asks_main p ▷ λ u. named_over

@@ -1,3 +1,4 @@
 pub mod Codes
 pub mod Front
+pub mod Mains
 pub mod Told

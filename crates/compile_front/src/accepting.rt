@@ -5,13 +5,14 @@ ghost use Rattle.std.specs.Prelude.{IfOk, length};
 ghost use Rattle.bal_base.specs.Stops.{IfFault};
 ghost use Rattle.checks.specs.Checks.{Comes};
 ghost use Rattle.compile_front.specs.Codes.{IsFrontCode};
-ghost use Rattle.compile_front.specs.Front.{checked_over, front_of, isolated_over, planned_over};
+ghost use Rattle.compile_front.specs.Front.{checked_over, front_of, isolated_over, named_over, planned_over};
 ghost use Rattle.compile_front.specs.Told.{IsTold};
 ghost use Rattle.descriptors.specs.Steps.{AreNames};
 ghost use Rattle.isolation_check.specs.Isolated.{IsIsolated};
 ghost use Rattle.isolation_check.specs.Typed.{AreTyped};
 
 use crate::codes::is_front_code;
+use crate::mains::{has_main, no_main};
 use bal_base::{Fault, Stop};
 use bal_tree::Package;
 use descriptors::Names;
@@ -43,6 +44,7 @@ pub struct Answered<T> {
 ///
 /// The first fault is refused, in this order:
 ///
+/// - `NoMain`: the default module has no public function `main`.
 /// - of names and definitions, in text order: `Duplicate`, `Unknown`, `NotPublic`, `IllFounded`, `BadMain` and `TypeLimit` of its question;
 ///   then `AtomLimit`, as `build` gives them.
 /// - of bodies, in text order, as `check_package` gives them: `NotSubtype`, `Arity`, `NoField`, `AssignFinal`, `Captured`,
@@ -88,6 +90,22 @@ fn told(answer: Result<Accepted, Stop<Fault>>) -> Result<Accepted, Stop<Fault>>
 /// The same, whatever codes faults have.
 fn all_steps<T: Types>(alloc: Global, types: T, package: &Package) -> Answered<T>
     ensures comes { Comes (front_of T.passes «package».now) (T.atoms types) result.answer (T.atoms result.types) }
+    ensures names { IfOk result.answer (λ a. AreNames (T.atoms result.types) a.names) }
+    ensures typed { IfOk result.answer (λ a. AreTyped (length (T.atoms result.types)) a.«package») }
+    ensures isolated { IfOk result.answer (λ a. IsIsolated a.«package» a.names.own (T.atoms result.types)) }
+{
+    if !has_main(package) {
+        return Answered {
+            types,
+            answer: Err(Stop::Fault(no_main())),
+        };
+    }
+    named(alloc, types, package)
+}
+
+/// The same behind the question whether there is a `main`.
+fn named<T: Types>(alloc: Global, types: T, package: &Package) -> Answered<T>
+    ensures comes { Comes (named_over T.passes «package».now) (T.atoms types) result.answer (T.atoms result.types) }
     ensures names { IfOk result.answer (λ a. AreNames (T.atoms result.types) a.names) }
     ensures typed { IfOk result.answer (λ a. AreTyped (length (T.atoms result.types)) a.«package») }
     ensures isolated { IfOk result.answer (λ a. IsIsolated a.«package» a.names.own (T.atoms result.types)) }

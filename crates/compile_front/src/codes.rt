@@ -11,7 +11,8 @@ pub fn is_front_code(code: FaultCode) -> bool
     ensures { IsTrue result ↔ IsFrontCode code }
 {
     match code {
-        FaultCode::Duplicate
+        FaultCode::NoMain
+        | FaultCode::Duplicate
         | FaultCode::Unknown
         | FaultCode::NotPublic
         | FaultCode::IllFounded
@@ -46,7 +47,6 @@ pub fn is_front_code(code: FaultCode) -> bool
         | FaultCode::NotBuilt
         | FaultCode::NoModule
         | FaultCode::ImportCycle
-        | FaultCode::NoMain
         | FaultCode::FileTooLong
         | FaultCode::BadManifest
         | FaultCode::TooLarge => false,

@@ -1,5 +1,5 @@
 -- What a question between two words comes to in a package.
-use Rattle.std.specs.Prelude.{◌≡◌, ⊤, ℕ, List, [], Option, Some, None, Result, Ok, Err, String, length, slice_get}
+use Rattle.std.specs.Prelude.{◌≡◌, ⊤, ℕ, List, Result, Ok, Err, String, length, sum_by}
 use Rattle.std.specs.Global.{Global}
 use Rattle.bal_base.specs.declared.fault.Fault.{Fault}
 use Rattle.bal_base.specs.declared.fault.Refusal.{Refusal}
@@ -8,7 +8,6 @@ use Rattle.bal_base.specs.declared.stop.Stop.{Stop}
 use Rattle.bal_base.specs.declared.stop.Stop.TheVariants.{Memory, Fault as OwnFault}
 use Rattle.bal_tree.specs.declared.package.Module.{Module}
 use Rattle.bal_tree.specs.declared.package.Package.{Package}
-use Rattle.bal_tree.specs.declared.package.SourceFile.{SourceFile}
 use Rattle.checks.specs.Checks.{Check, Gives, Refuses, ◌▷◌}
 use Rattle.descriptors.specs.Described.{Atoms}
 use Rattle.text_forms.specs.Forms.{written}
@@ -21,21 +20,22 @@ use Rattle.type_questions.specs.Answers.{answer_text}
 use Rattle.type_questions.specs.Asked.{asked}
 use Rattle.type_questions.specs.Refusals.{refusal_of}
 
--- ---- the files of the default module
+-- ---- the files of the package
 
-abbrev pub files_in : Option Module → List SourceFile
-files_in (Some home) = home.files
-files_in None = []
+-- how many files these modules have
+abbrev pub files_in : List Module → ℕ
+files_in modules = sum_by (λ (m : Module). length m.files) modules
 
-abbrev pub home_files : Package → List SourceFile
-home_files whole = files_in (slice_get whole.modules whole.main)
+-- how many there are; the words have the next two numbers
+abbrev pub file_count : Package → ℕ
+file_count whole = files_in whole.modules
 
 -- ---- the question: `passes` says which questions pass a limit
 
 module _ (passes : List AtomDef → Asked → TypeLimit → Type 0) where
   -- the definitions of the package, then the words and the question, in the default module
   abbrev pub asked_of : Package → List ℕ → List ℕ → Check Atoms Answer
-  asked_of whole s t = built passes whole ▷ λ names. asked passes names whole.main (length (home_files whole)) s t
+  asked_of whole s t = built passes whole ▷ λ names. asked passes names whole.main (file_count whole) s t
 
   module _ (env : Atoms) (whole : Package) (s t : List ℕ) where
     -- over these atoms the question comes to this answer
@@ -44,7 +44,7 @@ module _ (passes : List AtomDef → Asked → TypeLimit → Type 0) where
 
     -- it comes to a fault, and this is its refusal
     abbrev pub IsRefusedWith : Refusal → Type 0
-    IsRefusedWith r = (fault : Fault) × (new : Atoms) × asked_of whole s t env (Refuses fault) new × (r ≡ refusal_of (home_files whole) s t fault)
+    IsRefusedWith r = (fault : Fault) × (new : Atoms) × asked_of whole s t env (Refuses fault) new × (r ≡ refusal_of whole.modules (file_count whole) s t fault)
 
     -- an answer as it is told, or a refusal; nothing is said of want of memory
     abbrev pub AnswersFor : Result (String Global) (Stop Refusal) → Type 0

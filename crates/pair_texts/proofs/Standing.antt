@@ -1,11 +1,13 @@
 -- Places that are kept with their lines and columns.
-use Rattle.std.proofs.Common.{◌≡◌, ◌≢◌, ℕ, ◌+◌, ◌-◌, ◌<◌, ◌≤◌, List, [], Option, Some, None, IfSome, IsUtf8, chars, encode_utf8_all, length, slice_get, take, drop, ◌++◌, sym, ap, subst, ◌∙◌, arith}
+use Rattle.std.proofs.Common.{◌≡◌, ◌≢◌, ℕ, ◌+◌, ◌-◌, ◌<◌, ◌≤◌, List, [], Option, Some, None, IfSome, IsUtf8, chars, encode_utf8_all, length, take, drop, ◌++◌, sym, ap, subst, ◌∙◌, arith}
 use Rattle.std.specs.List.{slice_range}
 use Rattle.std.specs.Str.{IsCharBoundary}
 use Rattle.std.proofs.lemmas.List.{length-take-le}
 use Rattle.std.proofs.lemmas.Str.{chars-nil, IsCharBoundary-from_take, IsUtf8-nil, IsUtf8-take}
 use Rattle.bal_base.specs.Place.{line_after, column_after}
 use Rattle.bal_base.proofs.Lines.{line-small, column-small, chars-short}
+use Rattle.bal_tree.specs.Files.{file_in}
+use Rattle.bal_tree.specs.declared.package.Module.{Module}
 use Rattle.bal_tree.specs.declared.package.SourceFile.{SourceFile}
 use Rattle.pair_texts.specs.declared.places.Spot.{Spot}
 use Rattle.pair_texts.specs.inner.Spots.{Stands, StandsIn}
@@ -28,20 +30,20 @@ if-some : {A : Type 0} (P : A → Type 0) (o : Option A) → ((a : A) → P a) �
 if-some P (Some a) h = h a
 if-some P None h = tt
 
-pub at-all-starts : (files : List SourceFile) (s : Spot) → ((bytes : List ℕ) → StandsIn bytes s) → Stands files s
-at-all-starts files s h = if-some (λ file. StandsIn (encode_utf8_all file.text) s) (slice_get files s.file) (λ file. h (encode_utf8_all file.text))
+pub at-all-starts : (modules : List Module) (s : Spot) → ((bytes : List ℕ) → StandsIn bytes s) → Stands modules s
+at-all-starts modules s h = if-some (λ file. StandsIn (encode_utf8_all file.text) s) (file_in s.file modules) (λ file. h (encode_utf8_all file.text))
 
 -- ---- in the files
 
-module _ (files : List SourceFile) (s : Spot) (n : ℕ) (file : SourceFile) (same : s.file ≡ n) (there : slice_get files n ≡ Some file) where
+module _ (modules : List Module) (s : Spot) (n : ℕ) (file : SourceFile) (same : s.file ≡ n) (there : file_in n modules ≡ Some file) where
   abbrev Here : Option SourceFile → Type 0
   Here o = IfSome o (λ f. StandsIn (encode_utf8_all f.text) s)
 
-  pub stands-in : Stands files s → StandsIn (encode_utf8_all file.text) s
-  stands-in h = subst Here (ap (slice_get files) same ∙ there) h
+  pub stands-in : Stands modules s → StandsIn (encode_utf8_all file.text) s
+  stands-in h = subst Here (ap (λ k. file_in k modules) same ∙ there) h
 
-  pub stands-there : StandsIn (encode_utf8_all file.text) s → Stands files s
-  stands-there h = subst Here (sym (ap (slice_get files) same ∙ there)) h
+  pub stands-there : StandsIn (encode_utf8_all file.text) s → Stands modules s
+  stands-there h = subst Here (sym (ap (λ k. file_in k modules) same ∙ there)) h
 
 -- ---- counted on
 

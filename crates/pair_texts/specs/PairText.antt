@@ -3,6 +3,8 @@ use Rattle.std.specs.Prelude.{◌++◌, ◌==◌, ◌-◌, ℕ, List, [], Option
 use Rattle.bal_base.specs.declared.fault.Event.{Event}
 use Rattle.bal_base.specs.declared.place.Place.{Place}
 use Rattle.bal_report.specs.EventText.{position_at}
+use Rattle.bal_tree.specs.Files.{file_in}
+use Rattle.bal_tree.specs.declared.package.Module.{Module}
 use Rattle.bal_tree.specs.declared.package.SourceFile.{SourceFile}
 use Rattle.package_files.specs.Names.{is_empty, module_of}
 use Rattle.typed_tree.specs.declared.event.Pair.{Pair}
@@ -28,9 +30,9 @@ abbrev pub module_at : Option SourceFile → List ℕ
 module_at (Some file) = module_in (module_of file.name)
 module_at None = []
 
--- `FUNCTION`, outside the default module `MODULE:FUNCTION`, where the files are those of the package by number
-abbrev pub function_name : List SourceFile → TypedFunction → List ℕ
-function_name files f = module_at (slice_get files f.at.file) ++ f.name
+-- `FUNCTION`, outside the default module `MODULE:FUNCTION`, where the modules are those of the package
+abbrev pub function_name : List Module → TypedFunction → List ℕ
+function_name modules f = module_at (file_in f.at.file modules) ++ f.name
 
 -- ---- workers
 
@@ -53,24 +55,24 @@ abbrev pub place_in : Option SourceFile → ℕ → List ℕ
 place_in (Some file) at = position_at (encode_utf8_all file.text) at
 place_in None at = []
 
-abbrev pub place_text : List SourceFile → Place → List ℕ
-place_text files at = place_in (slice_get files at.file) at.at
+abbrev pub place_text : List Module → Place → List ℕ
+place_text modules at = place_in (file_in at.file modules) at.at
 
 -- `WORKER LINE:COLUMN`
-abbrev pub event_text : List SourceFile → List TypedWorker → Event → List ℕ
-event_text files workers e = worker_name workers e.worker ++ codes " " ++ place_text files e.at
+abbrev pub event_text : List Module → List TypedWorker → Event → List ℕ
+event_text modules workers e = worker_name workers e.worker ++ codes " " ++ place_text modules e.at
 
 -- the line of a pair of the function with this name and these workers
-abbrev pub pair_text : List SourceFile → List ℕ → List TypedWorker → Pair → List ℕ
-pair_text files name workers pair =
-    name ++ codes " " ++ event_text files workers pair.send ++ codes " -> " ++ event_text files workers pair.receive ++ codes "\n"
+abbrev pub pair_text : List Module → List ℕ → List TypedWorker → Pair → List ℕ
+pair_text modules name workers pair =
+    name ++ codes " " ++ event_text modules workers pair.send ++ codes " -> " ++ event_text modules workers pair.receive ++ codes "\n"
 
 -- ---- packages
 
 -- the lines of a function and its plan
-abbrev pub function_text : List SourceFile → TypedFunction × Plan → List ℕ
-function_text files f = flat_map (pair_text files (function_name files f.0) (workers_of f.0.body)) f.1.pairs
+abbrev pub function_text : List Module → TypedFunction × Plan → List ℕ
+function_text modules f = flat_map (pair_text modules (function_name modules f.0) (workers_of f.0.body)) f.1.pairs
 
 -- The functions of a package stand in text order, and so do the pairs of a plan, by their sends.
-abbrev pub pairs_text : TypedPackage → List Plan → List SourceFile → List ℕ
-pairs_text p plans files = flat_map (function_text files) (zip p.functions.items plans)
+abbrev pub pairs_text : TypedPackage → List Plan → List Module → List ℕ
+pairs_text p plans modules = flat_map (function_text modules) (zip p.functions.items plans)

@@ -1,13 +1,14 @@
 //! The names of functions and of workers.
 #![tactic(auto, using(crate::proofs::Adding::in_a_row))]
 
-ghost use Rattle.std.specs.Prelude.{◌≡◌, ◌++◌, IfOk, OnOk, codes, slice_get};
+ghost use Rattle.std.specs.Prelude.{◌≡◌, ◌++◌, IfOk, OnOk, codes};
+ghost use Rattle.bal_tree.specs.Files.{file_in};
 ghost use Rattle.pair_texts.specs.PairText.{function_name, module_at, module_in, module_text, worker_name, workers_of};
 ghost use Rattle.package_files.specs.Names.{module_of};
 ghost use Rattle.text_forms.specs.Forms.{Adds, written};
 
 use bal_base::{Memory, Name};
-use bal_tree::SourceFile;
+use bal_tree::{Module, file_in};
 use package_files::module_of;
 use std::alloc::Global;
 use text_forms::{add_text, add_word};
@@ -17,12 +18,12 @@ use typed_tree::{TypedBody, TypedFunction, TypedWorker};
 pub(crate) fn function_name(
     alloc: Global,
     f: &TypedFunction,
-    files: &[SourceFile],
+    modules: &[Module],
 ) -> Result<String, Memory>
-    ensures { IfOk result (λ name. written name ≡ function_name files.now f.now) }
+    ensures { IfOk result (λ name. written name ≡ function_name modules.now f.now) }
 {
     let mut out = String::new(alloc);
-    add_module_at(alloc, &mut out, f.at.file, files)?;
+    add_module_at(alloc, &mut out, f.at.file, modules)?;
     add_text(&mut out, f.name.as_str())?;
     Ok(out)
 }
@@ -32,11 +33,11 @@ fn add_module_at(
     alloc: Global,
     out: &mut String,
     file: u32,
-    files: &[SourceFile],
+    modules: &[Module],
 ) -> Result<(), Memory>
-    ensures { OnOk result (Adds (written out.old) (module_at (slice_get files.now file)) (written out.new)) }
+    ensures { OnOk result (Adds (written out.old) (module_at (file_in file modules.now)) (written out.new)) }
 {
-    match files.get(file as usize) {
+    match file_in(modules, file) {
         Some(file) => add_module_of(alloc, out, &file.name),
         None => Ok(()),
     }

@@ -3,13 +3,13 @@
 
 ghost use Rattle.std.specs.Prelude.{◌≡◌, ◌≤◌, ◌<◌, ℕ, List, IsCharBoundary, OnOk, Some as There, encode_utf8_all};
 ghost use Rattle.bal_report.specs.EventText.{begins, position_at};
-ghost use Rattle.bal_tree.specs.declared.package.SourceFile.{SourceFile as SourceFileOf};
+ghost use Rattle.bal_tree.specs.declared.package.Module.{Module as ModuleOf};
 ghost use Rattle.pair_texts.specs.PairText.{place_in, place_text};
 ghost use Rattle.pair_texts.specs.inner.Spots.{Stands, StandsIn};
 ghost use Rattle.text_forms.specs.Forms.{Adds, written};
 
 use bal_base::{Memory, Place, line_column};
-use bal_tree::SourceFile;
+use bal_tree::{Module, SourceFile, file_in};
 use text_forms::{add_number, add_word};
 
 /// A place of a file with its line and its column, from which places behind it are counted on.
@@ -26,7 +26,7 @@ pub(crate) fn start(file: u32) -> Spot
     ensures file { result.file ≡ file }
     ensures at { result.at ≡ 0 }
     ensures stands { (bytes : List ℕ) → StandsIn bytes result }
-    ensures everywhere { (files : List SourceFileOf) → Stands files result }
+    ensures everywhere { (modules : List ModuleOf) → Stands modules result }
 {
     Spot {
         file,
@@ -38,11 +38,11 @@ pub(crate) fn start(file: u32) -> Spot
 
 /// The place, where a character begins there; else the start of its file, or a place in front. It is counted on from the spot, where
 /// that stands in front.
-pub(crate) fn reached(files: &[SourceFile], spot: Spot, at: Place) -> Spot
-    requires { Stands files.now spot }
-    ensures { Stands files.now result }
+pub(crate) fn reached(modules: &[Module], spot: Spot, at: Place) -> Spot
+    requires { Stands modules.now spot }
+    ensures { Stands modules.now result }
 {
-    match files.get(at.file as usize) {
+    match file_in(modules, at.file) {
         Some(file) => reached_in(file, spot, at),
         None => spot,
     }
@@ -103,13 +103,13 @@ fn counted(text: &str, from: Spot, at: u32) -> Spot
 pub(crate) fn add_place(
     out: &mut String,
     at: Place,
-    files: &[SourceFile],
+    modules: &[Module],
     spot: Spot,
 ) -> Result<(), Memory>
-    requires { Stands files.now spot }
-    ensures { OnOk result (Adds (written out.old) (place_text files.now at) (written out.new)) }
+    requires { Stands modules.now spot }
+    ensures { OnOk result (Adds (written out.old) (place_text modules.now at) (written out.new)) }
 {
-    match files.get(at.file as usize) {
+    match file_in(modules, at.file) {
         Some(file) => add_place_in(out, file, spot, at),
         None => Ok(()),
     }

@@ -9,7 +9,7 @@ use Rattle.bal_base.specs.declared.token.Token.{Token}
 use Rattle.bal_lexer.specs.Lexes.{IsRefusal, Lexes}
 use Rattle.bal_tree.specs.declared.types.TypeTree.{TypeTree}
 use Rattle.parse_types.specs.Starts.{IsTooDeep, HasNoType as HasNoTypeHere, StartsType}
-use Rattle.parse_types.specs.Tokens.{Kinds}
+use Rattle.token_steps.specs.Tokens.{Kinds}
 use Rattle.type_questions.specs.Reading.{IsOfTokens, IsOfWord, IsTold}
 use Rattle.type_questions.specs.Words.{IsShallow, at_start}
 

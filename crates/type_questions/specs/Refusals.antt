@@ -1,9 +1,11 @@
 -- Faults with their places as people read them: in a file of the package, or in a word of the command.
-use Rattle.std.specs.Prelude.{◌==◌, ◌+◌, ℕ, List, [], Option, Some, None, chars, codes, encode_utf8_all, if◌then◌else◌, length, slice_get, take}
+use Rattle.std.specs.Prelude.{◌==◌, ◌+◌, ℕ, List, [], Option, Some, None, chars, codes, encode_utf8_all, if◌then◌else◌, take}
 use Rattle.bal_base.specs.Place.{line_after, column_after}
 use Rattle.bal_base.specs.declared.fault.Fault.{Fault}
 use Rattle.bal_base.specs.declared.fault.Refusal.{Refusal}
 use Rattle.bal_base.specs.declared.place.Place.{Place}
+use Rattle.bal_tree.specs.Files.{file_in}
+use Rattle.bal_tree.specs.declared.package.Module.{Module}
 use Rattle.bal_tree.specs.declared.package.SourceFile.{SourceFile}
 
 -- a name and the bytes that stand under it
@@ -23,9 +25,9 @@ abbrev pub file_or : Option Source → Option SourceFile → Option Source
 file_or words None = words
 file_or words (Some file) = Some (source file.name (encode_utf8_all file.text))
 
--- the files by number, and then the words
-abbrev pub source_at : List SourceFile → List ℕ → List ℕ → ℕ → Option Source
-source_at files s t n = file_or (word_at (length files) s t n) (slice_get files n)
+-- the files of these modules, or else the words, of which the first has this number
+abbrev pub source_at : List Module → ℕ → List ℕ → List ℕ → ℕ → Option Source
+source_at modules first s t n = file_or (word_at first s t n) (file_in n modules)
 
 -- the fault without a place
 abbrev pub unplaced : Fault → Refusal
@@ -36,10 +38,10 @@ placed_in fault at None = unplaced fault
 placed_in fault at (Some here) =
     record { fault = fault; file = here.name; line = line_after (chars (take at here.text)); column = column_after (chars (take at here.text)) }
 
-module _ (files : List SourceFile) (s t : List ℕ) (fault : Fault) where
+module _ (modules : List Module) (first : ℕ) (s t : List ℕ) (fault : Fault) where
   abbrev pub told_at : Option Place → Refusal
   told_at None = unplaced fault
-  told_at (Some place) = placed_in fault place.at (source_at files s t place.file)
+  told_at (Some place) = placed_in fault place.at (source_at modules first s t place.file)
 
   -- the refusal that the fault is
   abbrev pub refusal_of : Refusal

@@ -5,31 +5,32 @@ ghost use Rattle.std.specs.List.{list_all};
 ghost use Rattle.type_questions.specs.Refusals.{placed_in, refusal_of, source, unplaced};
 
 use bal_base::{Fault, Memory, Name, Refusal, line_column};
-use bal_tree::SourceFile;
+use bal_tree::{Module, SourceFile, file_in};
 use std::alloc::Global;
 
-/// The fault as a refusal: the files are those of the package by number, and behind them come the words `s` and `t`,
-/// whose names are `argument 1` and `argument 2`. A place that is none of its text is want of memory: no fault of the
-/// package or of a word has one.
+/// The fault as a refusal: a place is in the file of these modules that has its number, or else in one of the words `s` and `t`, whose
+/// numbers are `first` and the next one and whose names are `argument 1` and `argument 2`. A place that is none of its text is want of
+/// memory: no fault of the package or of a word has one. Its cost grows with the text and with the number of files.
 pub fn refusal_of(
     alloc: Global,
     fault: Fault,
-    files: &[SourceFile],
+    modules: &[Module],
+    first: u32,
     s: &str,
     t: &str,
 ) -> Result<Refusal, Memory>
-    ensures { IfOk result (λ r. r ≡ refusal_of files.now s.now t.now fault) }
+    ensures { IfOk result (λ r. r ≡ refusal_of modules.now first s.now t.now fault) }
 {
     match fault.at {
         Some(place) => {
-            let number = place.file as usize;
-            if let Some(file) = files.get(number) {
+            let number = place.file;
+            if let Some(file) = file_in(modules, number) {
                 return placed(fault, place.at, &file.name, text_of(file));
             }
-            if number == files.len() {
+            if number == first {
                 return placed(fault, place.at, &named(alloc, "argument 1")?, s);
             }
-            if number == files.len() + 1 {
+            if number as u64 == first as u64 + 1 {
                 return placed(fault, place.at, &named(alloc, "argument 2")?, t);
             }
             unplaced(alloc, fault)

@@ -1,4 +1,4 @@
-use Rattle.std.proofs.Common.{◌≡◌, Ok, Err, length, rules, subst}
+use Rattle.std.proofs.Common.{◌≡◌, Ok, Err, rules, subst}
 use Rattle.checks.specs.Checks.{Comes}
 use Rattle.type_questions.specs.Asked.{asked as asked_in}
 use Rattle.package_questions.proofs.PackageAsking.{names-asked, names-stop}
@@ -12,7 +12,7 @@ returns-in-Ok g c =
     let t = c.args.t.now in
     let home = c.args.«package».now.main in
     names-asked types.passes c.args.«package».now s t _ _ c.build.result c.build.ensures.comes c.in-Ok.names c.ask.result _ came
-    (subst (λ files. Comes (asked_in types.passes c.in-Ok.names home (length files) s t) (types.atoms c.build.new.types) c.ask.result (types.atoms c.ask.new.types)) c.home_files.ensures c.ask.ensures.comes)
+    (subst (λ first. Comes (asked_in types.passes c.in-Ok.names home first s t) (types.atoms c.build.new.types) c.ask.result (types.atoms c.ask.new.types)) c.requires.first c.ask.ensures.comes)
 
 pub returns-in-Err : goal.returns-in-Err
 returns-in-Err g c =

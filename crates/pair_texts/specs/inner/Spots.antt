@@ -1,7 +1,8 @@
 -- Places that are kept with their lines and columns.
-use Rattle.std.specs.Prelude.{◌≡◌, ◌<◌, ◌≤◌, ℕ, List, IfSome, IsUtf8, chars, encode_utf8_all, length, slice_get, take}
+use Rattle.std.specs.Prelude.{◌≡◌, ◌<◌, ◌≤◌, ℕ, List, IfSome, IsUtf8, chars, encode_utf8_all, length, take}
 use Rattle.bal_base.specs.Place.{line_after, column_after}
-use Rattle.bal_tree.specs.declared.package.SourceFile.{SourceFile}
+use Rattle.bal_tree.specs.Files.{file_in}
+use Rattle.bal_tree.specs.declared.package.Module.{Module}
 use Rattle.pair_texts.specs.declared.places.Spot.{Spot}
 
 -- in a text with these bytes whole characters stand in front of the place, which has this line and this column
@@ -13,5 +14,5 @@ pub record StandsIn (bytes : List ℕ) (s : Spot) : Type 0 where
   pub column : s.column ≡ column_after (chars (take s.at bytes))
 
 -- the same in the file with its number, where that is there
-abbrev pub Stands : List SourceFile → Spot → Type 0
-Stands files s = IfSome (slice_get files s.file) (λ file. StandsIn (encode_utf8_all file.text) s)
+abbrev pub Stands : List Module → Spot → Type 0
+Stands modules s = IfSome (file_in s.file modules) (λ file. StandsIn (encode_utf8_all file.text) s)

@@ -1,13 +1,18 @@
-use Rattle.std.proofs.Common.{◌≡◌, Ok, Err, rules}
-use Rattle.compile_front.proofs.FrontSteps.{named-goes, named-stops}
+use Rattle.std.proofs.Common.{◌≡◌, Err, false, rules, subst, sym, true, ◌∙◌}
+use Rattle.bal_base.specs.declared.stop.Stop.TheVariants.{Fault as OwnFault}
+use Rattle.checks.specs.Checks.{Comes}
+use Rattle.compile_front.specs.Front.{front_of}
+use Rattle.compile_front.specs.Mains.{has_main}
+use Rattle.compile_front.proofs.FrontSteps.{main-goes, main-lacks}
 use Rattle.compile_front.proofs.accepting.all_steps.Goals as goal
 
-pub returns-in-Ok-clause-comes : goal.returns-in-Ok-clause-comes
-returns-in-Ok-clause-comes g c =
-    let came : c.build.result ≡ Ok c.in-Ok.names = search rules in
-    named-goes g.T.Types.passes c.args.«package».now _ _ c.build.result c.build.ensures.comes c.in-Ok.names c.checked.result.answer _ came c.checked.ensures.comes
+pub returns-then-not-has_main-clause-comes : goal.returns-then-not-has_main-clause-comes
+returns-then-not-has_main-clause-comes g c =
+    let p = c.args.«package».now in
+    let atoms = g.T.Types.atoms c.args.types in
+    subst (λ f. Comes (front_of g.T.Types.passes p) atoms (Err (OwnFault f)) atoms) (sym c.no_main.ensures)
+    (main-lacks g.T.Types.passes p atoms (sym c.has_main.ensures ∙ c.if-not-has_main.true))
 
-pub returns-in-Err-clause-comes : goal.returns-in-Err-clause-comes
-returns-in-Err-clause-comes g c =
-    let came : c.build.result ≡ Err c.in-Err.stop = search rules in
-    named-stops g.T.Types.passes c.args.«package».now _ _ c.build.result c.build.ensures.comes c.in-Err.stop came
+pub returns-clause-comes : goal.returns-clause-comes
+returns-clause-comes g c =
+    main-goes g.T.Types.passes c.args.«package».now c.named.result.answer _ _ (sym c.has_main.ensures ∙ c.if-not-has_main.false) c.named.ensures.comes

@@ -5,4 +5,4 @@ use Rattle.pair_texts.proofs.lines.add_function.Given as goal
 
 abbrev pub invariant-loop-pair : goal.invariant-loop-pair
 invariant-loop-pair l =
-    Adds (written l.initial.out) (flat_map (pair_text l.files (function_name l.files l.f) (workers_of l.f.body)) (take l.pair-index l.plan.pairs)) (written l.out)
+    Adds (written l.initial.out) (flat_map (pair_text l.modules (function_name l.modules l.f) (workers_of l.f.body)) (take l.pair-index l.plan.pairs)) (written l.out)

@@ -7,6 +7,6 @@ use Rattle.pair_texts.proofs.lines.add_functions.Given as goal
 abbrev pub invariant-loop-i : goal.invariant-loop-i
 invariant-loop-i l =
     record {
-      told : Adds (written l.initial.out) (flat_map (function_text l.files) (take l.i (zip l.functions l.plans))) (written l.out);
-      stands : Stands l.files l.spot;
+      told : Adds (written l.initial.out) (flat_map (function_text l.modules) (take l.i (zip l.functions l.plans))) (written l.out);
+      stands : Stands l.modules l.spot;
     }
