@@ -4,17 +4,17 @@ use Rattle.std.specs.Prelude.{None, Ok, Err, String, string_bytes}
 use Rattle.std.specs.Global.{Global}
 use Rattle.bal_base.specs.declared.stop.Stop.{Stop}
 use Rattle.bal_base.specs.declared.stop.Stop.TheVariants.{Memory as NoMemory, Fault}
-use Rattle.bal_run.specs.declared.load.LoadFault.{LoadFault}
-use Rattle.bal_run.specs.declared.load.LoadFault.TheVariants.{Folder, Source}
-use Rattle.bal_run.specs.declared.status.Status.{Status}
+use Rattle.folder_programs.specs.declared.packages.AnswerFault.{AnswerFault}
+use Rattle.folder_programs.specs.declared.packages.AnswerFault.TheVariants.{Folder, Source}
+use Rattle.status_texts.specs.declared.status.Status.{Status}
 use Rattle.bal_run.specs.declared.top.Worked.{Worked}
 use Rattle.bal_run.specs.Due.{IsWritten, QuestionEnded, Questioned}
-use Rattle.bal_run.specs.Files.{CountsFolderFaults}
-use Rattle.bal_run.specs.Outside.{IsAsBefore, Outside}
-use Rattle.bal_run.specs.Packages.{source_files}
-use Rattle.bal_run.specs.Questions.{Answers}
-use Rattle.bal_run.specs.Work.{IsStatusOfLoad, not_run}
-use Rattle.bal_run.proofs.Texts.{bytes-written}
+use Rattle.status_texts.specs.Report.{CanReport}
+use Rattle.status_texts.specs.Outside.{IsAsBefore, Outside}
+use Rattle.folder_programs.specs.Packages.{CountsFolderFaults, source_modules}
+use Rattle.folder_programs.specs.Questions.{Answers}
+use Rattle.bal_run.specs.Work.{IsStatusUnanswered, not_run}
+use Rattle.status_texts.proofs.Texts.{bytes-written}
 
 module _ (s t : List ℕ) (before after : Outside) (status : Status) where
   -- an answer was written
@@ -28,18 +28,24 @@ module _ (s t : List ℕ) (before after : Outside) (status : Status) where
       })
 
   -- there is none
-  pub ends-without : (stop : Stop LoadFault) → Answers before.folder.files s t (Err stop) → CountsFolderFaults {A = String Global} before.folder.faults after.folder.faults (Err stop) → IsStatusOfLoad stop status → after.out.faults ≡ before.out.faults → after.out.written ≡ before.out.written → QuestionEnded s t before after status
+  pub ends-without : (stop : Stop AnswerFault) → Answers before.folder.files s t (Err stop) → CountsFolderFaults {A = String Global} before.folder.faults after.folder.faults (Err stop) → IsStatusUnanswered stop status → after.out.faults ≡ before.out.faults → after.out.written ≡ before.out.written → QuestionEnded s t before after status
   ends-without NoMemory h counts is faults written = inr (record { cause = inr (inr (is, counts)); faults = faults; written = written })
   ends-without (Fault Folder) h counts is faults written = inr (record { cause = inl (is, counts); faults = faults; written = written })
   ends-without (Fault (Source r)) h counts is faults written =
       inr (record { cause = inr (inl (r, is, h, counts)); faults = faults; written = written })
 
+-- the status of a folder that has no answer has a text
+pub unanswered-can-report : (stop : Stop AnswerFault) (status : Status) → IsStatusUnanswered stop status → CanReport status
+unanswered-can-report NoMemory status is = subst CanReport (sym is) tt
+unanswered-can-report (Fault Folder) status is = subst CanReport (sym is) tt
+unanswered-can-report (Fault (Source r)) status is = subst CanReport (sym is) tt
+
 -- the question that ended so was asked, and nothing ran
-pub asked-so : (s t : List ℕ) (before after : Outside) (work : Worked) (status : Status) → QuestionEnded s t before after status → IsAsBefore before.input after.input → work ≡ record { run = not_run status; source = None } → Questioned s t before after work.run (source_files work.source) work.run.status
+pub asked-so : (s t : List ℕ) (before after : Outside) (work : Worked) (status : Status) → QuestionEnded s t before after status → IsAsBefore before.input after.input → work ≡ record { run = not_run status; source = None } → Questioned s t before after work.run (source_modules work.source) work.run.status
 asked-so s t before after work status ended input made =
     record {
       ended = subst (λ (x : Status). QuestionEnded s t before after x) (sym (ap (λ (w : Worked). w.run.status) made)) ended;
       built = ap (λ (w : Worked). w.run.built) made;
       idle = record { turns = ap (λ (w : Worked). w.run.turns) made; spent = ap (λ (w : Worked). w.run.spent) made; input = input };
-      shows = ap (λ (w : Worked). source_files w.source) made;
+      shows = ap (λ (w : Worked). source_modules w.source) made;
     }

@@ -3,26 +3,25 @@ use Rattle.std.proofs.Common.{◌≡◌, ◌⊎◌, ℕ, ◌<◌, List, Option, 
 use Rattle.bal_base.specs.declared.fault.Refusal.{Refusal}
 use Rattle.bal_base.specs.declared.text.Text.{Text}
 use Rattle.bal_io.specs.Faults.{Rises}
-use Rattle.bal_tree.specs.declared.package.SourceFile.{SourceFile}
+use Rattle.bal_tree.specs.declared.package.Module.{Module}
 use Rattle.command_words.specs.Commands as command
 use Rattle.descriptors.specs.Described.{Atoms}
 use Rattle.machine_model.specs.Outcomes.{Ending}
-use Rattle.bal_run.specs.declared.compile.Built.{Built}
-use Rattle.bal_run.specs.declared.status.Run.{Run}
-use Rattle.bal_run.specs.declared.status.Status.{Status}
-use Rattle.bal_run.specs.declared.status.Status.TheVariants.{Refused, FolderFault, InputFault, OutFault, Memory, DiagFault}
+use Rattle.folder_programs.specs.declared.compiling.Built.{Built}
+use Rattle.status_texts.specs.declared.status.Run.{Run}
+use Rattle.status_texts.specs.declared.status.Status.{Status}
+use Rattle.status_texts.specs.declared.status.Status.TheVariants.{Refused, FolderFault, InputFault, OutFault, Memory, DiagFault}
 use Rattle.bal_run.specs.Due.{NothingRan, Obeyed, ProgramRan}
-use Rattle.bal_run.specs.Files.{Files}
+use Rattle.status_texts.specs.Outside.{Files, Outside, SinkTells}
 use Rattle.bal_run.specs.OfBuilds.{IfBuilt, OfBuilt, RefusedSoon}
 use Rattle.bal_run.specs.OfRuns.{EndedSo, FailedInInput, FailedInOutput, IsEndTold, IsRefusedLate, RefusedLate, RunIsTold, WroteOfRun}
-use Rattle.bal_run.specs.Outside.{Outside, SinkTells, sides}
-use Rattle.bal_run.specs.Programs.{IsRefusalOf}
-use Rattle.bal_run.specs.Report.{ComesTo, Reports}
-use Rattle.bal_run.specs.Runs.{status_of, too_large}
+use Rattle.folder_programs.specs.Runs.{sides, status_of, too_large}
+use Rattle.folder_programs.specs.Programs.{IsRefusalOf}
+use Rattle.status_texts.specs.Report.{ComesTo, Reports}
 use Rattle.bal_run.proofs.BuildFacts.{build-told, if-built, if-nothing, of-built}
 use Rattle.bal_run.proofs.DueStatus.{by-cause, not-end, one-end}
-use Rattle.bal_run.proofs.Ending.{large-unbegun}
-use Rattle.bal_run.proofs.Reporting.{comes-from, due-is, memory-stays}
+use Rattle.folder_programs.proofs.Ending.{large-unbegun}
+use Rattle.status_texts.proofs.ReportFacts.{comes-from, due-is, memory-stays}
 
 -- ends are told by other statuses than those of failed reports
 end-diag : (ticks : ℕ) (end : Ending) → status_of ticks end ≡ DiagFault → ⊥
@@ -31,9 +30,9 @@ end-diag ticks end e = not-end DiagFault DiagFault ticks end refl refl (sym e)
 end-memory : (ticks : ℕ) (end : Ending) → status_of ticks end ≡ Memory → ⊥
 end-memory ticks end e = not-end Memory Memory ticks end refl refl (sym e)
 
-module _ (texts : List Text) (ticks seed : ℕ) (before after : Outside) (run : Run) (files : List SourceFile) (due : Status) (d : Obeyed (command.Run texts) ticks seed before after run files due) (diag told : SinkTells) (r : Reports files due run.status diag told) where
+module _ (texts : List Text) (ticks seed : ℕ) (before after : Outside) (run : Run) (modules : List Module) (due : Status) (d : Obeyed (command.Run texts) ticks seed before after run modules due) (diag told : SinkTells) (r : Reports modules due run.status diag told) where
   abbrev Ran : Type 0
-  Ran = ProgramRan texts ticks seed before after run files due
+  Ran = ProgramRan texts ticks seed before after run modules due
 
   abbrev folder : Option Files
   folder = before.folder.files
@@ -56,8 +55,8 @@ module _ (texts : List Text) (ticks seed : ℕ) (before after : Outside) (run : 
 
   folder-fault : run.status ≡ FolderFault → Rises before.folder.faults after.folder.faults × NothingRan before after run
   folder-fault e =
-      let k = due-is files due run.status diag told r FolderFault (λ f. let bad : ⊥ = cc in bad) (λ f. let bad : ⊥ = cc in bad) e in
-      by-cause before after run files due texts ticks seed d
+      let k = due-is modules due run.status diag told r FolderFault (λ f. let bad : ⊥ = cc in bad) (λ f. let bad : ⊥ = cc in bad) e in
+      by-cause before after run modules due texts ticks seed d
       (λ b f. (f.1, b.nothing))
       (λ b f. absurd (let q = f.1 in let bad : ⊥ = cc in bad))
       (λ b f. absurd (let q = f.0 in let bad : ⊥ = cc in bad))
@@ -69,10 +68,10 @@ module _ (texts : List Text) (ticks seed : ℕ) (before after : Outside) (run : 
 
   refused : (x : Refusal) → run.status ≡ Refused x → RefusedSoon before after run x ⊎ IsRefusedLate texts ticks seed before after run x
   refused x e =
-      let k = due-is files due run.status diag told r (Refused x) (λ f. let bad : ⊥ = cc in bad) (λ f. let bad : ⊥ = cc in bad) e in
-      by-cause before after run files due texts ticks seed d
+      let k = due-is modules due run.status diag told r (Refused x) (λ f. let bad : ⊥ = cc in bad) (λ f. let bad : ⊥ = cc in bad) e in
+      by-cause before after run modules due texts ticks seed d
       (λ b f. absurd (let q = f.0 in let bad : ⊥ = cc in bad))
-      (λ b f. let both : Refused f.0 ≡ Refused x = sym f.1 ∙ k in let same : f.0 ≡ x = cc in inl ((files, subst (λ y. IsRefusalOf folder y files) same f.2), b.nothing))
+      (λ b f. let both : Refused f.0 ≡ Refused x = sym f.1 ∙ k in let same : f.0 ≡ x = cc in inl ((modules, subst (λ y. IsRefusalOf folder y modules) same f.2), b.nothing))
       (λ b f. absurd (let q = f.0 in let bad : ⊥ = cc in bad))
       (λ c f. absurd (not-end due (Refused x) ticks f.outcome.ending refl k f.status))
       (λ c f. absurd (let q = f.status in let bad : ⊥ = cc in bad))
@@ -84,8 +83,8 @@ module _ (texts : List Text) (ticks seed : ℕ) (before after : Outside) (run : 
 
   ended : (end : Ending) → run.status ≡ status_of ticks end → OfBuilt folder run.built (EndedSo texts ticks seed before after run end)
   ended end e =
-      let k = due-is files due run.status diag told r (status_of ticks end) (end-diag ticks end) (end-memory ticks end) e in
-      by-cause before after run files due texts ticks seed d
+      let k = due-is modules due run.status diag told r (status_of ticks end) (end-diag ticks end) (end-memory ticks end) e in
+      by-cause before after run modules due texts ticks seed d
       (λ b f. absurd (not-end due FolderFault ticks end refl f.0 k))
       (λ b f. absurd (not-end due (Refused f.0) ticks end refl f.1 k))
       (λ b f. absurd (not-end due Memory ticks end refl f.0 k))
@@ -101,10 +100,10 @@ module _ (texts : List Text) (ticks seed : ℕ) (before after : Outside) (run : 
       so : (c : Ran) → IsEndTold texts ticks seed before after run c.program.atoms c.program.built
       so c =
           ⊎_elim
-          (λ f. inl (f.outcome.ending, (f.outcome, f.ran, refl, f.turns, f.spent), comes-from files due run.status diag told r (status_of ticks f.outcome.ending) f.status))
+          (λ f. inl (f.outcome.ending, (f.outcome, f.ran, refl, f.turns, f.spent), comes-from modules due run.status diag told r (status_of ticks f.outcome.ending) f.status))
           (λ p. ⊎_elim (λ f. absurd (well f.rises)) (λ q. ⊎_elim (λ f. absurd (fine f.rises)) (λ s. ⊎_elim
-          (λ f. inr (inl (comes-from files due run.status diag told r (Refused too_large) f.status)))
-          (λ f. inr (inr (memory-stays files due run.status diag told r f.status)))
+          (λ f. inr (inl (comes-from modules due run.status diag told r (Refused too_large) f.status)))
+          (λ f. inr (inr (memory-stays modules due run.status diag told r f.status)))
           s) q) p)
           c.cause
 
@@ -112,8 +111,8 @@ module _ (texts : List Text) (ticks seed : ℕ) (before after : Outside) (run : 
 
   input-fault : run.status ≡ InputFault → OfBuilt folder run.built (FailedInInput texts ticks seed before after run)
   input-fault e =
-      let k = due-is files due run.status diag told r InputFault (λ f. let bad : ⊥ = cc in bad) (λ f. let bad : ⊥ = cc in bad) e in
-      by-cause before after run files due texts ticks seed d
+      let k = due-is modules due run.status diag told r InputFault (λ f. let bad : ⊥ = cc in bad) (λ f. let bad : ⊥ = cc in bad) e in
+      by-cause before after run modules due texts ticks seed d
       (λ b f. absurd (let q = f.0 in let bad : ⊥ = cc in bad))
       (λ b f. absurd (let q = f.1 in let bad : ⊥ = cc in bad))
       (λ b f. absurd (let q = f.0 in let bad : ⊥ = cc in bad))
@@ -125,8 +124,8 @@ module _ (texts : List Text) (ticks seed : ℕ) (before after : Outside) (run : 
 
   input-due : before.input.faults < after.input.faults → ComesTo InputFault run.status
   input-due up =
-      comes-from files due run.status diag told r InputFault
-      (by-cause before after run files due texts ticks seed d
+      comes-from modules due run.status diag told r InputFault
+      (by-cause before after run modules due texts ticks seed d
       (λ b f. absurd (let same = b.nothing.input.1 in omega arith))
       (λ b f. absurd (let same = b.nothing.input.1 in omega arith))
       (λ b f. absurd (let same = b.nothing.input.1 in omega arith))
@@ -138,8 +137,8 @@ module _ (texts : List Text) (ticks seed : ℕ) (before after : Outside) (run : 
 
   out-fault : run.status ≡ OutFault → OfBuilt folder run.built (FailedInOutput texts ticks seed before after run)
   out-fault e =
-      let k = due-is files due run.status diag told r OutFault (λ f. let bad : ⊥ = cc in bad) (λ f. let bad : ⊥ = cc in bad) e in
-      by-cause before after run files due texts ticks seed d
+      let k = due-is modules due run.status diag told r OutFault (λ f. let bad : ⊥ = cc in bad) (λ f. let bad : ⊥ = cc in bad) e in
+      by-cause before after run modules due texts ticks seed d
       (λ b f. absurd (let q = f.0 in let bad : ⊥ = cc in bad))
       (λ b f. absurd (let q = f.1 in let bad : ⊥ = cc in bad))
       (λ b f. absurd (let q = f.0 in let bad : ⊥ = cc in bad))
@@ -151,8 +150,8 @@ module _ (texts : List Text) (ticks seed : ℕ) (before after : Outside) (run : 
 
   out-due : before.out.faults < after.out.faults → ComesTo OutFault run.status
   out-due up =
-      comes-from files due run.status diag told r OutFault
-      (by-cause before after run files due texts ticks seed d
+      comes-from modules due run.status diag told r OutFault
+      (by-cause before after run modules due texts ticks seed d
       (λ b f. absurd (let same = b.nothing.faults in omega arith))
       (λ b f. absurd (let same = b.nothing.faults in omega arith))
       (λ b f. absurd (let same = b.nothing.faults in omega arith))
@@ -165,7 +164,7 @@ module _ (texts : List Text) (ticks seed : ℕ) (before after : Outside) (run : 
   pub run-told : RunIsTold texts ticks seed before after run
   run-told =
       record {
-        builds = build-told before after run files due (⊎_elim (λ b. inl b) (λ c. inr c.program) d) diag told r (IsRefusedLate texts ticks seed before after run) folder-fault refused;
+        builds = build-told before after run modules due (⊎_elim (λ b. inl b) (λ c. inr c.program) d) diag told r (IsRefusedLate texts ticks seed before after run) folder-fault refused;
         built = where-built (WroteOfRun texts ticks seed before after run) wrote;
         ended = ended;
         end_due = end-due;

@@ -1,26 +1,29 @@
--- The status that is due of a call of the top: why, what was built and written, and the files in which the events are found that it
--- shows. A call comes to its end at the words, at the folder, in the run, with what was checked or with a question, and there is a record
--- for each way.
-use Rattle.std.specs.Prelude.{◌≡◌, ◌⊎◌, ℕ, List, [], Some, None, String, codes}
+-- The status that is due of a call of the top: why, what was built and written, and the modules in whose files the events are found that
+-- it shows. A call comes to its end at the words, at the folder, in the run, with a text of what was built or with a question, and there is a
+-- record for each way.
+use Rattle.std.specs.Prelude.{◌≡◌, ◌⊎◌, ℕ, List, [], Some, None, String, encode_utf8_all}
 use Rattle.std.specs.Global.{Global}
 use Rattle.bal_base.specs.declared.fault.Refusal.{Refusal}
 use Rattle.bal_base.specs.declared.text.Text.{Text}
 use Rattle.bal_io.specs.Content.{Told, Appends, AppendsFront}
 use Rattle.bal_io.specs.Faults.{Rises}
-use Rattle.bal_tree.specs.declared.package.SourceFile.{SourceFile}
+use Rattle.bal_tree.specs.declared.package.Module.{Module}
 use Rattle.command_words.specs.Commands.{IsCommand, IsGood, Purpose, Request}
 use Rattle.command_words.specs.Commands as command
 use Rattle.descriptors.specs.Described.{Atoms}
 use Rattle.input_calls.specs.Calls.{CallsReadln}
 use Rattle.type_model.specs.declared.answers.Answer.{Answer}
-use Rattle.bal_run.specs.declared.compile.Built.{Built}
-use Rattle.bal_run.specs.declared.status.Run.{Run}
-use Rattle.bal_run.specs.declared.status.Status.{Status}
-use Rattle.bal_run.specs.declared.status.Status.TheVariants.{Done, Refused, FolderFault, OutFault, Memory, Words}
-use Rattle.bal_run.specs.Outside.{FolderTells, IsAsBefore, Outside, SinkTells, sides}
-use Rattle.bal_run.specs.Programs.{IsBuiltOf, IsRefusalOf}
-use Rattle.bal_run.specs.Questions.{IsAnswerOf, IsQuestionRefused, answer_bytes}
-use Rattle.bal_run.specs.Runs.{RunEnded}
+use Rattle.folder_programs.specs.declared.compiling.Built.{Built}
+use Rattle.status_texts.specs.declared.status.Run.{Run}
+use Rattle.status_texts.specs.declared.status.Status.{Status}
+use Rattle.status_texts.specs.declared.status.Status.TheVariants.{Done, Refused, FolderFault, OutFault, Memory, Words}
+use Rattle.folder_programs.specs.declared.texts.Telling.{Telling}
+use Rattle.folder_programs.specs.declared.texts.Telling.TheVariants.{Accepted, Pairs, Code}
+use Rattle.status_texts.specs.Outside.{FolderTells, IsAsBefore, Outside, SinkTells}
+use Rattle.folder_programs.specs.Runs.{sides, RunEnded}
+use Rattle.folder_programs.specs.Programs.{IsBuiltOf, IsRefusalOf}
+use Rattle.folder_programs.specs.Questions.{IsAnswerOf, IsQuestionRefused, answer_bytes}
+use Rattle.folder_programs.specs.Texts.{IsTextOf}
 
 -- ---- at the words
 
@@ -34,18 +37,18 @@ pub record NothingRan (before after : Outside) (run : Run) : Type 0 where
   pub written : after.out.written ≡ before.out.written
 
 -- the words are no good command, and so the folder isn't read
-pub record BadWords (words : List (String Global)) (before after : Outside) (run : Run) (files : List SourceFile) (status : Status) : Type 0 where
+pub record BadWords (words : List (String Global)) (before after : Outside) (run : Run) (modules : List Module) (status : Status) : Type 0 where
   pub due : status ≡ Words
   pub bad : ¬ (IsGood words)
   pub folder : after.folder.faults ≡ before.folder.faults
-  pub shows : files ≡ []
+  pub shows : modules ≡ []
   pub nothing : NothingRan before after run
 
 -- memory ran out over the words, and so the folder isn't read
-pub record NoMemoryForWords (before after : Outside) (run : Run) (files : List SourceFile) (status : Status) : Type 0 where
+pub record NoMemoryForWords (before after : Outside) (run : Run) (modules : List Module) (status : Status) : Type 0 where
   pub due : status ≡ Memory
   pub folder : after.folder.faults ≡ before.folder.faults
-  pub shows : files ≡ []
+  pub shows : modules ≡ []
   pub nothing : NothingRan before after run
 
 -- ---- at the folder
@@ -54,20 +57,20 @@ pub record NoMemoryForWords (before after : Outside) (run : Run) (files : List S
 abbrev pub FolderFails : FolderTells → FolderTells → Status → Type 0
 FolderFails before after status = (status ≡ FolderFault) × Rises before.faults after.faults
 
-abbrev pub FolderRefused : FolderTells → FolderTells → List SourceFile → Status → Type 0
-FolderRefused before after files status =
-    (r : Refusal) × (status ≡ Refused r) × IsRefusalOf before.files r files × (after.faults ≡ before.faults)
+abbrev pub FolderRefused : FolderTells → FolderTells → List Module → Status → Type 0
+FolderRefused before after modules status =
+    (r : Refusal) × (status ≡ Refused r) × IsRefusalOf before.files r modules × (after.faults ≡ before.faults)
 
 abbrev pub NoMemoryToBuild : FolderTells → FolderTells → Status → Type 0
 NoMemoryToBuild before after status = (status ≡ Memory) × (after.faults ≡ before.faults)
 
-abbrev pub NotBuilt : FolderTells → FolderTells → List SourceFile → Status → Type 0
-NotBuilt before after files status =
-    FolderFails before after status ⊎ (FolderRefused before after files status ⊎ NoMemoryToBuild before after status)
+abbrev pub NotBuilt : FolderTells → FolderTells → List Module → Status → Type 0
+NotBuilt before after modules status =
+    FolderFails before after status ⊎ (FolderRefused before after modules status ⊎ NoMemoryToBuild before after status)
 
 -- the folder came to no program
-pub record BadFolder (before after : Outside) (run : Run) (files : List SourceFile) (status : Status) : Type 0 where
-  pub cause : NotBuilt before.folder after.folder files status
+pub record BadFolder (before after : Outside) (run : Run) (modules : List Module) (status : Status) : Type 0 where
+  pub cause : NotBuilt before.folder after.folder modules status
   pub nothing : NothingRan before after run
 
 -- the folder did not fail, and came to what is kept
@@ -81,12 +84,12 @@ pub record WasBuilt (before after : Outside) (run : Run) : Type 0 where
 -- ---- in the run
 
 -- what was built ran, by these words, ticks and this seed; an input for which it doesn't ask wasn't touched
-pub record ProgramRan (texts : List Text) (ticks seed : ℕ) (before after : Outside) (run : Run) (files : List SourceFile) (status : Status) : Type 0 where
+pub record ProgramRan (texts : List Text) (ticks seed : ℕ) (before after : Outside) (run : Run) (modules : List Module) (status : Status) : Type 0 where
   pub program : WasBuilt before after run
   pub cause :
       RunEnded program.atoms program.built.typed texts ticks seed (sides before.input before.out) (sides after.input after.out) run status
   pub untouched : ¬ CallsReadln program.built.typed → IsAsBefore before.input after.input
-  pub shows : files ≡ []
+  pub shows : modules ≡ []
 
 -- ---- what is written
 
@@ -112,18 +115,28 @@ pub record StayedIdle (before after : Outside) (run : Run) : Type 0 where
   pub spent : run.spent ≡ 0
   pub input : IsAsBefore before.input after.input
 
--- ---- with what was checked
+-- ---- with a text of what was built
 
--- what is said of a program that is accepted
-abbrev pub ok_bytes : List ℕ
-ok_bytes = codes "ok\n"
+-- memory ran out before there was a text, and so nothing was written
+abbrev pub NoMemoryForText : SinkTells → SinkTells → Status → Type 0
+NoMemoryForText before after status = (status ≡ Memory) × (after.faults ≡ before.faults) × (after.written ≡ before.written)
 
--- the folder came to a program, which didn't run, and that was said so
-pub record ProgramChecked (before after : Outside) (run : Run) (files : List SourceFile) (status : Status) : Type 0 where
+-- how telling one of these texts ended
+abbrev pub IsTextTold : (List ℕ → Type 0) → SinkTells → SinkTells → Status → Type 0
+IsTextTold IsOne before after status =
+    ((text : List ℕ) × IsOne text × IsWritten (encode_utf8_all text) before after status) ⊎ NoMemoryForText before after status
+
+-- the folder came to a program, which didn't run, and this was told of it
+pub record ProgramTold (telling : Telling) (before after : Outside) (run : Run) (modules : List Module) (status : Status) : Type 0 where
   pub program : WasBuilt before after run
-  pub written : IsWritten ok_bytes before.out after.out status
+  pub told : IsTextTold (IsTextOf telling program.atoms program.built) before.out after.out status
   pub idle : StayedIdle before after run
-  pub shows : files ≡ []
+  pub shows : modules ≡ []
+
+-- the folder came to no program, or to one of which this was told
+abbrev pub TellingEnded : Telling → Outside → Outside → Run → List Module → Status → Type 0
+TellingEnded telling before after run modules status =
+    BadFolder before after run modules status ⊎ ProgramTold telling before after run modules status
 
 -- ---- with a question
 
@@ -151,29 +164,30 @@ abbrev pub QuestionEnded : List ℕ → List ℕ → Outside → Outside → Sta
 QuestionEnded s t before after status = IsAnswered s t before after status ⊎ HasNoAnswer s t before after status
 
 -- the question ended so; nothing is built and the input isn't touched
-pub record Questioned (s t : List ℕ) (before after : Outside) (run : Run) (files : List SourceFile) (status : Status) : Type 0 where
+pub record Questioned (s t : List ℕ) (before after : Outside) (run : Run) (modules : List Module) (status : Status) : Type 0 where
   pub ended : QuestionEnded s t before after status
   pub built : run.built ≡ None
   pub idle : StayedIdle before after run
-  pub shows : files ≡ []
+  pub shows : modules ≡ []
 
 -- ---- the status that is due
 
 -- what comes of a good command, by what it asks for, its ticks and its seed
-abbrev pub Obeyed : Purpose → ℕ → ℕ → Outside → Outside → Run → List SourceFile → Status → Type 0
-Obeyed (command.Run texts) ticks seed before after run files status =
-    BadFolder before after run files status ⊎ ProgramRan texts ticks seed before after run files status
-Obeyed command.Check ticks seed before after run files status =
-    BadFolder before after run files status ⊎ ProgramChecked before after run files status
-Obeyed (command.Subtype s t) ticks seed before after run files status = Questioned s t before after run files status
+abbrev pub Obeyed : Purpose → ℕ → ℕ → Outside → Outside → Run → List Module → Status → Type 0
+Obeyed (command.Run texts) ticks seed before after run modules status =
+    BadFolder before after run modules status ⊎ ProgramRan texts ticks seed before after run modules status
+Obeyed command.Check ticks seed before after run modules status = TellingEnded Accepted before after run modules status
+Obeyed command.Pairs ticks seed before after run modules status = TellingEnded Pairs before after run modules status
+Obeyed command.Code ticks seed before after run modules status = TellingEnded Code before after run modules status
+Obeyed (command.Subtype s t) ticks seed before after run modules status = Questioned s t before after run modules status
 
 -- the words are a command, of which this came
-pub record CommandObeyed (words : List (String Global)) (before after : Outside) (run : Run) (files : List SourceFile) (status : Status) : Type 0 where
+pub record CommandObeyed (words : List (String Global)) (before after : Outside) (run : Run) (modules : List Module) (status : Status) : Type 0 where
   pub request : Request
   pub is : IsCommand words request
-  pub obeyed : Obeyed request.purpose request.ticks request.seed before after run files status
+  pub obeyed : Obeyed request.purpose request.ticks request.seed before after run modules status
 
-abbrev pub StatusIsDue : List (String Global) → Outside → Outside → Run → List SourceFile → Status → Type 0
-StatusIsDue words before after run files status =
-    BadWords words before after run files status
-    ⊎ (NoMemoryForWords before after run files status ⊎ CommandObeyed words before after run files status)
+abbrev pub StatusIsDue : List (String Global) → Outside → Outside → Run → List Module → Status → Type 0
+StatusIsDue words before after run modules status =
+    BadWords words before after run modules status
+    ⊎ (NoMemoryForWords before after run modules status ⊎ CommandObeyed words before after run modules status)

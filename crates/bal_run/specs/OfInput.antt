@@ -1,10 +1,10 @@
 -- What a call of the top says of the input.
 use Rattle.descriptors.specs.Described.{Atoms}
 use Rattle.input_calls.specs.Calls.{CallsReadln}
-use Rattle.bal_run.specs.declared.compile.Built.{Built}
-use Rattle.bal_run.specs.declared.status.Run.{Run}
+use Rattle.folder_programs.specs.declared.compiling.Built.{Built}
+use Rattle.status_texts.specs.declared.status.Run.{Run}
 use Rattle.bal_run.specs.OfBuilds.{OfBuilt}
-use Rattle.bal_run.specs.Outside.{IsAsBefore, Outside}
+use Rattle.status_texts.specs.Outside.{IsAsBefore, Outside}
 
 -- the program calls `io:readln` somewhere
 abbrev pub Asks : Atoms → Built → Type 0

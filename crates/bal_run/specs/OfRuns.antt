@@ -6,13 +6,13 @@ use Rattle.bal_base.specs.declared.text.Text.{Text}
 use Rattle.bal_io.specs.Faults.{Rises}
 use Rattle.descriptors.specs.Described.{Atoms}
 use Rattle.machine_model.specs.Outcomes.{Ending, Outcome}
-use Rattle.bal_run.specs.declared.compile.Built.{Built}
-use Rattle.bal_run.specs.declared.status.Run.{Run}
-use Rattle.bal_run.specs.declared.status.Status.TheVariants.{Refused, InputFault, OutFault, Memory}
+use Rattle.folder_programs.specs.declared.compiling.Built.{Built}
+use Rattle.status_texts.specs.declared.status.Run.{Run}
+use Rattle.status_texts.specs.declared.status.Status.TheVariants.{Refused, InputFault, OutFault, Memory}
 use Rattle.bal_run.specs.OfBuilds.{BuildIsTold, IfBuilt, OfBuilt}
-use Rattle.bal_run.specs.Outside.{Outside, sides}
-use Rattle.bal_run.specs.Report.{ComesTo}
-use Rattle.bal_run.specs.Runs.{IsTypesLimit, InputFailed, OutputFailed, RanTo, WrotePart, status_of, too_large}
+use Rattle.status_texts.specs.Outside.{Outside}
+use Rattle.folder_programs.specs.Runs.{sides, IsTypesLimit, InputFailed, OutputFailed, RanTo, WrotePart, status_of, too_large}
+use Rattle.status_texts.specs.Report.{ComesTo}
 
 -- the run of what was built, by these words for main, so many ticks and this seed
 module _ (words : List Text) (ticks seed : ℕ) (before after : Outside) (run : Run) where

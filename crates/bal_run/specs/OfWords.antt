@@ -2,11 +2,11 @@
 use Rattle.std.specs.Prelude.{◌≡◌, List, String}
 use Rattle.std.specs.Global.{Global}
 use Rattle.command_words.specs.Commands.{IsGood}
-use Rattle.bal_run.specs.declared.status.Run.{Run}
-use Rattle.bal_run.specs.declared.status.Status.TheVariants.{Words}
+use Rattle.status_texts.specs.declared.status.Run.{Run}
+use Rattle.status_texts.specs.declared.status.Status.TheVariants.{Words}
 use Rattle.bal_run.specs.Due.{NothingRan}
-use Rattle.bal_run.specs.Outside.{Outside}
-use Rattle.bal_run.specs.Report.{ComesTo}
+use Rattle.status_texts.specs.Outside.{Outside}
+use Rattle.status_texts.specs.Report.{ComesTo}
 
 -- they are told to be wrong only where they are no good command, and nothing runs then; and where they are none, that is told
 pub record AreJudged (words : List (String Global)) (before after : Outside) (run : Run) : Type 0 where

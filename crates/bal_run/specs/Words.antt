@@ -16,6 +16,8 @@ IsOfFolder words dir = (request : Request) × IsCommand words request × (reques
 abbrev pub NeedsProgram : Purpose → Type 0
 NeedsProgram (command.Run texts) = ⊤
 NeedsProgram command.Check = ⊤
+NeedsProgram command.Pairs = ⊤
+NeedsProgram command.Code = ⊤
 NeedsProgram (command.Subtype s t) = ⊥
 
 -- they are a command for which the folder's program is compiled

@@ -1,46 +1,44 @@
 //! The top call.
-ghost use Rattle.std.specs.Prelude.{◌≡◌, ◌≤◌, ℕ, List, None, Some, length};
+ghost use Rattle.std.specs.Prelude.{◌≡◌, ◌≤◌, ℕ, List, None, length};
 ghost use Rattle.bal_base.specs.declared.text.Text.{Text};
 ghost use Rattle.command_words.specs.Commands as command;
 ghost use Rattle.command_words.specs.Commands.{request_of};
 ghost use Rattle.command_words.specs.declared.command.TheConstants.{MOST_WORD_BYTES};
 ghost use Rattle.machine_model.specs.Runs.{AreWords};
-ghost use Rattle.bal_tree.specs.declared.package.SourceFile.{SourceFile as FileOf};
-ghost use Rattle.bal_run.specs.Due.{IsWritten, Obeyed, QuestionEnded, StatusIsDue, ok_bytes};
+ghost use Rattle.bal_tree.specs.declared.package.Module.{Module as ModuleOf};
+ghost use Rattle.bal_run.specs.Due.{Obeyed, QuestionEnded, StatusIsDue, TellingEnded};
 ghost use Rattle.bal_run.specs.OfChecks.{CheckIsTold};
+ghost use Rattle.bal_run.specs.OfCode.{IsCodeTold};
 ghost use Rattle.bal_run.specs.OfDiagnostics.{AreDiagnosticsTold};
 ghost use Rattle.bal_run.specs.OfInput.{IsInputTold};
+ghost use Rattle.bal_run.specs.OfPairs.{ArePairsTold};
 ghost use Rattle.bal_run.specs.OfQuestions.{QuestionIsTold};
 ghost use Rattle.bal_run.specs.OfRuns.{RunIsTold};
 ghost use Rattle.bal_run.specs.OfWords.{AreJudged};
-ghost use Rattle.bal_run.specs.Outside.{SourceTells, folder_tells, outside, sink_tells, source_tells};
-ghost use Rattle.bal_run.specs.Packages.{source_files};
-ghost use Rattle.bal_run.specs.Report.{CanReport, Reports};
+ghost use Rattle.status_texts.specs.Outside.{SourceTells, folder_tells, outside, sink_tells, source_tells};
+ghost use Rattle.folder_programs.specs.Packages.{source_modules};
+ghost use Rattle.status_texts.specs.Report.{CanReport, Reports};
 ghost use Rattle.bal_run.specs.Words.{AsksFor};
-ghost use Rattle.bal_run.specs.Work.{IsFit, IsStatusOfLoad, IsWorkOf};
-ghost use Rattle.bal_run.specs.declared.status.Status.{Status as AnyStatus};
+ghost use Rattle.bal_run.specs.Work.{IsFit, IsStatusUnanswered, IsWorkOf};
+ghost use Rattle.status_texts.specs.declared.status.Status.{Status as AnyStatus};
 
-use crate::compile::{Built, CompileFault, Ready, compile};
-use crate::load::LoadFault;
-use crate::question::answer;
-use crate::report::report;
-use crate::running::execute;
-use crate::status::{Run, Status};
-use bal_base::{Failed, Memory, Stop};
+use crate::telling::{tell, told};
+use bal_base::{Memory, Stop};
 use bal_io::{Folder, Sink, Source};
-use bal_tree::{Package, SourceFile};
+use bal_tree::{Module, Package};
 use command_words::{Command, Mode, command_of};
-use package_questions::home_files;
+use folder_programs::{AnswerFault, CompileFault, Telling, answer, compile, execute};
 use package_runs::Bounds;
+use status_texts::{Run, Status, report};
 use std::alloc::Global;
 
-/// Compiles the folder's `main.bal` and runs it, or only says that it is accepted, or answers whether one type is below another in its
-/// package, as the words say.
+/// Compiles the folder's package and runs it, or only says that it is accepted, or tells its pairs or its code, or answers whether one
+/// type is below another in it, as the words say.
 ///
-/// The program's output goes to `out`, one call for each line that it prints, and so does the answer to a question, and the word `ok` for
-/// a program that is only checked. The text of a status other than `Done` goes to `diag`. The input is read to its end before the program
-/// runs, where that calls `io:readln`, and else it isn't touched. Each failure of an object of the outside ends the call, and nothing is
-/// written to `out` after it.
+/// The program's output goes to `out`, one call for each line that it prints, and so do the answer to a question and, of a program that
+/// isn't run, the word `ok` or the text of its pairs or of its code, each by one call. The text of a status other than `Done` goes to
+/// `diag`. The input is read to its end before the program runs, where that calls `io:readln`, and else it isn't touched. Each failure of
+/// an object of the outside ends the call, and nothing is written to `out` after it.
 pub fn bal_run<F: Folder, I: Source, O: Sink, E: Sink>(
     alloc: Global,
     words: &[String],
@@ -50,12 +48,12 @@ pub fn bal_run<F: Folder, I: Source, O: Sink, E: Sink>(
     diag: &mut E,
 ) -> Run
     // The whole: the status that is due, its cause, and how it became the answer.
-    ensures answer { (due : AnyStatus) × (files : List FileOf)
+    ensures answer { (due : AnyStatus) × (modules : List ModuleOf)
         × StatusIsDue words.now
         (outside (folder_tells (F.faults folder.old) (F.files folder.old)) (source_tells (I.faults input.old) (I.rest input.old)) (sink_tells (O.faults out.old) (O.written out.old)))
         (outside (folder_tells (F.faults folder.new) (F.files folder.new)) (source_tells (I.faults input.new) (I.rest input.new)) (sink_tells (O.faults out.new) (O.written out.new)))
-        result files due
-        × Reports files due result.status (sink_tells (E.faults diag.old) (E.written diag.old)) (sink_tells (E.faults diag.new) (E.written diag.new)) }
+        result modules due
+        × Reports modules due result.status (sink_tells (E.faults diag.old) (E.written diag.old)) (sink_tells (E.faults diag.new) (E.written diag.new)) }
 
     // The words, both ways.
     ensures words { AreJudged words.now
@@ -75,6 +73,22 @@ pub fn bal_run<F: Folder, I: Source, O: Sink, E: Sink>(
         (outside (folder_tells (F.faults folder.new) (F.files folder.new)) (source_tells (I.faults input.new) (I.rest input.new)) (sink_tells (O.faults out.new) (O.written out.new)))
         result }
 
+    // A program whose pairs are told: its faults, or the text of its pairs.
+    ensures pairs { (ticks seed : ℕ) → AsksFor words.now command.Pairs ticks seed → ArePairsTold
+        (outside (folder_tells (F.faults folder.old) (F.files folder.old)) (source_tells (I.faults input.old) (I.rest input.old))
+        (sink_tells (O.faults out.old) (O.written out.old)))
+        (outside (folder_tells (F.faults folder.new) (F.files folder.new)) (source_tells (I.faults input.new) (I.rest input.new))
+        (sink_tells (O.faults out.new) (O.written out.new)))
+        result }
+
+    // A program whose code is told: its faults, or the text of a code of it.
+    ensures code { (ticks seed : ℕ) → AsksFor words.now command.Code ticks seed → IsCodeTold
+        (outside (folder_tells (F.faults folder.old) (F.files folder.old)) (source_tells (I.faults input.old) (I.rest input.old))
+        (sink_tells (O.faults out.old) (O.written out.old)))
+        (outside (folder_tells (F.faults folder.new) (F.files folder.new)) (source_tells (I.faults input.new) (I.rest input.new))
+        (sink_tells (O.faults out.new) (O.written out.new)))
+        result }
+
     // A question of types: its answer, or why it has none.
     ensures subtype { (s t : List ℕ) (ticks seed : ℕ) → AsksFor words.now (command.Subtype s t) ticks seed → QuestionIsTold s t
         (outside (folder_tells (F.faults folder.old) (F.files folder.old)) (source_tells (I.faults input.old) (I.rest input.old)) (sink_tells (O.faults out.old) (O.written out.old)))
@@ -91,7 +105,7 @@ pub fn bal_run<F: Folder, I: Source, O: Sink, E: Sink>(
         result }
 {
     let Worked { run, source } = work(alloc, words, folder, input, out);
-    let status = report(alloc, run.status, files_of(&source), diag);
+    let status = report(alloc, run.status, modules_of(&source), diag);
     Run {
         status,
         built: run.built,
@@ -107,12 +121,12 @@ struct Worked {
     source: Option<Package>,
 }
 
-/// The files of the package, where there is one.
-fn files_of(source: &Option<Package>) -> &[SourceFile]
-    ensures { result.now ≡ source_files source.now }
+/// The modules of the package, where there is one.
+fn modules_of(source: &Option<Package>) -> &[Module]
+    ensures { result.now ≡ source_modules source.now }
 {
     match source {
-        Some(source) => home_files(source),
+        Some(source) => source.modules.as_slice(),
         None => &[],
     }
 }
@@ -128,7 +142,7 @@ fn work<F: Folder, I: Source, O: Sink>(
     ensures due { StatusIsDue words.now
         (outside (folder_tells (F.faults folder.old) (F.files folder.old)) (source_tells (I.faults input.old) (I.rest input.old)) (sink_tells (O.faults out.old) (O.written out.old)))
         (outside (folder_tells (F.faults folder.new) (F.files folder.new)) (source_tells (I.faults input.new) (I.rest input.new)) (sink_tells (O.faults out.new) (O.written out.new)))
-        result.run (source_files result.source) result.run.status }
+        result.run (source_modules result.source) result.run.status }
     ensures text { CanReport result.run.status }
 {
     match command_of(alloc, words) {
@@ -150,7 +164,7 @@ fn obey<F: Folder, I: Source, O: Sink>(
     ensures due { Obeyed (request_of command.now).purpose command.now.ticks command.now.seed
         (outside (folder_tells (F.faults folder.old) (F.files folder.old)) (source_tells (I.faults input.old) (I.rest input.old)) (sink_tells (O.faults out.old) (O.written out.old)))
         (outside (folder_tells (F.faults folder.new) (F.files folder.new)) (source_tells (I.faults input.new) (I.rest input.new)) (sink_tells (O.faults out.new) (O.written out.new)))
-        result.run (source_files result.source) result.run.status }
+        result.run (source_modules result.source) result.run.status }
     ensures text { CanReport result.run.status }
 {
     match &command.mode {
@@ -162,7 +176,9 @@ fn obey<F: Folder, I: Source, O: Sink>(
             };
             compile_and_run(alloc, bounds, folder, input, out)
         }
-        Mode::Check => compile_and_check(alloc, folder, out),
+        Mode::Check => compile_and_tell(alloc, Telling::Accepted, folder, out),
+        Mode::Pairs => compile_and_tell(alloc, Telling::Pairs, folder, out),
+        Mode::Code => compile_and_tell(alloc, Telling::Code, folder, out),
         Mode::Subtype { left, right } => work_of(not_run(ask(alloc, left, right, folder, out))),
     }
 }
@@ -179,7 +195,7 @@ fn compile_and_run<F: Folder, I: Source, O: Sink>(
     ensures due { Obeyed (command.Run bounds.entry.words.now) bounds.entry.ticks bounds.entry.seed
         (outside (folder_tells (F.faults folder.old) (F.files folder.old)) (source_tells (I.faults input.old) (I.rest input.old)) (sink_tells (O.faults out.old) (O.written out.old)))
         (outside (folder_tells (F.faults folder.new) (F.files folder.new)) (source_tells (I.faults input.new) (I.rest input.new)) (sink_tells (O.faults out.new) (O.written out.new)))
-        result.run (source_files result.source) result.run.status }
+        result.run (source_modules result.source) result.run.status }
     ensures text { CanReport result.run.status }
 {
     match compile(alloc, folder) {
@@ -188,42 +204,23 @@ fn compile_and_run<F: Folder, I: Source, O: Sink>(
     }
 }
 
-/// Compiles, and says that the program is accepted. The input, whatever it tells, isn't touched.
-fn compile_and_check<F: Folder, O: Sink>(alloc: Global, folder: &mut F, out: &mut O) -> Worked
-    ensures due { (ticks seed : ℕ) (i : SourceTells) → Obeyed command.Check ticks seed
+/// Compiles, and tells this of the program. The input, whatever it tells, isn't touched.
+fn compile_and_tell<F: Folder, O: Sink>(
+    alloc: Global,
+    telling: Telling,
+    folder: &mut F,
+    out: &mut O,
+) -> Worked
+    ensures due { (i : SourceTells) → TellingEnded telling
         (outside (folder_tells (F.faults folder.old) (F.files folder.old)) i (sink_tells (O.faults out.old) (O.written out.old)))
         (outside (folder_tells (F.faults folder.new) (F.files folder.new)) i (sink_tells (O.faults out.new) (O.written out.new)))
-        result.run (source_files result.source) result.run.status }
+        result.run (source_modules result.source) result.run.status }
     ensures text { CanReport result.run.status }
 {
     match compile(alloc, folder) {
-        Ok(ready) => work_of(checked(ready, out)),
+        Ok(ready) => work_of(told(alloc, telling, ready, out)),
         Err(stop) => not_compiled(stop),
     }
-}
-
-/// Says that a program is accepted.
-fn checked<O: Sink>(ready: Ready, out: &mut O) -> Run
-    ensures kept { result.built ≡ Some ready.built.source }
-    ensures counts { (result.turns ≡ 0) × (result.spent ≡ 0) }
-    ensures written { IsWritten ok_bytes (sink_tells (O.faults out.old) (O.written out.old)) (sink_tells (O.faults out.new) (O.written out.new)) result.status }
-    ensures text { CanReport result.status }
-{
-    Run {
-        status: tell("ok\n", out),
-        built: Some(source_of(ready)),
-        turns: 0,
-        spent: 0,
-    }
-}
-
-/// The package that was read.
-fn source_of(ready: Ready) -> Package
-    ensures { result ≡ ready.built.source }
-{
-    let Ready { built, .. } = ready;
-    let Built { source, .. } = built;
-    source
 }
 
 /// What was done of a folder that does not compile.
@@ -259,19 +256,7 @@ fn ask<F: Folder, O: Sink>(alloc: Global, s: &str, t: &str, folder: &mut F, out:
 {
     match answer(alloc, folder, s, t) {
         Ok(text) => tell(text.as_str(), out),
-        Err(stop) => load_status(stop),
-    }
-}
-
-/// Writes the answer by one call.
-fn tell<O: Sink>(text: &str, out: &mut O) -> Status
-    ensures written { IsWritten text.now (sink_tells (O.faults out.old) (O.written out.old)) (sink_tells (O.faults out.new) (O.written out.new)) result }
-    ensures text { CanReport result }
-{
-    match out.write(text.as_bytes()) {
-        Ok(()) => Status::Done,
-        Err(Stop::Fault(Failed)) => Status::OutFault,
-        Err(Stop::Memory) => Status::Memory,
+        Err(stop) => unanswered_status(stop),
     }
 }
 
@@ -287,13 +272,13 @@ fn not_run(status: Status) -> Run
     }
 }
 
-/// The status of a folder that does not compile.
-fn load_status(stop: Stop<LoadFault>) -> Status
-    ensures { IsStatusOfLoad stop result }
+/// The status of a folder in which a question has no answer.
+fn unanswered_status(stop: Stop<AnswerFault>) -> Status
+    ensures { IsStatusUnanswered stop result }
 {
     match stop {
         Stop::Memory => Status::Memory,
-        Stop::Fault(LoadFault::Folder) => Status::FolderFault,
-        Stop::Fault(LoadFault::Source(refusal)) => Status::Refused(refusal),
+        Stop::Fault(AnswerFault::Folder) => Status::FolderFault,
+        Stop::Fault(AnswerFault::Source(refusal)) => Status::Refused(refusal),
     }
 }

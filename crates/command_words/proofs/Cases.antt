@@ -7,7 +7,7 @@ use Rattle.std.proofs.lemmas.List.Elements.{All-cons, All-nil}
 use Rattle.command_words.specs.declared.command.TheConstants.{MOST_WORD_BYTES}
 use Rattle.command_words.specs.declared.word.Setting.TheVariants.{Mode, Ticks, Seed}
 use Rattle.command_words.specs.Cases.{AreNone, Cases, plain}
-use Rattle.command_words.specs.Commands.{AreCommand, Asks, Check, IsNumber, Purpose, Request, Run, Subtype, Takes, mode_word}
+use Rattle.command_words.specs.Commands.{AreCommand, Asks, Check, Code, IsNumber, Pairs, Purpose, Request, Run, Subtype, Takes, mode_word}
 use Rattle.command_words.specs.Words.{IsPositional, Parts, Says, apart, itself, joined, nothing, only, option_word, plainly, with_value, with_word}
 use Rattle.command_words.proofs.OneKind.{not-positional, option-dashes}
 use Rattle.command_words.proofs.One.{codes-differ}
@@ -95,6 +95,20 @@ checks = (
   record { words = []; positional = refl; few = lit≤ tt; short = All-nil IsShort; takes = refl; mode = refl; ticks = refl; seed = refl },
 )
 
+tells-pairs : AreCommand (codes "." ∷ codes "--mode" ∷ codes "pairs" ∷ []) (plain (codes ".") Pairs)
+tells-pairs = (
+  with_word (codes ".") (with_value Mode (codes "pairs") (only [])),
+  itself dot (apart Mode refl (λ e. omega (arith, e)) nothing),
+  record { words = []; positional = refl; few = lit≤ tt; short = All-nil IsShort; takes = refl; mode = refl; ticks = refl; seed = refl },
+)
+
+tells-code : AreCommand (codes "--mode=code" ∷ codes "." ∷ []) (plain (codes ".") Code)
+tells-code = (
+  with_value Mode (codes "code") (only (codes "." ∷ [])),
+  joined Mode (codes "code") refl (itself dot nothing),
+  record { words = []; positional = refl; few = lit≤ tt; short = All-nil IsShort; takes = refl; mode = refl; ticks = refl; seed = refl },
+)
+
 asks-types : AreCommand (codes "." ∷ codes "int" ∷ codes "0|1" ∷ codes "--mode=subtype" ∷ []) (plain (codes ".") (Subtype (codes "int") (codes "0|1")))
 asks-types = (
   with_value Mode (codes "subtype") (only (codes "." ∷ codes "int" ∷ codes "0|1" ∷ [])),
@@ -125,32 +139,50 @@ twice =
     (itself dot (joined Mode (codes "check") refl (apart Mode refl (λ e. omega (arith, e)) nothing))) (λ request h. h.mode)
 
 -- the value of `--mode` is no word of a mode
-no-mode : (purpose : Purpose) → ¬ (codes "pairs" ≡ mode_word purpose)
-no-mode (Run texts) e = codes-differ (codes "pairs") (codes "run") 112 114 refl refl (λ n. omega (arith, n)) e
-no-mode Check e = codes-differ (codes "pairs") (codes "check") 112 99 refl refl (λ n. omega (arith, n)) e
-no-mode (Subtype left right) e = codes-differ (codes "pairs") (codes "subtype") 112 115 refl refl (λ n. omega (arith, n)) e
+no-mode : (purpose : Purpose) → ¬ (codes "walk" ≡ mode_word purpose)
+no-mode (Run texts) e = codes-differ (codes "walk") (codes "run") 108 110 refl refl (λ n. omega (arith, n)) e
+no-mode Check e = codes-differ (codes "walk") (codes "check") 108 101 refl refl (λ n. omega (arith, n)) e
+no-mode Pairs e = codes-differ (codes "walk") (codes "pairs") 108 105 refl refl (λ n. omega (arith, n)) e
+no-mode Code e = codes-differ (codes "walk") (codes "code") 108 100 refl refl (λ n. omega (arith, n)) e
+no-mode (Subtype left right) e = codes-differ (codes "walk") (codes "subtype") 108 98 refl refl (λ n. omega (arith, n)) e
 
-other-mode : AreNone (codes "." ∷ codes "--mode" ∷ codes "pairs" ∷ [])
+other-mode : AreNone (codes "." ∷ codes "--mode" ∷ codes "walk" ∷ [])
 other-mode =
-    none-by (with_word (codes ".") (with_value Mode (codes "pairs") (only []))) (itself dot (apart Mode refl (λ e. omega (arith, e)) nothing))
+    none-by (with_word (codes ".") (with_value Mode (codes "walk") (only []))) (itself dot (apart Mode refl (λ e. omega (arith, e)) nothing))
     (λ request h. no-mode request.purpose h.mode)
 
--- there are no words in `check`
-no-words : (purpose : Purpose) (words : List (List ℕ)) → codes "check" ≡ mode_word purpose → Takes purpose words → words ≡ []
-no-words (Run texts) words e h = codes-differ (codes "check") (codes "run") 99 114 refl refl (λ n. omega (arith, n)) e
-no-words Check words e h = h
-no-words (Subtype left right) words e h = codes-differ (codes "check") (codes "subtype") 99 115 refl refl (λ n. omega (arith, n)) e
+-- there are no words in a mode whose word has this third character, other than those of `run` and `subtype`
+no-words : (word : List ℕ) (letter : ℕ) → get_or word 2 0 ≡ letter → ¬ (letter ≡ 110) → ¬ (letter ≡ 98)
+    → (purpose : Purpose) (words : List (List ℕ)) → word ≡ mode_word purpose → Takes purpose words → words ≡ []
+no-words word letter is run subtype (Run texts) words e h = codes-differ word (codes "run") letter 110 is refl run e
+no-words word letter is run subtype Check words e h = h
+no-words word letter is run subtype Pairs words e h = h
+no-words word letter is run subtype Code words e h = h
+no-words word letter is run subtype (Subtype left right) words e h = codes-differ word (codes "subtype") letter 98 is refl subtype e
+
+-- what stands for itself is then the folder's word alone
+no-second : (request : Request) (words : List (List ℕ)) → codes "." ∷ codes "a" ∷ [] ≡ request.dir ∷ words → words ≡ [] → ⊥
+no-second request words positional none =
+    let n : 2 ≡ length (request.dir ∷ []) = ap length (positional ∙ ap (λ ws. request.dir ∷ ws) none) in no-size request.dir n
+  where
+    no-size : (d : List ℕ) → 2 ≡ length (d ∷ []) → ⊥
+    no-size d n = omega (arith, n)
 
 word-in-check : AreNone (codes "." ∷ codes "a" ∷ codes "--mode" ∷ codes "check" ∷ [])
 word-in-check =
     none-by (with_word (codes ".") (with_word (codes "a") (with_value Mode (codes "check") (only []))))
     (itself dot (itself (plain-word 97 [] (λ e. omega (arith, e))) (apart Mode refl (λ e. omega (arith, e)) nothing)))
     (λ request h.
-    let n : 2 ≡ length (request.dir ∷ []) = ap length (h.positional ∙ ap (λ ws. request.dir ∷ ws) (no-words request.purpose h.words h.mode h.takes)) in
-    no-size request.dir n)
-  where
-    no-size : (d : List ℕ) → 2 ≡ length (d ∷ []) → ⊥
-    no-size d n = omega (arith, n)
+    no-second request h.words h.positional
+    (no-words (codes "check") 101 refl (λ n. omega (arith, n)) (λ n. omega (arith, n)) request.purpose h.words h.mode h.takes))
+
+word-in-code : AreNone (codes "." ∷ codes "a" ∷ codes "--mode=code" ∷ [])
+word-in-code =
+    none-by (with_word (codes ".") (with_word (codes "a") (with_value Mode (codes "code") (only []))))
+    (itself dot (itself (plain-word 97 [] (λ e. omega (arith, e))) (joined Mode (codes "code") refl nothing)))
+    (λ request h.
+    no-second request h.words h.positional
+    (no-words (codes "code") 100 refl (λ n. omega (arith, n)) (λ n. omega (arith, n)) request.purpose h.words h.mode h.takes))
 
 no-digits : AreNone (codes "." ∷ codes "--ticks=" ∷ [])
 no-digits =
@@ -207,11 +239,14 @@ cases = record {
   seed = with-seed;
   most_ticks = most-ticks;
   checks = checks;
+  pairs = tells-pairs;
+  code = tells-code;
   asks = asks-types;
   empty = empty;
   twice = twice;
   other_mode = other-mode;
   word_in_check = word-in-check;
+  word_in_code = word-in-code;
   no_digits = no-digits;
   too_large = too-large;
   signed = signed;

@@ -1,7 +1,7 @@
 -- The same words never ask for two things.
-use Rattle.std.proofs.Common.{◌≡◌, ◌∙◌, ℕ, List, [], ◌∷◌, String, codes, get_or, map, refl, sym, ap, subst, arith, drop}
+use Rattle.std.proofs.Common.{◌≡◌, ◌∙◌, ◌==◌, ℕ, List, [], ◌∷◌, String, chars, get_or, codes, map, refl, sym, ap, subst, drop, if◌then◌else◌}
 use Rattle.std.specs.Global.{Global}
-use Rattle.command_words.specs.Commands.{Asks, AtMostOnce, Check, IsCommand, IsNumber, Purpose, Request, Run, Subtype, Takes, mode_word}
+use Rattle.command_words.specs.Commands.{Asks, AtMostOnce, Check, Code, IsCommand, IsNumber, Pairs, Purpose, Request, Run, Subtype, Takes, mode_word}
 use Rattle.command_words.specs.Words.{Parts}
 use Rattle.command_words.proofs.Sayings.{says-one}
 
@@ -11,22 +11,29 @@ head-same a b xs ys e = ap (λ l. get_or l 0 a) e
 pub tail-same : (a b : List ℕ) (xs ys : List (List ℕ)) → a ∷ xs ≡ b ∷ ys → xs ≡ ys
 tail-same a b xs ys e = ap (drop 1) e
 
--- the words of modes begin each in its own way
-pub codes-differ : {A : Type 0} (x y : List ℕ) (a b : ℕ) → get_or x 0 0 ≡ a → get_or y 0 0 ≡ b → (a ≡ b → ⊥) → x ≡ y → A
-codes-differ x y a b ea eb d e = absurd (d (sym ea ∙ ap (λ l. get_or l 0 0) e ∙ eb))
+-- the words of modes differ in their third characters
+pub codes-differ : {A : Type 0} (x y : List ℕ) (a b : ℕ) → get_or x 2 0 ≡ a → get_or y 2 0 ≡ b → (a ≡ b → ⊥) → x ≡ y → A
+codes-differ x y a b ea eb d e = absurd (d (sym ea ∙ ap (λ l. get_or l 2 0) e ∙ eb))
+
+-- the purpose whose word has this third character, and which takes these words
+abbrev purpose_back : ℕ → List (List ℕ) → Purpose
+purpose_back letter words =
+    if letter == 110 then Run (map chars words)
+    else if letter == 101 then Check
+    else if letter == 105 then Pairs
+    else if letter == 100 then Code
+    else Subtype (get_or words 0 []) (get_or words 1 [])
+
+purpose-back : (p : Purpose) (words : List (List ℕ)) → Takes p words → purpose_back (get_or (mode_word p) 2 0) words ≡ p
+purpose-back (Run texts) words h = ap Run (sym h)
+purpose-back Check words h = refl
+purpose-back Pairs words h = refl
+purpose-back Code words h = refl
+purpose-back (Subtype left right) words h = ap (λ ws. Subtype (get_or ws 0 []) (get_or ws 1 [])) h
 
 pub purpose-same : (p q : Purpose) (words others : List (List ℕ)) → mode_word p ≡ mode_word q → words ≡ others → Takes p words → Takes q others → p ≡ q
-purpose-same (Run ts) (Run us) words others m e h k = ap Run (h ∙ ap (map _) e ∙ sym k)
-purpose-same (Run ts) Check words others m e h k = codes-differ (codes "run") (codes "check") 114 99 refl refl (λ n. omega (arith, n)) m
-purpose-same (Run ts) (Subtype l r) words others m e h k = codes-differ (codes "run") (codes "subtype") 114 115 refl refl (λ n. omega (arith, n)) m
-purpose-same Check (Run us) words others m e h k = codes-differ (codes "check") (codes "run") 99 114 refl refl (λ n. omega (arith, n)) m
-purpose-same Check Check words others m e h k = refl
-purpose-same Check (Subtype l r) words others m e h k = codes-differ (codes "check") (codes "subtype") 99 115 refl refl (λ n. omega (arith, n)) m
-purpose-same (Subtype l r) (Run us) words others m e h k = codes-differ (codes "subtype") (codes "run") 115 114 refl refl (λ n. omega (arith, n)) m
-purpose-same (Subtype l r) Check words others m e h k = codes-differ (codes "subtype") (codes "check") 115 99 refl refl (λ n. omega (arith, n)) m
-purpose-same (Subtype l r) (Subtype s t) words others m e h k =
-    let all : l ∷ r ∷ [] ≡ s ∷ t ∷ [] = sym h ∙ e ∙ k in
-    λ i. Subtype (head-same l s (r ∷ []) (t ∷ []) all i) (head-same r t [] [] (tail-same l s (r ∷ []) (t ∷ []) all) i)
+purpose-same p q words others m e h k =
+    sym (purpose-back p words h) ∙ ((λ i. purpose_back (get_or (m i) 2 0) (e i)) ∙ purpose-back q others k)
 
 -- an option that is given at most once has one value
 pub mode-same : (values : List (List ℕ)) (x y : List ℕ) → AtMostOnce (codes "run" ≡ x) (λ value. value ≡ x) values

@@ -1,7 +1,7 @@
 -- Some words, and whether they are a command.
 use Rattle.std.specs.Prelude.{ℕ, List, [], ◌∷◌, codes}
 use Rattle.command_words.specs.declared.command.TheConstants.{DEFAULT_SEED, DEFAULT_TICKS}
-use Rattle.command_words.specs.Commands.{AreCommand, Check, Purpose, Request, Run, Subtype}
+use Rattle.command_words.specs.Commands.{AreCommand, Check, Code, Pairs, Purpose, Request, Run, Subtype}
 
 abbrev pub AreNone : List (List ℕ) → Type 0
 AreNone words = (request : Request) → ¬ (AreCommand words request)
@@ -24,6 +24,10 @@ pub record Cases : Type 0 where
       (record (plain (codes ".") (Run [])) { ticks = 18446744073709551615 })
   -- `--mode check .`
   pub checks : AreCommand (codes "--mode" ∷ codes "check" ∷ codes "." ∷ []) (plain (codes ".") Check)
+  -- `. --mode pairs`
+  pub pairs : AreCommand (codes "." ∷ codes "--mode" ∷ codes "pairs" ∷ []) (plain (codes ".") Pairs)
+  -- `--mode=code .`
+  pub code : AreCommand (codes "--mode=code" ∷ codes "." ∷ []) (plain (codes ".") Code)
   -- `. int 0|1 --mode=subtype`
   pub asks : AreCommand (codes "." ∷ codes "int" ∷ codes "0|1" ∷ codes "--mode=subtype" ∷ [])
       (plain (codes ".") (Subtype (codes "int") (codes "0|1")))
@@ -31,10 +35,12 @@ pub record Cases : Type 0 where
   pub empty : AreNone []
   -- `. --mode=check --mode check`
   pub twice : AreNone (codes "." ∷ codes "--mode=check" ∷ codes "--mode" ∷ codes "check" ∷ [])
-  -- `. --mode pairs`
-  pub other_mode : AreNone (codes "." ∷ codes "--mode" ∷ codes "pairs" ∷ [])
+  -- `. --mode walk`
+  pub other_mode : AreNone (codes "." ∷ codes "--mode" ∷ codes "walk" ∷ [])
   -- `. a --mode check`
   pub word_in_check : AreNone (codes "." ∷ codes "a" ∷ codes "--mode" ∷ codes "check" ∷ [])
+  -- `. a --mode=code`
+  pub word_in_code : AreNone (codes "." ∷ codes "a" ∷ codes "--mode=code" ∷ [])
   -- `. --ticks=`
   pub no_digits : AreNone (codes "." ∷ codes "--ticks=" ∷ [])
   -- `. --ticks 99999999999999999999`

@@ -17,6 +17,8 @@ use Rattle.command_words.specs.Words.{Parts, Says}
 pub data Purpose : Type 0 where
   Run : List Text → Purpose
   Check : Purpose
+  Pairs : Purpose
+  Code : Purpose
   Subtype : List ℕ → List ℕ → Purpose
 
 pub record Request : Type 0 where
@@ -32,12 +34,16 @@ pub record Request : Type 0 where
 abbrev pub mode_word : Purpose → List ℕ
 mode_word (Run texts) = codes "run"
 mode_word Check = codes "check"
+mode_word Pairs = codes "pairs"
+mode_word Code = codes "code"
 mode_word (Subtype left right) = codes "subtype"
 
 -- the words behind the folder's one that it takes
 abbrev pub Takes : Purpose → List (List ℕ) → Type 0
 Takes (Run texts) words = texts ≡ map chars words
 Takes Check words = words ≡ []
+Takes Pairs words = words ≡ []
+Takes Code words = words ≡ []
 Takes (Subtype left right) words = words ≡ left ∷ right ∷ []
 
 -- a number of one to twenty decimal digits
@@ -86,6 +92,8 @@ NoCommand words = (request : Request) → ¬ (IsCommand words request)
 abbrev pub purpose_of : Mode → Purpose
 purpose_of (mode.Run words) = Run words
 purpose_of mode.Check = Check
+purpose_of mode.Pairs = Pairs
+purpose_of mode.Code = Code
 purpose_of (mode.Subtype left right) = Subtype left.now right.now
 
 -- the request that a command makes
@@ -96,4 +104,6 @@ request_of c = record { dir = c.dir.now; purpose = purpose_of c.mode; ticks = c.
 abbrev pub AreTexts : Purpose → Type 0
 AreTexts (Run texts) = All IsText texts
 AreTexts Check = ⊤
+AreTexts Pairs = ⊤
+AreTexts Code = ⊤
 AreTexts (Subtype left right) = ⊤

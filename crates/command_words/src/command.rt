@@ -45,6 +45,10 @@ pub enum Mode<'w> {
     Run { words: Row<Text> },
     /// The folder's program is checked.
     Check,
+    /// The pairs of the folder's program are told.
+    Pairs,
+    /// The code of the folder's program is told.
+    Code,
     /// A question: whether the left type is below the right one. Both are words of the command.
     Subtype { left: &'w str, right: &'w str },
 }

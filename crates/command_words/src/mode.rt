@@ -32,6 +32,8 @@ fn mode_named<'w>(alloc: Global, name: &str, words: &[&'w str]) -> Result<Option
     match name {
         "run" => Ok(Some(run(alloc, words)?)),
         "check" => Ok(check(words)),
+        "pairs" => Ok(pairs(words)),
+        "code" => Ok(code(words)),
         "subtype" => Ok(subtype(words)),
         _ => Ok(None),
     }
@@ -54,6 +56,28 @@ fn check<'w>(words: &[&'w str]) -> Option<Mode<'w>>
 {
     if words.is_empty() {
         return Some(Mode::Check);
+    }
+    None
+}
+
+/// The pairs of the folder's program are told, where there are no words.
+fn pairs<'w>(words: &[&'w str]) -> Option<Mode<'w>>
+    ensures named { IsNamedMode (codes "pairs") words.now result }
+    ensures texts { IfSome result (λ mode. AreTexts (purpose_of mode)) }
+{
+    if words.is_empty() {
+        return Some(Mode::Pairs);
+    }
+    None
+}
+
+/// The code of the folder's program is told, where there are no words.
+fn code<'w>(words: &[&'w str]) -> Option<Mode<'w>>
+    ensures named { IsNamedMode (codes "code") words.now result }
+    ensures texts { IfSome result (λ mode. AreTexts (purpose_of mode)) }
+{
+    if words.is_empty() {
+        return Some(Mode::Code);
     }
     None
 }

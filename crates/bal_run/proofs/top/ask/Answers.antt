@@ -1,6 +1,5 @@
 use Rattle.std.proofs.Common.{refl}
-use Rattle.bal_run.proofs.QuestionEnds.{ends-without, ends-written}
-use Rattle.bal_run.proofs.Texts.{load-can-report}
+use Rattle.bal_run.proofs.QuestionEnds.{ends-without, ends-written, unanswered-can-report}
 use Rattle.bal_run.proofs.top.ask.Goals as goal
 
 pub returns-in-Ok-clause-ended : goal.returns-in-Ok-clause-ended
@@ -9,7 +8,7 @@ returns-in-Ok-clause-ended g c = λ i j.
 
 pub returns-in-Err-clause-ended : goal.returns-in-Err-clause-ended
 returns-in-Err-clause-ended g c = λ i j.
-    ends-without c.args.s.now c.args.t.now _ _ c.load_status.result c.in-Err.stop c.in-Err.ensures.answers c.in-Err.ensures.faults c.load_status.ensures refl refl
+    ends-without c.args.s.now c.args.t.now _ _ c.unanswered_status.result c.in-Err.stop c.in-Err.ensures.answers c.in-Err.ensures.faults c.unanswered_status.ensures refl refl
 
 pub returns-in-Err-clause-text : goal.returns-in-Err-clause-text
-returns-in-Err-clause-text g c = load-can-report c.in-Err.stop c.load_status.result c.load_status.ensures
+returns-in-Err-clause-text g c = unanswered-can-report c.in-Err.stop c.unanswered_status.result c.unanswered_status.ensures

@@ -1,6 +1,6 @@
 use Rattle.std.proofs.Common.{refl, sym, ap, subst, inl}
 use Rattle.bal_run.specs.declared.top.Worked.{Worked}
-use Rattle.bal_run.specs.Report.{CanReport}
+use Rattle.status_texts.specs.Report.{CanReport}
 use Rattle.bal_run.proofs.TopFacts.{compiled-so, not-compiled, stop-can-report}
 use Rattle.bal_run.proofs.top.compile_and_run.Goals as goal
 

@@ -7,7 +7,13 @@ use Rattle.bal_run.proofs.TopFacts.{work-is}
 use Rattle.bal_run.proofs.top.obey.Goals as goal
 
 pub returns-in-Check-clause-due : goal.returns-in-Check-clause-due
-returns-in-Check-clause-due g c = obeyed-as _ command.Check _ _ _ _ _ _ _ (ap purpose_of c.in-Check.is) (c.compile_and_check.ensures.due c.args.command.now.ticks c.args.command.now.seed _)
+returns-in-Check-clause-due g c = obeyed-as _ command.Check _ _ _ _ _ _ _ (ap purpose_of c.in-Check.is) (c.compile_and_tell.ensures.due _)
+
+pub returns-in-Pairs-clause-due : goal.returns-in-Pairs-clause-due
+returns-in-Pairs-clause-due g c = obeyed-as _ command.Pairs _ _ _ _ _ _ _ (ap purpose_of c.in-Pairs.is) (c.compile_and_tell-in-Pairs.ensures.due _)
+
+pub returns-in-Code-clause-due : goal.returns-in-Code-clause-due
+returns-in-Code-clause-due g c = obeyed-as _ command.Code _ _ _ _ _ _ _ (ap purpose_of c.in-Code.is) (c.compile_and_tell-in-Code.ensures.due _)
 
 pub returns-in-Subtype-clause-due : goal.returns-in-Subtype-clause-due
 returns-in-Subtype-clause-due g c =

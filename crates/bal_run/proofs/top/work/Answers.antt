@@ -1,7 +1,7 @@
 use Rattle.std.proofs.Common.{refl, subst}
 use Rattle.std.specs.Prelude.{MatchOption}
 use Rattle.command_words.specs.Commands.{IsCommand, NoCommand, request_of}
-use Rattle.bal_run.specs.declared.status.Status.TheVariants.{Words}
+use Rattle.status_texts.specs.declared.status.Status.TheVariants.{Words}
 use Rattle.bal_run.proofs.CommandFacts.{none-good}
 use Rattle.bal_run.proofs.TopFacts.{bad-words, work-is}
 use Rattle.bal_run.proofs.top.work.Goals as goal

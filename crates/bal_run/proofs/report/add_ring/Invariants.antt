@@ -1,7 +1,0 @@
-use Rattle.std.proofs.Common.{take}
-use Rattle.text_forms.specs.Forms.{Adds, written}
-use Rattle.bal_run.specs.Status.{ring_text}
-use Rattle.bal_run.proofs.report.add_ring.Given as goal
-
-abbrev pub invariant-loop-i : goal.invariant-loop-i
-invariant-loop-i l = Adds (written l.initial.out) (ring_text (take l.i l.ring)) (written l.out)

@@ -1,8 +1,0 @@
-use Rattle.text_forms.proofs.Adding.{adds-first}
-use Rattle.bal_run.specs.Status.{stalled_text}
-use Rattle.bal_run.proofs.Texts.{bytes-written}
-use Rattle.bal_run.proofs.report.stalled_text.Goals as goal
-
-pub returns : goal.returns
-returns c =
-    bytes-written c.add_stalled.new.out (stalled_text c.args.ring.now) (adds-first c.new-out.result c.add_stalled.new.out (stalled_text c.args.ring.now) c.new-out.ensures.bytes c.in_ok-add_stalled.ensures)
