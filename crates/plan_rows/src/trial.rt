@@ -19,7 +19,7 @@ pub const BEFORE: &str = "import ballerina/io;\nfunction tried(boolean q) {";
 
 /// What stands behind the body.
 pub const BEHIND: &str =
-    "}\nfunction g() returns error? { }\nfunction fails() returns error? { return error(\"fails\"); }\nfunction one() returns int { return 1; }\nfunction f() returns int|error { return 1; }\nfuture<int|error>? me = ();\n";
+    "}\nfunction g() returns error? { }\nfunction fails() returns error? { return error(\"fails\"); }\nfunction one() returns int { return 1; }\nfunction f() returns int|error { return 1; }\nfuture<int|error>? me = ();\npublic function main() { }\n";
 
 /// As many events as a plan may have that is tested without memory too, which takes time that grows with their square.
 const FEW_EVENTS: usize = 512;

@@ -3,14 +3,14 @@ use Rattle.std.proofs.Common.{◌≡◌, List, Option, Some, Result, Ok, Err, St
 use Rattle.std.specs.Global.{Global}
 use Rattle.std.specs.Prelude.{IfOk, IfSome, IsSome, ◌↔◌, string_bytes}
 use Rattle.bal_io.specs.Held.{HeldFolder, HeldInput, HeldOutput}
-use Rattle.bal_tree.specs.declared.package.SourceFile.{SourceFile}
+use Rattle.bal_tree.specs.declared.package.Module.{Module}
 use Rattle.command_words.specs.Commands.{IsGood}
 use Rattle.bal_run.specs.Due.{StatusIsDue}
-use Rattle.bal_run.specs.Outside.{FolderTells, SinkTells, SourceTells, folder_tells, outside, source_tells}
-use Rattle.bal_run.specs.Report.{Reports}
+use Rattle.status_texts.specs.Outside.{FolderTells, SinkTells, SourceTells, folder_tells, outside, source_tells}
+use Rattle.status_texts.specs.Report.{Reports}
 use Rattle.bal_run.specs.Words.{IsOfFolder}
-use Rattle.bal_run.specs.declared.status.Run.{Run}
-use Rattle.bal_run.specs.declared.status.Status.{Status}
+use Rattle.status_texts.specs.declared.status.Run.{Run}
+use Rattle.status_texts.specs.declared.status.Status.{Status}
 use Rattle.run_cases.specs.Came.{IsAnswerTo, IsNamed, folder_told, nothing_told, sink_told, source_told}
 use Rattle.run_cases.specs.declared.case.Call.{Call}
 
@@ -22,7 +22,7 @@ pub answer-to : (call : Call) (words : List (String Global)) (before : FolderTel
     → source ≡ source_tells 0 (Some call.input.items)
     → out ≡ nothing_told
     → diag ≡ nothing_told
-    → (due : Status) × (shown : List SourceFile)
+    → (due : Status) × (shown : List Module)
     × StatusIsDue words (outside before source out) (outside (folder_told folder') (source_told input') (sink_told out')) run shown due
     × Reports shown due run.status diag (sink_told diag')
     → IsAnswerTo call run out' diag'

@@ -2,15 +2,15 @@
 use Rattle.std.specs.Prelude.{◌≡◌, ◌↔◌, [], List, Option, Some, IfSome, IsSome, String, string_bytes}
 use Rattle.std.specs.Global.{Global}
 use Rattle.bal_io.specs.Held.{HeldFolder, HeldInput, HeldOutput}
-use Rattle.bal_tree.specs.declared.package.SourceFile.{SourceFile}
+use Rattle.bal_tree.specs.declared.package.Module.{Module}
 use Rattle.command_words.specs.Commands.{IsGood}
 use Rattle.bal_run.specs.Due.{StatusIsDue}
-use Rattle.bal_run.specs.Outside.{FolderTells, SinkTells, SourceTells, folder_tells, outside, sink_tells, source_tells}
-use Rattle.bal_run.specs.Report.{Reports}
-use Rattle.bal_run.specs.Status.{exit_status}
+use Rattle.status_texts.specs.Outside.{FolderTells, SinkTells, SourceTells, folder_tells, outside, sink_tells, source_tells}
+use Rattle.status_texts.specs.Report.{Reports}
+use Rattle.status_texts.specs.Status.{exit_status}
 use Rattle.bal_run.specs.Words.{IsOfFolder}
-use Rattle.bal_run.specs.declared.status.Run.{Run}
-use Rattle.bal_run.specs.declared.status.Status.{Status}
+use Rattle.status_texts.specs.declared.status.Run.{Run}
+use Rattle.status_texts.specs.declared.status.Status.{Status}
 use Rattle.run_cases.specs.declared.came.Came.{Came}
 use Rattle.run_cases.specs.declared.case.Call.{Call}
 
@@ -42,7 +42,7 @@ nothing_told = sink_tells 0 (Some [])
 pub record IsAnswerTo (call : Call) (run : Run) (out diag : HeldOutput) : Type 0 where
   pub folder : HeldFolder
   pub input : HeldInput
-  pub shown : List SourceFile
+  pub shown : List Module
   pub due : Status
   pub cause :
       StatusIsDue call.words.items (outside (folder_tells 0 (Some call.files.items)) (source_tells 0 (Some call.input.items)) nothing_told)
